@@ -15,7 +15,8 @@ use Rattle.arc_memory.specs.declared.kept_places.KeptPlaces.{KeptPlaces}
 use Rattle.arc_memory.specs.declared.writer_memory.WriterMemory.{WriterMemory}
 use Rattle.arc_buffer.specs.Slice.{sub}
 use Rattle.arc_block.specs.Block.{full_places}
-use Rattle.arc_block.specs.Natives.{NativeView, IsKeptFor, IsLaidFor, native_over, native_view, native_taken, range_seen}
+use Rattle.arc_block.specs.Natives.{NativeView, IsKeptFor, IsLaidFor, native_over, native_view}
+use Rattle.arc_block.specs.Natives.{native_taken, range_seen}
 
 module _ {T A : Type 0} (drops : Bool) (range other : FrozenPlaces T) where
   same-kept : (kept : Kept T A) → IsSameRange range other → IsKeptFor drops range kept
@@ -70,7 +71,8 @@ module _ {T A : Type 0} (drops : Bool) (range : FrozenPlaces T) where
 
 module _ {T A : Type 0} (o : Owner) (range : FrozenPlaces T) (memory : WriterMemory T A)
     (start end : ℕ) where
-  counted-alike : (drops : Bool) → drops ≡ false → (m n : ℕ) → full_places drops m ≡ full_places drops n
+  counted-alike : (drops : Bool) → drops ≡ false → (m n : ℕ) → full_places drops m ≡ full_places
+      drops n
   counted-alike true is m n = absurd (false≢true (sym is))
   counted-alike false is m n = refl
 
@@ -78,7 +80,8 @@ module _ {T A : Type 0} (o : Owner) (range : FrozenPlaces T) (memory : WriterMem
   pub places_taken : (drops : Bool) → drops ≡ false → (kept : KeptPlaces T A)
       → kept.inheritance.memory ≡ range.memory
       → memory.places.vec.items ≡ sub range.items (start - range.start) (end - range.start)
-      → memory.places.under.whole ≡ kept.inheritance.memory.whole → memory.places.under.start ≡ start
+      → memory.places.under.whole ≡ kept.inheritance.memory.whole
+      → memory.places.under.start ≡ start
       → native_over drops o memory ≡ native_taken drops (range_seen drops o range) start end
   places_taken true is kept lent items size front = absurd (false≢true (sym is))
   places_taken false is kept lent items size front =
@@ -86,14 +89,17 @@ module _ {T A : Type 0} (o : Owner) (range : FrozenPlaces T) (memory : WriterMem
       let whole : memory.places.under.whole ≡ range.memory.whole =
       size ∙ ap (λ m. m.whole) lent in
       ap (λ xs. make xs memory.places.under.start memory.places.under.whole) items
-      ∙ ap (λ f. make (sub range.items (start - range.start) (end - range.start)) f memory.places.under.whole) front
+      ∙ ap (λ f. make (sub range.items (start - range.start) (end - range.start)) f
+      memory.places.under.whole) front
       ∙ ap (λ n. make (sub range.items (start - range.start) (end - range.start)) start n) whole
 
   -- Of one whose items are dropped one by one it has all.
   pub items_taken : (drops : Bool) → drops ≡ true → (kept : KeptItems T A)
-      → kept.kept.inheritance.memory ≡ range.memory → range.start ≡ 0 → kept.full.items ≡ range.items
+      → kept.kept.inheritance.memory ≡ range.memory → range.start ≡ 0
+      → kept.full.items ≡ range.items
       → memory.places.vec.items ≡ kept.full.items
-      → memory.places.under.whole ≡ kept.kept.inheritance.memory.whole → memory.places.under.start ≡ 0
+      → memory.places.under.whole ≡ kept.kept.inheritance.memory.whole
+      → memory.places.under.start ≡ 0
       → native_over drops o memory ≡ native_taken drops (range_seen drops o range) start end
   items_taken false is kept lent first full items size front = absurd (false≢true is)
   items_taken true is kept lent first full items size front =

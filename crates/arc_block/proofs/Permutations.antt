@@ -1,12 +1,19 @@
 -- Lists with the same elements in another order.
-use Rattle.std.proofs.Common.{inl, inr, ◌≡◌, ℕ, ◌+◌, ◌<◌, Bool, eqb, List, [], ◌∷◌, ◌++◌, length, Option, Some, None, filter, filter_map, slice_get, slice_set, refl, sym, ◌∙◌, ap, subst, arith, append-nil, append_assoc}
+use Rattle.std.proofs.Common.{inl, inr, ◌≡◌, ℕ, ◌+◌, ◌<◌, Bool, eqb, List, [], ◌∷◌, ◌++◌, length}
+use Rattle.std.proofs.Common.{Option, Some, None, filter, filter_map, slice_get, slice_set, refl}
+use Rattle.std.proofs.Common.{sym, ◌∙◌, ap, subst, arith, append-nil, append_assoc}
 use Rattle.std.specs.List.{cons_option}
 use Rattle.std.specs.List.Sorted.{IsPermutation}
 use Rattle.std.proofs.lemmas.Bool.{cases_Bool, eqb-true, eq-eqb}
 use Rattle.std.proofs.lemmas.List.{nil_from_length}
 use Rattle.std.proofs.lemmas.List.Elements.{filter_map-append}
 use Rattle.std.proofs.lemmas.List.Sums.{length-filter}
-use Rattle.std.proofs.lemmas.List.Sorted.{IsPermutation-refl, IsPermutation-sym, IsPermutation-trans, IsPermutation-cons, IsPermutation-middle, IsPermutation-to_front, IsPermutation-append_left, IsPermutation-append_right, IsPermutation-append_comm, length_permutation, sum_by-IsPermutation}
+use Rattle.std.proofs.lemmas.List.Sorted.{IsPermutation-refl, IsPermutation-sym}
+use Rattle.std.proofs.lemmas.List.Sorted.{IsPermutation-trans, IsPermutation-cons}
+use Rattle.std.proofs.lemmas.List.Sorted.{IsPermutation-middle, IsPermutation-to_front}
+use Rattle.std.proofs.lemmas.List.Sorted.{IsPermutation-append_left, IsPermutation-append_right}
+use Rattle.std.proofs.lemmas.List.Sorted.{IsPermutation-append_comm, length_permutation}
+use Rattle.std.proofs.lemmas.List.Sorted.{sum_by-IsPermutation}
 use Rattle.arc_owners.specs.history.Machine.{without_number}
 use Rattle.arc_owners.proofs.Numbers.{times, times-append, filter-filter}
 use Rattle.arc_block.proofs.Lists.{around}
@@ -22,23 +29,30 @@ module _ {X : Type 0} where
   then-permuted {zs = zs} same p = subst (λ l. IsPermutation l zs) (sym same) p
 
   -- as many pass a test
-  filtered-permuted : (p : X → Bool) {xs ys : List X} → IsPermutation xs ys → length (filter p xs) ≡ length (filter p ys)
-  filtered-permuted p {xs = xs} {ys = ys} same = length-filter p xs ∙ sym (sum_by-IsPermutation _ xs ys same) ∙ sym (length-filter p ys)
+  filtered-permuted : (p : X → Bool) {xs ys : List X} → IsPermutation xs ys
+      → length (filter p xs) ≡ length (filter p ys)
+  filtered-permuted p {xs = xs} {ys = ys} same =
+      length-filter p xs ∙ sym (sum_by-IsPermutation _ xs ys same) ∙ sym (length-filter p ys)
 
   pub nil-permuted : {xs : List X} → IsPermutation xs [] → xs ≡ []
   nil-permuted {xs = xs} p = nil_from_length xs (sym (length_permutation xs [] p))
 
   -- what is made of one element goes to the end
-  to_end : (xs ys : List X) (o : Option X) → IsPermutation (xs ++ cons_option o ys) ((xs ++ ys) ++ cons_option o [])
+  to_end : (xs ys : List X) (o : Option X) → IsPermutation (xs ++ cons_option o ys)
+      ((xs ++ ys) ++ cons_option o [])
   to_end xs ys None = permuted-same (sym (append-nil (xs ++ ys)))
-  to_end xs ys (Some z) = IsPermutation-trans _ _ _ (IsPermutation-middle xs z ys) (IsPermutation-sym _ _ (IsPermutation-to_front (xs ++ ys) z))
+  to_end xs ys (Some z) = IsPermutation-trans _ _ _ (IsPermutation-middle xs z ys)
+      (IsPermutation-sym _ _ (IsPermutation-to_front (xs ++ ys) z))
 
   ends-turned : (xs us vs : List X) → IsPermutation ((xs ++ us) ++ vs) ((xs ++ vs) ++ us)
   ends-turned xs us vs =
-      then-permuted (append_assoc xs us vs) (permuted-then (IsPermutation-append_right xs (us ++ vs) (vs ++ us) (IsPermutation-append_comm us vs)) (sym (append_assoc xs vs us)))
+      then-permuted (append_assoc xs us vs)
+      (permuted-then (IsPermutation-append_right xs (us ++ vs) (vs ++ us)
+      (IsPermutation-append_comm us vs)) (sym (append_assoc xs vs us)))
 
 -- the last element and one before it, each in the other's place
-pub filter_map-turned : {X Y : Type 0} (f : X → Option Y) (xs : List X) (i : ℕ) (x y : X) → slice_get xs i ≡ Some x
+pub filter_map-turned : {X Y : Type 0} (f : X → Option Y) (xs : List X) (i : ℕ) (x y : X)
+    → slice_get xs i ≡ Some x
     → IsPermutation (filter_map f (xs ++ y ∷ [])) (filter_map f (slice_set xs i y ++ x ∷ []))
 filter_map-turned {Y = Y} f xs i x y here =
     let a = around xs i x here in
@@ -47,12 +61,15 @@ filter_map-turned {Y = Y} f xs i x y here =
     let us : List Y = cons_option (f x) [] in
     let vs : List Y = cons_option (f y) [] in
     let before : filter_map f (xs ++ y ∷ []) ≡ (fs ++ cons_option (f x) rs) ++ vs =
-    filter_map-append f xs (y ∷ []) ∙ ap (λ l. l ++ vs) (ap (filter_map f) a.whole ∙ filter_map-append f a.front (x ∷ a.rest)) in
+    filter_map-append f xs (y ∷ []) ∙ ap (λ l. l ++ vs) (ap (filter_map f) a.whole
+    ∙ filter_map-append f a.front (x ∷ a.rest)) in
     let after : filter_map f (slice_set xs i y ++ x ∷ []) ≡ (fs ++ cons_option (f y) rs) ++ us =
-    filter_map-append f (slice_set xs i y) (x ∷ []) ∙ ap (λ l. l ++ us) (ap (filter_map f) (a.set y) ∙ filter_map-append f a.front (y ∷ a.rest)) in
+    filter_map-append f (slice_set xs i y) (x ∷ []) ∙ ap (λ l. l ++ us) (ap (filter_map f) (a.set y)
+    ∙ filter_map-append f a.front (y ∷ a.rest)) in
     then-permuted before (permuted-then
     (IsPermutation-trans _ _ _ (IsPermutation-append_left vs _ _ (to_end fs rs (f x)))
-    (IsPermutation-trans _ _ _ (ends-turned (fs ++ rs) us vs) (IsPermutation-append_left us _ _ (IsPermutation-sym _ _ (to_end fs rs (f y))))))
+    (IsPermutation-trans _ _ _ (ends-turned (fs ++ rs) us vs)
+    (IsPermutation-append_left us _ _ (IsPermutation-sym _ _ (to_end fs rs (f y))))))
     (sym after))
 
 -- a number stands as often
@@ -68,7 +85,8 @@ times-nil : (n : ℕ) → times n [] ≡ 0
 unfolding times
 times-nil n = refl
 
-split-at : (n : ℕ) (xs : List ℕ) → 0 < times n xs → (front : List ℕ) × (rest : List ℕ) × (xs ≡ front ++ n ∷ rest)
+split-at : (n : ℕ) (xs : List ℕ) → 0 < times n xs → (front : List ℕ) × (rest : List ℕ)
+    × (xs ≡ front ++ n ∷ rest)
 unfolding times
 split-at n [] some = absurd (omega (arith, some))
 split-at n (x ∷ xs) some = elim (cases_Bool (eqb x n)) [
@@ -83,18 +101,23 @@ permuted-times [] (y ∷ ys) same = absurd (omega (arith, same y, times-nil y, t
 permuted-times (x ∷ xs) ys same =
     let s = split-at x ys (omega (arith, same x, times-first x xs)) in
     let left = permuted-times xs (s.0 ++ s.1) (λ n.
-    let whole : times n ys ≡ times n s.0 + times n (x ∷ s.1) = ap (times n) s.2 ∙ times-append n s.0 (x ∷ s.1) in
+    let whole : times n ys ≡ times n s.0 + times n (x ∷ s.1) = ap (times n) s.2
+    ∙ times-append n s.0 (x ∷ s.1) in
     let rest : times n (x ∷ s.1) ≡ times n (x ∷ []) + times n s.1 = times-append n (x ∷ []) s.1 in
     let first : times n (x ∷ xs) ≡ times n (x ∷ []) + times n xs = times-append n (x ∷ []) xs in
     let both : times n (s.0 ++ s.1) ≡ times n s.0 + times n s.1 = times-append n s.0 s.1 in
     omega (arith, same n)) in
-    permuted-then (IsPermutation-trans _ _ _ (IsPermutation-cons x _ _ left) (IsPermutation-sym _ _ (IsPermutation-middle s.0 x s.1))) (sym s.2)
+    permuted-then (IsPermutation-trans _ _ _ (IsPermutation-cons x _ _ left)
+    (IsPermutation-sym _ _ (IsPermutation-middle s.0 x s.1))) (sym s.2)
 
 -- what a test keeps of each
-filter-permuted : (p : ℕ → Bool) {xs ys : List ℕ} → IsPermutation xs ys → IsPermutation (filter p xs) (filter p ys)
+filter-permuted : (p : ℕ → Bool) {xs ys : List ℕ} → IsPermutation xs ys
+    → IsPermutation (filter p xs) (filter p ys)
 unfolding times
 filter-permuted p {xs = xs} {ys = ys} same = permuted-times (filter p xs) (filter p ys)
-    (λ n. ap length (filter-filter p (λ x. eqb x n) xs) ∙ filtered-permuted _ same ∙ sym (ap length (filter-filter p (λ x. eqb x n) ys)))
+    (λ n. ap length (filter-filter p (λ x. eqb x n) xs) ∙ filtered-permuted _ same
+    ∙ sym (ap length (filter-filter p (λ x. eqb x n) ys)))
 
-pub without-permuted : (n : ℕ) {xs ys : List ℕ} → IsPermutation xs ys → IsPermutation (without_number n xs) (without_number n ys)
+pub without-permuted : (n : ℕ) {xs ys : List ℕ} → IsPermutation xs ys
+    → IsPermutation (without_number n xs) (without_number n ys)
 without-permuted n same = filter-permuted _ same

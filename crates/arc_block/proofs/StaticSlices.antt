@@ -1,5 +1,5 @@
--- What is lent for good is had for any lifetime, and a place without items is lent for good. Assumes
--- `Logic`.
+-- What is lent for good is had for any lifetime, and a place without items is lent for good.
+-- Assumes `Logic`.
 use Rattle.std.proofs.Common.{◌≡◌, List, [], ◌∷◌, refl, sym, subst}
 use seplogic.Ra.Ura.{Ura}
 use mir.Val.{Val, vstruct, vcons, vnil}

@@ -1,6 +1,6 @@
 -- Native blocks: items in memory of our own, which is lent for the lease of the block's owners.
-use Rattle.std.specs.Prelude.{◌≡◌, ℕ, ◌+◌, ◌-◌, ◌≤◌, Bool, true, false, if◌then◌else◌, Option, None, List}
-use Rattle.std.specs.Prelude.{length}
+use Rattle.std.specs.Prelude.{◌≡◌, ℕ, ◌+◌, ◌-◌, ◌≤◌, Bool, true, false, if◌then◌else◌, Option, None}
+use Rattle.std.specs.Prelude.{List, length}
 use denote.RawPtr.{Ptr}
 use Rattle.arc_owners.specs.declared.mark.Mark.{Ghosts}
 use Rattle.arc_owners.specs.count.Calls.{Owner}
@@ -29,7 +29,8 @@ module _ {T : Type 0} where
   abbrev pub native_info : {M : Type 0} → NativeView T → BlockInfo M
   native_info b = record { sort = native; size = b.size; full = b.full; metadata = None }
 
-  -- items from the place `first` on, in a block of so many places, none of which is full behind them
+  -- items from the place `first` on, in a block of so many places, none of which is full behind
+  -- them
   abbrev pub native_view : (drops : Bool) → Owner → List T → (first size : ℕ) → NativeView T
   native_view drops owner items first size = record {
     owner = owner;
@@ -73,8 +74,8 @@ module _ {T A : Type 0} where
       (drops ≡ true) × (kept.kept.inheritance.memory ≡ range.memory) × (range.start ≡ 0)
       × (kept.full.items ≡ range.items)
 
-  -- What the block keeps lies at this place, in the room for a header of this size that its piece of
-  -- memory has.
+  -- What the block keeps lies at this place, in the room for a header of this size that its piece
+  -- of memory has.
   abbrev pub IsLaidFor : (place : Ptr) (head : ℕ × ℕ) → Kept T A → Type 0
   IsLaidFor place head kept = (place ≡ (kept_in kept).piece.right.place)
       × (head ≡ (kept_in kept).piece.right.head)

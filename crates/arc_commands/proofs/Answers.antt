@@ -223,7 +223,8 @@ module _ {T M : Type 0} (setting : Setting T) (short : Shortage) (places : ℕ) 
         place = on_block (Some t.blocks) 0 info;
         role = reader;
       } in
-      either_each (places == 0) (made_row setting.layout.has_static setting.drops t.blocks items) row
+      either_each (places == 0) (made_row setting.layout.has_static setting.drops t.blocks items)
+      row
       (list_each items)
       (founded_each short refl row (each.founds items reader false info refl
       (vector-fits setting.drops t.blocks items places within)))
@@ -243,10 +244,12 @@ module _ {T M : Type 0} (setting : Setting T) (short : Shortage) (places : ℕ) 
       if_each setting.calls.copies (made_row setting.layout.has_static setting.drops t.blocks items)
       (list_each items)
   made_each (Small items) e =
-      let row = small_row (inline_limit setting.layout) setting.layout.has_static setting.drops t.blocks items in
+      let row = small_row (inline_limit setting.layout) setting.layout.has_static setting.drops
+      t.blocks items in
       if_each setting.calls.small row (small_each (inline_limit setting.layout) items)
   made_each (Vec items) e =
-      if_each setting.layout.has_any (vector_row setting.layout.has_static setting.drops t.blocks items places)
+      if_each setting.layout.has_any (vector_row setting.layout.has_static setting.drops t.blocks
+      items places)
       (vector_each items (subst (λ d. count_brought d ≤ places) (sym e) enough))
   made_each (Static items) e =
       if_each setting.layout.has_static (static_row items)

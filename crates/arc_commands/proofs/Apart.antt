@@ -134,7 +134,8 @@ module _ {T M : Type 0} where
   turned : (one other : Row T M) → ShareNone one other → ShareNone other one
   turned one other none n a b = none n b a
 
-  apart-set : (rows : List (Option (Row T M))) (k : ℕ) (new : Row T M) → Apart rows → Beside rows k new
+  apart-set : (rows : List (Option (Row T M))) (k : ℕ) (new : Row T M) → Apart rows
+      → Beside rows k new
       → Apart (slice_set rows k (Some new))
   apart-set rows k new apart beside i j block one other at second differ writes on there =
       elim (set-cases rows k i (Some one) (Some new) at) [
@@ -219,7 +220,8 @@ module _ {T M : Type 0} where
               let whole = keeps.places shares (fit i row at) n mine in
               elim writes [
                 | inl writing ↦
-                    apart i j block row other here second (λ e. differ (sym e)) (keeps.writes writing)
+                    apart i j block row other here second (λ e. differ (sym e))
+                    (keeps.writes writing)
                     on-too beside n whole its
                 | inr writing ↦
                     apart j i block other row second here differ writing beside on-too n its whole
@@ -385,7 +387,8 @@ module _ {T M : Type 0} where
               let whole : Row T M =
               record { items = items; place = on_block (Some t.blocks) 0 info; role = role } in
               splits d (moved-to t i whole) (begins t agree i items role false info)
-              (each-set (RowFits d) t.rows i (Some whole) fit (this (RowFits d) whole (fits (fit i row at))))
+              (each-set (RowFits d) t.rows i (Some whole) fit
+              (this (RowFits d) whole (fits (fit i row at))))
               (begun-apart t agree fit apart i items role false info) i whole kept made
               (put-there t i (t.blocks + 1) row whole at) parts;
           joins = λ i j row other differ at second one two same can.

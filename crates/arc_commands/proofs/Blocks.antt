@@ -1,8 +1,7 @@
 -- Rows that stand on one block agree about it, and each step keeps that.
-use Rattle.std.proofs.Common.{inl, inr, ◌≡◌, ◌⊎◌, ℕ, ◌+◌, ◌<◌, ◌≤◌, Bool, true, false, if◌then◌else◌}
-use Rattle.std.proofs.Common.{List, length, is_some}
-use Rattle.std.proofs.Common.{[], ◌∷◌, ◌++◌, Option, Some, None, slice_get, slice_set, refl}
-use Rattle.std.proofs.Common.{sym, ap, ◌∙◌, subst, arith}
+use Rattle.std.proofs.Common.{inl, inr, ◌≡◌, ◌⊎◌, ℕ, ◌+◌, ◌<◌, ◌≤◌, Bool, true, false}
+use Rattle.std.proofs.Common.{if◌then◌else◌, List, length, is_some, [], ◌∷◌, ◌++◌, Option, Some}
+use Rattle.std.proofs.Common.{None, slice_get, slice_set, refl, sym, ap, ◌∙◌, subst, arith}
 use Rattle.std.specs.Option.{option_flatten}
 use Rattle.std.proofs.lemmas.Option.{none-some, same_Some}
 use Rattle.std.proofs.lemmas.Bool.{false≢true, and_parts}
@@ -49,7 +48,8 @@ module _ {T M : Type 0} where
       → OfRow P x → P row.place
   of-row P x row is p = subst (OfRow P) is p
 
-  each-push : (P : Place (Option ℕ) M → Type 0) (rows : List (Option (Row T M))) (x : Option (Row T M))
+  each-push : (P : Place (Option ℕ) M → Type 0) (rows : List (Option (Row T M)))
+      (x : Option (Row T M))
       → Each P rows → OfRow P x → Each P (rows ++ x ∷ [])
   each-push P rows x each new i row at = elim (push-cases rows i (Some row) x at) [
     | inl old ↦ each i row old
@@ -147,7 +147,8 @@ module _ {T M : Type 0} where
         | inl old ↦ elim (set-cases rows k j (Some other) (Some new) second) [
           | inl also ↦ alone i j block one other old.1 also.1 writes on beside
           | inr set ↦
-              let was = stays block (subst (OnBlock block) (sym (same-row new other set.1)) beside) in
+              let was = stays block (subst (OnBlock block) (sym (same-row new other set.1)) beside)
+              in
               sym set.0 ∙ alone i k block one row old.1 here writes on was
         ]
         | inr end ↦
@@ -221,7 +222,8 @@ module _ {T M : Type 0} where
     said-part i row part at stays =
         said-stays row.place part.place stays (said-there i row at row.place refl)
 
-    said-new : (made : BlockInfo M) (place : Place (Option ℕ) M) → IsSaid place → IsSaidOrNew made place
+    said-new : (made : BlockInfo M) (place : Place (Option ℕ) M) → IsSaid place
+        → IsSaidOrNew made place
     said-new made nowhere said = tt
     said-new made static_data said = tt
     said-new made (on_block None offset info) said = tt
@@ -406,7 +408,11 @@ module _ {T M : Type 0} where
 
       writes : (setting : Setting T) (places i : ℕ) (row : Row T M) → row_at t i ≡ Some row
           → may_write setting (around_of places t row) row ≡ true → RowsAgree
-          (record { rows = slice_set t.rows i (Some (as_sole setting.drops row)); blocks = t.blocks })
+          (record {
+            rows = slice_set t.rows i (Some (as_sole setting.drops row));
+            blocks =
+                t.blocks;
+          })
       writes setting places i row at may =
           let new = as_sole setting.drops row in
           agree-after (record { rows = slice_set t.rows i (Some new); blocks = t.blocks })

@@ -242,7 +242,8 @@ module _ {T M : Type 0} (drops : Bool) where
         kept = f.kept;
         places =
             subst (λ n. HasSharedPlaces (moved by row.place) n) (sym places)
-            (among-moved row.place by (capacity_of row.role) (omega (arith, less, f.room)) f.places);
+            (among-moved row.place by (capacity_of row.role) (omega (arith, less, f.room))
+            f.places);
         room = omega (arith, long, places, less, f.room);
       }
 
@@ -432,7 +433,8 @@ truncate-fits true row n less f =
           (subst (λ b. LieWithin true b row.place (length row.items))
           (sole-small row.role (sole-before row.role n sole)) f.within) less
           (f.writer (sole-before row.role n sole))));
-      shared = λ several. absurd (false≢true (sym (f.shared (several-before row.role n several)).kept));
+      shared = λ several. absurd
+          (false≢true (sym (f.shared (several-before row.role n several)).kept));
     }
 truncate-fits false row n less f =
     let long : length (take n row.items) ≡ n = length-take-le n row.items (omega (arith, less)) in
@@ -471,7 +473,8 @@ module _ {T M : Type 0} (setting : Setting T) (row : Row T M) (reads : is_writer
       let nothing = setting.layout.has_static && (length items == 0) in
       reads-fit setting.drops (part_of setting.layout.has_static row start end) reads
       (within-if setting.drops (is_small row.role) nothing (moved start row.place) (length items)
-      (λ none. eqb-true (length items) 0 (and_parts setting.layout.has_static (length items == 0) none).1)
+      (λ none. eqb-true (length items) 0 (and_parts setting.layout.has_static (length items == 0)
+      none).1)
       (lies start end ordered within))
 
   pub cut-fits : (start end : ℕ) → start ≤ end → end ≤ length row.items
@@ -487,11 +490,14 @@ module _ {T M : Type 0} (setting : Setting T) (row : Row T M) (reads : is_writer
   pub off-fits : (at : ℕ) → at ≤ length row.items
       → RowFits setting.drops (off_part setting.layout.has_static row at)
   off-fits at within =
-      one-fits (at == 0) (part_of setting.layout.has_static row 0 0) (part_of setting.layout.has_static row at (length row.items))
+      one-fits (at == 0) (part_of setting.layout.has_static row 0 0)
+      (part_of setting.layout.has_static row at (length row.items))
       (part-fits 0 0 (omega arith) (omega arith))
       (part-fits at (length row.items) within (omega arith))
 
-  pub to-fits : (at : ℕ) → at ≤ length row.items → RowFits setting.drops (to_part setting.layout.has_static row at)
+  pub to-fits : (at : ℕ) → at ≤ length row.items
+      → RowFits setting.drops (to_part setting.layout.has_static row at)
   to-fits at within =
-      one-fits (at == length row.items) (part_of setting.layout.has_static row at at) (part_of setting.layout.has_static row 0 at)
+      one-fits (at == length row.items) (part_of setting.layout.has_static row at at)
+      (part_of setting.layout.has_static row 0 at)
       (part-fits at at (omega arith) within) (part-fits 0 at (omega arith) within)

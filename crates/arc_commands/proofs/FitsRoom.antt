@@ -1,11 +1,12 @@
 -- A writer that has got room, and items behind its others, still lies within its block and has the
 -- places that are behind it.
-use Rattle.std.proofs.Common.{inl, inr, ◌≡◌, ℕ, ◌+◌, ◌-◌, ◌≤◌, ◌<◌, ◌==◌, ◌&&◌, not, Bool}
-use Rattle.std.proofs.Common.{true, false, if◌then◌else◌, List, [], ◌++◌, length, Option, Some, None}
+use Rattle.std.proofs.Common.{inl, inr, ◌≡◌, ℕ, ◌+◌, ◌-◌, ◌≤◌, ◌<◌, ◌==◌, ◌&&◌, not, Bool, true}
+use Rattle.std.proofs.Common.{false, if◌then◌else◌, List, [], ◌++◌, length, Option, Some, None}
 use Rattle.std.proofs.Common.{is_some, refl, sym, ap, ◌∙◌, subst, arith}
 use Rattle.std.specs.Prelude.{nat_lt, max, ◌*◌, ◌^◌}
 use Rattle.std.specs.Option.{option_map, option_map_or}
-use Rattle.std.proofs.lemmas.Bool.{false≢true, not-true, not-false, ltb-true, ltb-false, eq-eqb, eqb-true, and_parts}
+use Rattle.std.proofs.lemmas.Bool.{false≢true, not-true, not-false, ltb-true, ltb-false, eq-eqb}
+use Rattle.std.proofs.lemmas.Bool.{eqb-true, and_parts}
 use Rattle.std.proofs.lemmas.List.{length-append}
 use Rattle.arc_owners.specs.declared.error.TryReserveError.{TryReserveError}
 use Rattle.arc_owners.specs.declared.error.TryReserveError.TheVariants.{AllocError, Unsupported}
@@ -197,11 +198,13 @@ module _ {T M : Type 0} (drops : Bool) (first size : ℕ) (old more : List T) (k
   row-at place places = record { items = old; place = place; role = sole_writer places }
 
   -- the row, of which is known how long it is
-  fit : (place : Place (Option ℕ) M) (places : ℕ) → LieWithin drops false place ((length old) + (length more))
+  fit : (place : Place (Option ℕ) M) (places : ℕ)
+      → LieWithin drops false place ((length old) + (length more))
       → HasPlaces drops place ((length old) + (length more)) places
       → RowFits drops (record { items = old ++ more; place = place; role = sole_writer places })
   fit place places within has =
-      let long : (length old) + (length more) ≡ length (old ++ more) = sym (length-append old more) in
+      let long : (length old) + (length more) ≡ length (old ++ more) = sym (length-append old more)
+      in
       record {
         within = subst (λ l. LieWithin drops false place l) long within;
         writer = λ sole. subst (λ l. HasPlaces drops place l places) long has;
@@ -216,7 +219,8 @@ module _ {T M : Type 0} (drops : Bool) (first size : ℕ) (old more : List T) (k
         (subst (RowFits drops) (sym (more_none (row-at place places))) f)
 
   spare-more : (place : Place (Option ℕ) M) (places : ℕ) → RowFits drops (row-at place places)
-      → nat_lt (places - (length old)) k ≡ false → 1 ≤ (length more) → RowFits drops (with_more more (row-at place places))
+      → nat_lt (places - (length old)) k ≡ false → 1 ≤ (length more)
+      → RowFits drops (with_more more (row-at place places))
   spare-more nowhere places f spare some =
       let less : k ≤ places - (length old) = ltb-false (places - (length old)) k spare in
       let none : places ≡ 0 = f.writer refl in
@@ -231,7 +235,8 @@ module _ {T M : Type 0} (drops : Bool) (first size : ℕ) (old more : List T) (k
 
   -- the places of the row are enough
   spare-fits : (place : Place (Option ℕ) M) (places : ℕ) → RowFits drops (row-at place places)
-      → nat_lt (places - (length old)) k ≡ false → RowFits drops (with_more more (row-at place places))
+      → nat_lt (places - (length old)) k ≡ false
+      → RowFits drops (with_more more (row-at place places))
   spare-fits place places f spare = elim (none-or-some (length more)) [
     | inl none ↦ unwritten place places f (none-of more none)
     | inr some ↦ spare-more place places f spare some
@@ -252,7 +257,8 @@ module _ {T M : Type 0} (drops : Bool) (first size : ℕ) (old more : List T) (k
         (length more) info.size f.within.0
         (omega (arith, less, enough, f.within.1, f.within.2)) (omega (arith, f.within.1))
         f.within.2 tells.0 in
-        fit (with_full (length old) (length more) (on_block block offset info)) (info.size - offset) all.0 all.1
+        fit (with_full (length old) (length more) (on_block block offset info)) (info.size - offset)
+        all.0 all.1
 
     front-fits : Tells drops size info offset (length old) k Front
         → RowFits drops (with_more more (with_room Front here))
@@ -264,7 +270,8 @@ module _ {T M : Type 0} (drops : Bool) (first size : ℕ) (old more : List T) (k
         (λ owned. absurd (false≢true (sym tells.0 ∙ owned))) in
         let whole : info.size - 0 ≡ info.size = omega arith in
         fit (with_full (length old) (length more) (on_block block 0 info)) info.size all.0
-        (subst (λ c. HasPlaces drops (with_full (length old) (length more) (on_block block 0 info)) ((length old) + (length more)) c) whole all.1)
+        (subst (λ c. HasPlaces drops (with_full (length old) (length more) (on_block block 0 info))
+        ((length old) + (length more)) c) whole all.1)
 
     growth-fits : (made : ℕ) → Tells drops size info offset (length old) k (Growth made)
         → RowFits drops (with_more more (with_room (Growth made) here))
@@ -275,7 +282,8 @@ module _ {T M : Type 0} (drops : Bool) (first size : ℕ) (old more : List T) (k
         let all =
         block-fits drops info.sort info.full info.metadata block offset (length old)
         (length more) made f.within.0 (omega (arith, tells.1, enough)) ends.0 ends.1 tells.0 in
-        fit (with_full (length old) (length more) (on_block block offset (record info { size = made }))) (made - offset)
+        fit (with_full (length old) (length more)
+        (on_block block offset (record info { size = made }))) (made - offset)
         all.0 all.1
 
     in-block : (r : Room) → Tells drops size info offset (length old) k r → IsMade r
@@ -289,7 +297,8 @@ module _ {T M : Type 0} (drops : Bool) (first size : ℕ) (old more : List T) (k
     in-block (Refused e) tells made = absurd made
 
   -- whichever room it has
-  row-fits : (place : Place (Option ℕ) M) (places : ℕ) → RowFits drops (row-at place places) → (b : Bool)
+  row-fits : (place : Place (Option ℕ) M) (places : ℕ) → RowFits drops (row-at place places)
+      → (b : Bool)
       → nat_lt (places - (length old)) k ≡ b
       → IsMade (if not b then Spare else room_at drops first size place (length old) k)
       → RowFits drops (with_more more (with_room (if not b then Spare else
@@ -317,7 +326,8 @@ room-fits {T} {M} drops first size row more k enough sole f made =
 module _ {T M : Type 0} (drops : Bool) (first size : ℕ) (old more : List T) (k j made : ℕ)
     (enough : length more ≤ k) where
   own-at : (place : Place (Option ℕ) M) (places : ℕ)
-      → RowFits drops (record { items = old; place = place; role = sole_writer places }) → (b : Bool)
+      → RowFits drops (record { items = old; place = place; role = sole_writer places })
+      → (b : Bool)
       → (if b then Spare else room_at drops first size place (length old) k) ≡ Own j
       → offset_at place + length old + j ≤ made
       → RowFits drops (with_more more (with_room (Growth made)
@@ -366,7 +376,8 @@ tells-enough drops size info offset len k (Growth places) tells = tt
 tells-enough drops size info offset len k (Own additional) tells = tt
 tells-enough drops size info offset len k (Refused e) tells = tt
 
-enough-at : {M : Type 0} (drops : Bool) (first size : ℕ) (place : Place (Option ℕ) M) (len k : ℕ) (b : Bool)
+enough-at : {M : Type 0} (drops : Bool) (first size : ℕ) (place : Place (Option ℕ) M) (len k : ℕ)
+    (b : Bool)
     → IsEnough k (if b then Spare else room_at drops first size place len k)
 enough-at drops first size place len k true = tt
 enough-at drops first size nowhere len k false = omega arith
@@ -416,7 +427,8 @@ module _ {M : Type 0} (drops : Bool) (size : ℕ) (info : BlockInfo M) (offset l
   ample-first true = λ same. absurd (cc)
   ample-first false = ample-second _
 
-ample-at : {M : Type 0} (drops : Bool) (first size : ℕ) (place : Place (Option ℕ) M) (len k : ℕ) (b : Bool)
+ample-at : {M : Type 0} (drops : Bool) (first size : ℕ) (place : Place (Option ℕ) M) (len k : ℕ)
+    (b : Bool)
     → IsAmple (if b then Spare else room_at drops first size place len k)
 ample-at drops first size place len k true = tt
 ample-at drops first size nowhere len k false = tt

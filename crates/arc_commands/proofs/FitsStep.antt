@@ -55,16 +55,20 @@ module _ {T M : Type 0} (setting : Setting T) where
       let d = setting.drops in
       answer_each setting short places t c enough (λ reply new. RowsFit d new) (record {
         same = λ reply tells. fit;
-        founds = λ items role nothing info one fits. each-push (RowFits d) t.rows _ fit (this (RowFits d) _ fits);
-        apart = λ row reads none fits. each-push (RowFits d) t.rows _ fit (this (RowFits d) row fits);
+        founds = λ items role nothing info one fits. each-push (RowFits d) t.rows _ fit
+            (this (RowFits d) _ fits);
+        apart = λ row reads none fits. each-push (RowFits d) t.rows _ fit
+            (this (RowFits d) row fits);
         splits = λ i row kept made at parts.
             each-push (RowFits d) (slice_set t.rows i (Some kept)) _
-            (each-set (RowFits d) t.rows i (Some kept) fit (this (RowFits d) kept (parts.keeps.fits (fit i row at))))
+            (each-set (RowFits d) t.rows i (Some kept) fit
+            (this (RowFits d) kept (parts.keeps.fits (fit i row at))))
             (this (RowFits d) made (parts.also.fits (fit i row at)));
         becomes = λ i row part at is fits.
             each-set (RowFits d) t.rows i _ fit (this (RowFits d) part (fits.fits (fit i row at)));
         writes = λ i row at may.
-            each-set (RowFits d) t.rows i _ fit (this (RowFits d) (as_sole d row) (sole-fits d row (fit i row at)));
+            each-set (RowFits d) t.rows i _ fit
+            (this (RowFits d) (as_sole d row) (sole-fits d row (fit i row at)));
         refits = λ i row new r tells at lone may put fits.
             each-set (RowFits d) t.rows i _ fit (this (RowFits d) new (fits (fit i row at)));
         begins = λ i row items role nothing info at may fits.
@@ -75,8 +79,10 @@ module _ {T M : Type 0} (setting : Setting T) where
             let w = fits (fit i row at) in
             let rows = slice_set t.rows i (Some whole) in
             each-push (RowFits d) (slice_set rows i (Some kept)) (Some made)
-            (each-set (RowFits d) rows i (Some kept) (each-set (RowFits d) t.rows i (Some whole) fit (this (RowFits d) whole w))
-            (this (RowFits d) kept (parts.keeps.fits w))) (this (RowFits d) made (parts.also.fits w));
+            (each-set (RowFits d) rows i (Some kept) (each-set (RowFits d) t.rows i (Some whole) fit
+            (this (RowFits d) whole w))
+            (this (RowFits d) kept (parts.keeps.fits w)))
+            (this (RowFits d) made (parts.also.fits w));
         joins = λ i j row other apart at beside one two there can.
             each-set (RowFits d) (slice_set t.rows j None) i _
             (each-set (RowFits d) t.rows j None fit (λ row none. absurd (none-some row none)))

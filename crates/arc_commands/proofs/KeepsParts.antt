@@ -14,7 +14,8 @@ use Rattle.arc_parts.specs.Writers.{capacity_of, with_capacity, after_advance, a
 use Rattle.arc_commands.specs.Apart.{CoversAt, role_places}
 use Rattle.arc_commands.specs.Blocks.{is_several, is_sole, is_writer}
 use Rattle.arc_commands.specs.Changes.{Setting, part_of, cut_row, off_part, to_part, truncated}
-use Rattle.arc_commands.proofs.Fits.{advance-fits, as-reader-fits, truncate-fits, part-fits, cut-fits}
+use Rattle.arc_commands.proofs.Fits.{advance-fits, as-reader-fits, truncate-fits, part-fits}
+use Rattle.arc_commands.proofs.Fits.{cut-fits}
 use Rattle.arc_parts.specs.Shared.{extended, front_of}
 use Rattle.arc_commands.specs.Fits.{RowFits}
 use Rattle.arc_commands.proofs.Among.{back-fits, extended-fits, front-fits}
@@ -63,7 +64,8 @@ fewer forgotten few len less = less
 
 -- of a role that is no writer's
 fewer-cut : (role : Role) (few len places : ℕ) → few ≤ len → is_sole role ≡ false
-    → (is_several role ≡ true → ⊥) → role_places (with_capacity role places) few ≤ role_places role len
+    → (is_several role ≡ true → ⊥) → role_places (with_capacity role places) few ≤ role_places role
+    len
 fewer-cut reader few len places less sole several = less
 fewer-cut (sole_writer before) few len places less sole several =
     absurd (false≢true (sym sole))
@@ -73,7 +75,8 @@ fewer-cut forgotten few len places less sole several = less
 
 further : (role : Role) (by len : ℕ) → by ≤ len → is_sole role ≡ false
     → (is_several role ≡ true → len ≤ capacity_of role)
-    → by + role_places (with_capacity role (capacity_of role - by)) (len - by) ≤ role_places role len
+    → by + role_places (with_capacity role (capacity_of role - by)) (len - by) ≤ role_places role
+    len
 further reader by len less sole room = omega (arith, less)
 further (sole_writer places) by len less sole room = absurd (false≢true (sym sole))
 further (one_writer_of_several places) by len less sole room = omega (arith, less, room refl)
@@ -110,7 +113,8 @@ truncate-part true row n less = record {
       let long : length (take n row.items) ≡ n = length-take-le n row.items (omega (arith, less)) in
       covers-less row.place (role_places (with_capacity row.role n) (length (take n row.items)))
       (role_places row.role (length row.items)) m
-      (fewer-cut row.role (length (take n row.items)) (length row.items) n (omega (arith, long, less))
+      (fewer-cut row.role (length (take n row.items)) (length row.items) n
+      (omega (arith, long, less))
       sole (λ several. false≢true (sym (f.shared several).kept))) covers;
 }
 truncate-part false row n less = record {
@@ -253,7 +257,8 @@ module _ {T M : Type 0} (setting : Setting T) (row : Row T M) (reads : is_writer
       fits = λ f. part-fits setting row reads f start end ordered within;
       writes = λ writes. writes;
       places = λ sole f n covers.
-          covers-if (setting.layout.has_static && (length (sub row.items start end) == 0)) row.place start
+          covers-if (setting.layout.has_static && (length (sub row.items start end) == 0)) row.place
+          start
           (role_places row.role (length (sub row.items start end)))
           (role_places row.role (length row.items)) n (behind start end ordered within) covers;
     }

@@ -7,41 +7,54 @@ use Rattle.std.proofs.Common.{◌∙◌, subst, arith}
 use Rattle.std.specs.Option.{option_flatten}
 use Rattle.std.proofs.lemmas.Bool.{cases_eq, false≢true}
 use Rattle.std.specs.Result.{is_err, OnOk, OnErr}
-use Rattle.std.proofs.lemmas.Option.{none-some, same_Some, slice_get_cases, slice_get_read, slice_get_within}
+use Rattle.std.proofs.lemmas.Option.{none-some, same_Some, slice_get_cases, slice_get_read}
+use Rattle.std.proofs.lemmas.Option.{slice_get_within}
 use Rattle.arc_block.proofs.Lists.{get-set_other}
 
 -- a list that is the same as one that is the same as another has the same elements
-pub slice_in : {X : Type 0} (read kept xs : List X) (i : ℕ) (x : X) → read ≡ kept → kept ≡ xs → slice_get read i ≡ Some x → slice_get xs i ≡ Some x
+pub slice_in : {X : Type 0} (read kept xs : List X) (i : ℕ) (x : X) → read ≡ kept → kept ≡ xs
+    → slice_get read i ≡ Some x → slice_get xs i ≡ Some x
 slice_in read kept xs i x one two here = ap (λ ys. slice_get ys i) (sym (one ∙ two)) ∙ here
 
 -- what is read at a place that is there stands there
-pub read-there : {X : Type 0} (xs : List X) (i : ℕ) (x y : X) → slice_get xs i ≡ Some y → x ≡ slice_index_or xs i x → slice_get xs i ≡ Some x
-read-there xs i x y here read = slice_get_read xs (length xs) i x refl (slice_get_within xs i y here) read
+pub read-there : {X : Type 0} (xs : List X) (i : ℕ) (x y : X) → slice_get xs i ≡ Some y
+    → x ≡ slice_index_or xs i x → slice_get xs i ≡ Some x
+read-there xs i x y here read =
+    slice_get_read xs (length xs) i x refl (slice_get_within xs i y here) read
 
 -- the same place shows one window
-pub same_entry : {X : Type 0} (xs : List (Option X)) (i : ℕ) (x y : X) → slice_get xs i ≡ Some (Some x) → slice_get xs i ≡ Some (Some y) → x ≡ y
+pub same_entry : {X : Type 0} (xs : List (Option X)) (i : ℕ) (x y : X)
+    → slice_get xs i ≡ Some (Some x) → slice_get xs i ≡ Some (Some y) → x ≡ y
 same_entry xs i x y one two = same_Some x y (same_Some (Some x) (Some y) (sym one ∙ two))
 
 -- one element more, behind the same ones
-pub behind : {X : Type 0} {after read : List X} (xs : List X) (x : X) → after ≡ read ++ x ∷ [] → read ≡ xs → after ≡ xs ++ x ∷ []
+pub behind : {X : Type 0} {after read : List X} (xs : List X) (x : X) → after ≡ read ++ x ∷ []
+    → read ≡ xs → after ≡ xs ++ x ∷ []
 behind xs x one same = one ∙ ap (λ ys. ys ++ x ∷ []) same
 
-cleared : {X : Type 0} (xs : List (Option X)) (i : ℕ) → option_flatten (slice_get (slice_set xs i None) i) ≡ None
+cleared : {X : Type 0} (xs : List (Option X)) (i : ℕ)
+    → option_flatten (slice_get (slice_set xs i None) i) ≡ None
 cleared [] i = refl
 cleared (x ∷ xs) zero = refl
 cleared (x ∷ xs) (suc i) = cleared xs i
 
 -- one row more is gone
-pub gone-below : {X : Type 0} (xs ys : List (Option X)) (i : ℕ) → ys ≡ slice_set xs i None → ((j : ℕ) → j < i → option_flatten (slice_get xs j) ≡ None) → (j : ℕ) → j < i + 1 → option_flatten (slice_get ys j) ≡ None
+pub gone-below : {X : Type 0} (xs ys : List (Option X)) (i : ℕ) → ys ≡ slice_set xs i None
+    → ((j : ℕ) → j < i → option_flatten (slice_get xs j) ≡ None) → (j : ℕ) → j < i + 1
+    → option_flatten (slice_get ys j) ≡ None
 gone-below xs ys i set below j within =
     ap (λ zs. option_flatten (slice_get zs j)) set
     ∙ elim (cases_eq i j) [
-      | inl e ↦ subst (λ k. option_flatten (slice_get (slice_set xs i None) k) ≡ None) e (cleared xs i)
-      | inr apart ↦ ap option_flatten (get-set_other xs i j None apart) ∙ below j (omega (arith, within, λ (e : j ≡ i). apart (sym e)))
+      | inl e ↦ subst (λ k. option_flatten (slice_get (slice_set xs i None) k) ≡ None) e
+          (cleared xs i)
+      | inr apart ↦ ap option_flatten (get-set_other xs i j None apart)
+          ∙ below j (omega (arith, within, λ (e : j ≡ i). apart (sym e)))
     ]
 
 -- all are gone
-pub all-gone : {X : Type 0} (xs : List (Option X)) (n : ℕ) → length xs ≤ n → ((j : ℕ) → j < n → option_flatten (slice_get xs j) ≡ None) → (j : ℕ) → option_flatten (slice_get xs j) ≡ None
+pub all-gone : {X : Type 0} (xs : List (Option X)) (n : ℕ) → length xs ≤ n
+    → ((j : ℕ) → j < n → option_flatten (slice_get xs j) ≡ None) → (j : ℕ)
+    → option_flatten (slice_get xs j) ≡ None
 all-gone xs n long below j =
     elim (slice_get_cases xs j).1 [
       | inl there ↦ below j (omega (arith, long, there.1))
@@ -69,12 +82,14 @@ none-or-some zero = inl refl
 none-or-some (suc n) = inr (omega arith)
 
 -- an element that is there, and one that is put where it stands
-pub there : {X : Type 0} (x : Option (Option X)) (y : X) → option_flatten x ≡ Some y → x ≡ Some (Some y)
+pub there : {X : Type 0} (x : Option (Option X)) (y : X) → option_flatten x ≡ Some y
+    → x ≡ Some (Some y)
 there None y is = absurd (none-some y is)
 there (Some None) y is = absurd (none-some y is)
 there (Some (Some z)) y is = ap Some is
 
-pub set-there : {X : Type 0} (xs : List X) (i : ℕ) (x : X) → slice_get xs i ≡ Some x → slice_set xs i x ≡ xs
+pub set-there : {X : Type 0} (xs : List X) (i : ℕ) (x : X) → slice_get xs i ≡ Some x
+    → slice_set xs i x ≡ xs
 set-there [] i x at = refl
 set-there (y ∷ xs) zero x at = ap (λ z. z ∷ xs) (sym (same_Some y x at))
 set-there (y ∷ xs) (suc i) x at = ap (λ zs. y ∷ zs) (set-there xs i x at)

@@ -577,7 +577,8 @@ module _ {T M : Type 0} (setting : Setting T) (short : Shortage) (around : Aroun
           let whole = on_native setting.drops (Some around.blocks) row in
           each.moves row.items row.role
           (memory_info native setting.drops (capacity_of row.role) (length row.items)) (keeps whole)
-          (makes whole) (λ still. inl several) (native-fits setting.drops row several around.blocks) moved
+          (makes whole) (λ still. inl several) (native-fits setting.drops row several around.blocks)
+          moved
 
       away_each : (s : Shortage) → s ≡ short
           → Holds (moved_parts setting s around keeps makes row)
@@ -659,7 +660,8 @@ module _ {T M : Type 0} (setting : Setting T) (short : Shortage) (around : Aroun
   shared_each sole shares told =
       either-is (can_share setting.drops row.place) (is_now reply.Ok (as_shared row))
       (is_now reply.Refused row)
-      (λ can. each.refits (as_shared row) reply.Ok (inl refl) (inl sole) (λ several. inr shares) refl
+      (λ can. each.refits (as_shared row) reply.Ok (inl refl) (inl sole) (λ several. inr shares)
+      refl
       (shared-fits setting.drops row sole can)) (same reply.Refused (inl told))
 
   unique_each : is_several row.role ≡ true → shortage reply.Refused this ≡ no_shortage

@@ -68,7 +68,8 @@ part-itself drops row = record {
   places = λ shares f n covers. covers;
 }
 
-pub writes-with : (role : Role) (places : ℕ) → is_writer (with_capacity role places) ≡ is_writer role
+pub writes-with : (role : Role) (places : ℕ) → is_writer (with_capacity role places) ≡ is_writer
+    role
 writes-with reader places = refl
 writes-with (sole_writer before) places = refl
 writes-with (one_writer_of_several before) places = refl

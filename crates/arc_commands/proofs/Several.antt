@@ -116,13 +116,18 @@ module _ {T M : Type 0} where
 
   joined-at : (items more : List T) (here there : Place (Option ℕ) M) (few many : ℕ)
       → ends_at few here there ≡ true
-      → let one : Row T M = record { items = items; place = here; role = one_writer_of_several few } in
+      → let one : Row T M = record { items = items; place = here; role = one_writer_of_several few }
+      in
       let other : Row T M =
       record { items = more; place = there; role = one_writer_of_several many } in
       IsParted (joined_row one other) one other
   joined-at items more here there few many ends = record {
     apart = λ n. neighbours-apart here there few many n ends;
-    all = λ n. (either-neighbour here there few many n ends, neighbour-covers here there few many n ends);
+    all = λ n. (
+      either-neighbour here there few many n ends,
+      neighbour-covers here there few many n
+          ends,
+    );
   }
 
   pub joined_parted : (row other : Row T M) → is_several row.role ≡ true
@@ -130,7 +135,8 @@ module _ {T M : Type 0} where
       → IsParted (joined_row row other) row other
   joined_parted row other several also can =
       several_each (λ role. let r : Row T M = record row { role = role } in
-      ends_at (capacity_of role) row.place other.place ≡ true → IsParted (joined_row r other) r other)
+      ends_at (capacity_of role) row.place other.place ≡ true → IsParted (joined_row r other) r
+      other)
       (λ few ends. several_each (λ role. let o : Row T M = record other { role = role } in
       let r : Row T M = record row { role = one_writer_of_several few } in
       IsParted (joined_row r o) r o)

@@ -151,10 +151,12 @@ module _ {T M : Type 0} where
         → is_for_several c ≡ true → IsKind t (answer setting short places t c)
     answer-kind short places t (command.Share i) is =
         row-kind short places t (command.Share i) i
-        (λ role. off setting.calls.shares (is_for {T = T} {M = M} (command.Share i) role) none) (row_at t i) refl
+        (λ role. off setting.calls.shares (is_for {T = T} {M = M} (command.Share i) role) none)
+        (row_at t i) refl
     answer-kind short places t (command.Unique i) is =
         row-kind short places t (command.Unique i) i
-        (λ role. off setting.calls.shares (is_for {T = T} {M = M} (command.Unique i) role) none) (row_at t i) refl
+        (λ role. off setting.calls.shares (is_for {T = T} {M = M} (command.Unique i) role) none)
+        (row_at t i) refl
     answer-kind short places t (command.Join i j) is =
         pair-kind t i j (row_at t i) (row_at t j)
     answer-kind short places t other is = absurd (false≢true is)

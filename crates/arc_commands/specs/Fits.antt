@@ -26,7 +26,8 @@ module _ {M : Type 0} where
   abbrev pub LieWithin : (drops small : Bool) → Place (Option ℕ) M → ℕ → Type 0
   LieWithin drops small nowhere len = small ≡ false → len ≡ 0
   LieWithin drops small static_data len = Unit {0}
-  LieWithin drops small (on_block block offset info) len = (is_some info.full ≡ counts_full drops info.sort)
+  LieWithin drops small (on_block block offset info) len =
+      (is_some info.full ≡ counts_full drops info.sort)
       × (offset + len ≤ full_end info) × (full_end info ≤ info.size)
 
   -- The places of a sole writer of so many items end in his block: behind his items, or where these

@@ -201,7 +201,8 @@ row_by setting places block (Slice items) =
     else None
 row_by setting places block (Small items) =
     if setting.calls.small then
-    Some (small_row (inline_limit setting.layout) setting.layout.has_static setting.drops block items)
+    Some (small_row (inline_limit setting.layout) setting.layout.has_static setting.drops block
+    items)
     else None
 row_by setting places block (Vec items) =
     if setting.layout.has_any then

@@ -177,6 +177,20 @@ fn push_ok<A: Allocator>(out: &mut Vec<u8, A>) -> Result<(), AllocError>
     Ok(())
 }
 
+/// Appends that it is so, and a line feed, or nothing where memory for that is refused.
+#[inline(always)]
+fn push_yes<A: Allocator>(out: &mut Vec<u8, A>) -> Result<(), AllocError>
+    ensures ok { OnOk result (out.new.items ≡ out.old.items ++ codes "yes\n") }
+    ensures err { OnErr result (out.new.items ≡ out.old.items) }
+{
+    out.reserve(4)?;
+    out.push_reserved(b'y');
+    out.push_reserved(b'e');
+    out.push_reserved(b's');
+    out.push_reserved(b'\n');
+    Ok(())
+}
+
 /// Appends items as a word, and a line feed, or nothing where memory for them is refused.
 fn push_items_line<A: Allocator>(out: &mut Vec<u8, A>, items: &[u8]) -> Result<(), AllocError>
     ensures ok { OnOk result
@@ -257,7 +271,7 @@ pub fn push_answer<A: Allocator, X: AsSlice<u8>>(
 {
     match reply {
         Reply::Ok => push_ok(out),
-        Reply::Yes => push_whole(out, b"yes\n"),
+        Reply::Yes => push_yes(out),
         Reply::No => push_whole(out, b"no\n"),
         Reply::New(number) => push_window_line(out, *number),
         Reply::Items(items) => push_items_line(out, items.as_slice()),

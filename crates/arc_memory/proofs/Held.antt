@@ -6,7 +6,8 @@ use mir.Val.{Val}
 use base.Logic.{fst∗, never}
 use base.Fml.{Fml}
 use types.Logic.{Logic, sem}
-use types.Kit.{Goal, Step, step, Seq, Item, ‵, ◌$◌, drop, use0, rewrite, fsplit, fjoin, flt_l, flt_i}
+use types.Kit.{Goal, Step, step, Seq, Item, ‵, ◌$◌, drop, use0, rewrite, fsplit, fjoin, flt_l}
+use types.Kit.{flt_i}
 use denote.RattleType.{RattleType}
 use denote.RawPtr.{Ptr, block_ptr, null_ptr, in_a_block, room_for}
 use Rattle.core.specs.Allocator.{array_of}
@@ -24,13 +25,23 @@ module _ (E : El) where
   abbrev lying : Ptr → Row.Denot → Fml
   lying p d = side_by_side (R E) (place_at (R E) p d.start) d.count d.items
 
-module _ (E : El) {M : Type 1} {𝓤 : Ura M} {𝓛 : Logic 𝓤} {K : Type 0} {Γ : List (Item 𝓤)} {G : Goal 𝓤 𝓛.H} where
-  pub places_out : K → (d : (Row E).Denot) (vs : List Val) → ((b o : ℕ) → d.base ≡ block_ptr b o → d.whole * sz E < 2 ^ 63 → Seq K 𝓛 (‵ (Side E 𝓛 b (o + d.start * sz E) d.count d.items) ∷ Γ) G)
+module _ (E : El) {M : Type 1} {𝓤 : Ura M} {𝓛 : Logic 𝓤} {K : Type 0} {Γ : List (Item 𝓤)}
+    {G : Goal 𝓤 𝓛.H} where
+  pub places_out : K → (d : (Row E).Denot) (vs : List Val)
+      → ((b o : ℕ) → d.base ≡ block_ptr b o → d.whole * sz E < 2 ^ 63
+      → Seq K 𝓛 (‵ (Side E 𝓛 b (o + d.start * sz E) d.count d.items) ∷ Γ) G)
       → Seq K 𝓛 (‵ ((Row E).own_val d vs) ∷ Γ) G
   places_out t d vs k = fsplit t $ drop t $ fsplit t $ flt_l t (λ small.
-      in_a_block t d.base (λ p. lying E p d) (fst∗ 𝓤 (never 𝓤) (sem 𝓛 (room_for (array_of (R E) (d.count - length d.items)) null_ptr))) (λ b o at_b. k b o at_b small))
+      in_a_block t d.base (λ p. lying E p d)
+      (fst∗ 𝓤 (never 𝓤) (sem 𝓛 (room_for (array_of (R E) (d.count - length d.items)) null_ptr)))
+      (λ b o at_b. k b o at_b small))
 
-  pub places_in : K → (d : (Row E).Denot) (b o : ℕ) → d.base ≡ block_ptr b o → d.whole * sz E < 2 ^ 63
-      → Step K 𝓛 (‵ ((Row E).own_val d (token ∷ [])) ∷ Γ) G (‵ (Side E 𝓛 b (o + d.start * sz E) d.count d.items) ∷ Γ) G
-  places_in t d b o at_b small = step (λ s. rewrite t 0 (λ (p : Ptr). ‵ (lying E p d)) (sym at_b) refl $ flt_i t (d.whole * type_size (R E)) (2 ^ 63) small $ fjoin t $
-      use0 𝓛 (‵ ((Token (R E)).own_val (record {}, tt) (token ∷ []))) (token_made (R E) 𝓛) $ fjoin t $ s)
+  pub places_in : K → (d : (Row E).Denot) (b o : ℕ) → d.base ≡ block_ptr b o
+      → d.whole * sz E < 2 ^ 63
+      → Step K 𝓛 (‵ ((Row E).own_val d (token ∷ [])) ∷ Γ) G
+      (‵ (Side E 𝓛 b (o + d.start * sz E) d.count d.items) ∷ Γ) G
+  places_in t d b o at_b small =
+      step (λ s. rewrite t 0 (λ (p : Ptr). ‵ (lying E p d)) (sym at_b) refl $
+      flt_i t (d.whole * type_size (R E)) (2 ^ 63) small $ fjoin t $
+      use0 𝓛 (‵ ((Token (R E)).own_val (record {}, tt) (token ∷ []))) (token_made (R E) 𝓛) $
+      fjoin t $ s)

@@ -1,7 +1,8 @@
 -- What lent places own, at the place where they begin. Assumes `Logic`.
 --     there_out, there_in      it is taken out, and put back
 --     padded      names for all places before a number, which name nothing
-use Rattle.std.proofs.Common.{◌≡◌, ℕ, zero, suc, ◌+◌, ◌*◌, ◌^◌, ◌<◌, List, ◌∷◌, length, drop, refl, sym, arith}
+use Rattle.std.proofs.Common.{◌≡◌, ℕ, zero, suc, ◌+◌, ◌*◌, ◌^◌, ◌<◌, List, ◌∷◌, length, drop, refl}
+use Rattle.std.proofs.Common.{sym, arith}
 use seplogic.Ra.Ura.{Ura}
 use base.Logic.{never, id⊢}
 use base.Fml.{GName, Fml}
@@ -25,11 +26,19 @@ pub padded_off : (n : ℕ) (gs : List GName) → drop n (padded n gs) ≡ gs
 padded_off zero gs = refl
 padded_off (suc n) gs = padded_off n gs
 
-module _ (E : El) {M : Type 1} {𝓤 : Ura M} {𝓛 : Logic 𝓤} {K : Type 0} {Γ : List (Item 𝓤)} {G : Goal 𝓤 𝓛.H} where
-  pub there_out : K → (m : LentMemory) (start : ℕ) (F : ℕ → ℕ → Fml) → ((b o : ℕ) → m.base ≡ block_ptr b o → m.whole * sz E < 2 ^ 63 → Seq K 𝓛 (‵ (F b (o + start * sz E)) ∷ Γ) G)
+module _ (E : El) {M : Type 1} {𝓤 : Ura M} {𝓛 : Logic 𝓤} {K : Type 0} {Γ : List (Item 𝓤)}
+    {G : Goal 𝓤 𝓛.H} where
+  pub there_out : K → (m : LentMemory) (start : ℕ) (F : ℕ → ℕ → Fml)
+      → ((b o : ℕ) → m.base ≡ block_ptr b o → m.whole * sz E < 2 ^ 63
+      → Seq K 𝓛 (‵ (F b (o + start * sz E)) ∷ Γ) G)
       → Seq K 𝓛 (‵ (there (R E) m start F) ∷ Γ) G
-  there_out t m start F k = fsplit t $ flt_l t (λ small. in_a_block t m.base (λ p. in_memory (place_at (R E) p start) F) (id⊢ 𝓤 (never 𝓤)) (λ b o at_b. k b o at_b small))
+  there_out t m start F k = fsplit t $
+      flt_l t (λ small. in_a_block t m.base (λ p. in_memory (place_at (R E) p start) F)
+      (id⊢ 𝓤 (never 𝓤)) (λ b o at_b. k b o at_b small))
 
-  pub there_in : K → (m : LentMemory) (start : ℕ) (F : ℕ → ℕ → Fml) (b o : ℕ) → m.base ≡ block_ptr b o → m.whole * sz E < 2 ^ 63
+  pub there_in : K → (m : LentMemory) (start : ℕ) (F : ℕ → ℕ → Fml) (b o : ℕ)
+      → m.base ≡ block_ptr b o → m.whole * sz E < 2 ^ 63
       → Step K 𝓛 (‵ (there (R E) m start F) ∷ Γ) G (‵ (F b (o + start * sz E)) ∷ Γ) G
-  there_in t m start F b o at_b small = step (λ s. rewrite t 0 (λ (p : Ptr). ‵ (in_memory (place_at (R E) p start) F)) (sym at_b) refl $ flt_i t (m.whole * type_size (R E)) (2 ^ 63) small $ fjoin t $ s)
+  there_in t m start F b o at_b small =
+      step (λ s. rewrite t 0 (λ (p : Ptr). ‵ (in_memory (place_at (R E) p start) F)) (sym at_b)
+      refl $ flt_i t (m.whole * type_size (R E)) (2 ^ 63) small $ fjoin t $ s)

@@ -10,7 +10,8 @@ use Rattle.arc_memory.specs.declared.frozen_places.FrozenPlaces.{FrozenPlaces}
 module _ {V A H : Type 0} {MAX : ℕ} {G : Ghosts H} where
   -- the same owner of the same value in the same place
   abbrev pub IsSameOwner : CountedBox V A MAX H G → CountedBox V A MAX H G → Type 0
-  IsSameOwner p q = (owner_in q ≡ owner_in p) × (value_of q ≡ value_of p) × (place_in q ≡ place_in p)
+  IsSameOwner p q =
+      (owner_in q ≡ owner_in p) × (value_of q ≡ value_of p) × (place_in q ≡ place_in p)
 
   -- the same, as the only one
   abbrev pub IsSoleAgain : CountedBox V A MAX H G → SoleBox V A MAX H G → Type 0

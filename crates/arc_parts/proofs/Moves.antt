@@ -1,12 +1,14 @@
 -- Where parts go under another layout.
-use Rattle.std.proofs.Common.{◌≡◌, Bool, true, false, not, ◌&&◌, if◌then◌else◌, Option, Some, None, refl, ap}
+use Rattle.std.proofs.Common.{◌≡◌, Bool, true, false, not, ◌&&◌, if◌then◌else◌, Option, Some, None}
+use Rattle.std.proofs.Common.{refl, ap}
 use Rattle.std.proofs.lemmas.Bool.{false≢true}
 use Rattle.arc_block.specs.Block.{Sort, native, vector, buffer, raw}
 use Rattle.arc_block.specs.Layouts.{LayoutFacts, holds_block}
 use Rattle.arc_block.specs.Moves.{counted_move, layout_move}
 use Rattle.arc_block.specs.Place.{Place, nowhere, static_data, on_block, IsOnBlock}
 use Rattle.arc_parts.specs.Window.{IsBlockHeld}
-use Rattle.arc_block.specs.declared.layout.Move.TheVariants.{Stays, HandedBack, NewCount, LeavesCount}
+use Rattle.arc_block.specs.declared.layout.Move.TheVariants.{Stays, HandedBack, NewCount}
+use Rattle.arc_block.specs.declared.layout.Move.TheVariants.{LeavesCount}
 
 raw-stays : (itself any : Bool) → (any && not itself) ≡ true
     → (if itself then LeavesCount else if any then Stays else HandedBack) ≡ Stays

@@ -1,6 +1,6 @@
 -- What a window's parts are seen as over a native block, whose places they count by their numbers.
-use Rattle.std.proofs.Common.{◌≡◌, ℕ, ◌+◌, ◌-◌, ◌≤◌, ◌==◌, ◌&&◌, Bool, true, false, if◌then◌else◌, List, length}
-use Rattle.std.proofs.Common.{Option, Some, refl, sym, ap, ◌∙◌, subst, arith}
+use Rattle.std.proofs.Common.{◌≡◌, ℕ, ◌+◌, ◌-◌, ◌≤◌, ◌==◌, ◌&&◌, Bool, true, false, if◌then◌else◌}
+use Rattle.std.proofs.Common.{List, length, Option, Some, refl, sym, ap, ◌∙◌, subst, arith}
 use Rattle.arc_owners.specs.history.Histories.{Counted}
 use Rattle.arc_owners.specs.declared.count.tokens.Pass.{Pass}
 use Rattle.arc_owners.specs.count.Calls.{Owner, IsFirst, MakesAnother, Asks}
@@ -13,8 +13,8 @@ use Rattle.arc_block.specs.Natives.{NativeView, native_info, native_over, native
 use Rattle.arc_block.specs.Place.{Place, nowhere, on_block, part_place, at_owner}
 use Rattle.arc_block.specs.Table.{reader}
 use Rattle.arc_parts.specs.declared.storage.Storage.TheVariants.{Native}
-use Rattle.arc_parts.specs.Window.{Window, PartsView, StandsBy, parts_of, window_of, made_window, window_seen}
-use Rattle.arc_parts.specs.Window.{IsWithin, IsNativeOf, IsWholeOf}
+use Rattle.arc_parts.specs.Window.{Window, PartsView, StandsBy, parts_of, window_of, made_window}
+use Rattle.arc_parts.specs.Window.{window_seen, IsWithin, IsNativeOf, IsWholeOf}
 use Rattle.arc_parts.specs.Steps.{Shares, Makes, RefusesArray}
 use Rattle.arc_parts.proofs.Windows.{part-of-part}
 
@@ -65,7 +65,8 @@ module _ {T M : Type 0} (inner : StandsBy T M) (from to : ℕ) (p : PartsView T 
         (omega (arith, t)) ∙ omega (arith, f, o) in
         let long : length (sub all start end) ≡ end - start =
         length-sub all start end ordered (omega (arith, inside, between, whole)) in
-        let there : Place (Option Owner) M = on_block (Some b.owner) (from + start) (native_info b) in
+        let there : Place (Option Owner) M = on_block (Some b.owner) (from + start) (native_info b)
+        in
         let P : PartsView T M → Type 0 = λ v.
         parts_of (window_seen (Native b) (from + start) (from + end)) ≡ record {
           items = sub v.items start end;

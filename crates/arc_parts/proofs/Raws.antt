@@ -1,6 +1,6 @@
 -- Parts that stand on an `Arc` that is a block by itself.
-use Rattle.std.proofs.Common.{◌≡◌, ℕ, ◌+◌, ◌-◌, ◌≤◌, ◌==◌, ◌&&◌, Bool, false, if◌then◌else◌, List, length}
-use Rattle.std.proofs.Common.{Option, Some, None, refl, sym, ap, ◌∙◌, subst, arith}
+use Rattle.std.proofs.Common.{◌≡◌, ℕ, ◌+◌, ◌-◌, ◌≤◌, ◌==◌, ◌&&◌, Bool, false, if◌then◌else◌, List}
+use Rattle.std.proofs.Common.{length, Option, Some, None, refl, sym, ap, ◌∙◌, subst, arith}
 use Rattle.std.proofs.lemmas.Option.{same_Some}
 use Rattle.arc_owners.specs.declared.count.tokens.Pass.{Pass}
 use Rattle.arc_owners.specs.declared.error.OwnerError.TheVariants.{AllocError}
@@ -11,7 +11,8 @@ use Rattle.arc_block.specs.Block.{Sort, BlockView, raw, raw_info, raw_block}
 use Rattle.arc_block.specs.Layouts.{LayoutFacts}
 use Rattle.arc_block.specs.Place.{Place, nowhere, on_block, part_place, owned_by}
 use Rattle.arc_parts.specs.declared.storage.Storage.TheVariants.{Block, Raw}
-use Rattle.arc_parts.specs.Window.{PartsView, StandsBy, parts_of, window_seen, IsWithin, IsHeld, IsAllFull, IsRawWhole}
+use Rattle.arc_parts.specs.Window.{PartsView, StandsBy, parts_of, window_seen, IsWithin, IsHeld}
+use Rattle.arc_parts.specs.Window.{IsAllFull, IsRawWhole}
 use Rattle.arc_parts.specs.Steps.{Refuses}
 
 module _ {T M : Type 0} (inner : StandsBy T M) (from to : ℕ) (p : PartsView T M) (all : List T)
@@ -38,10 +39,12 @@ module _ {T M : Type 0} (inner : StandsBy T M) (from to : ℕ) (p : PartsView T 
         ∙ ap (λ (v : PartsView T M). sub v.items start end) (sym on_raw_seen)
 
     -- where the `Arc` refuses to be cloned, the layout's clones want memory
-    pub raw_refuses : {H : Type 0} (has_static : Bool) → (has_static && ((end - start) == 0)) ≡ false
+    pub raw_refuses : {H : Type 0} (has_static : Bool)
+        → (has_static && ((end - start) == 0)) ≡ false
         → (layout : LayoutFacts) → IsHeld layout p.place → (wants : Sort → Bool)
         → wants raw ≡ layout.by_itself → (old : Pass H)
-        → Refuses wants (part_place has_static (sub p.items start end) start p.place) old old AllocError
+        → Refuses wants (part_place has_static (sub p.items start end) start p.place) old old
+        AllocError
     raw_refuses has_static kept layout held wants told old =
         let long : length (sub p.items start end) ≡ end - start =
         length-sub p.items start end ordered inside in
@@ -51,7 +54,7 @@ module _ {T M : Type 0} (inner : StandsBy T M) (from to : ℕ) (p : PartsView T 
         (ap (λ b. if b then nowhere else there)
         (sym (ap (λ n. has_static && (n == 0)) long ∙ kept))
         ∙ ap (λ (v : PartsView T M). part_place has_static (sub p.items start end) start v.place)
-        (sym on_raw_seen)) (told ∙ itself, refl)
+        (sym on_raw_seen)) (refl, told ∙ itself, refl)
 
   -- as many items as the buffer has are all of it
   pub raw_whole_is_all : IsRawWhole p.items p.place → all ≡ p.items

@@ -1,5 +1,7 @@
 -- What a window's parts are seen as: over a block, and cut.
-use Rattle.std.proofs.Common.{Fits, Fits-le, ◌≡◌, ℕ, ◌+◌, ◌-◌, ◌≤◌, ◌==◌, ◌&&◌, Bool, true, false, if◌then◌else◌, List, [], ◌∷◌, length, Option, Some, None, refl, sym, ap, ◌∙◌, subst, arith}
+use Rattle.std.proofs.Common.{Fits, Fits-le, ◌≡◌, ℕ, ◌+◌, ◌-◌, ◌≤◌, ◌==◌, ◌&&◌, Bool, true, false}
+use Rattle.std.proofs.Common.{if◌then◌else◌, List, [], ◌∷◌, length, Option, Some, None, refl, sym}
+use Rattle.std.proofs.Common.{ap, ◌∙◌, subst, arith}
 use mir.Syntax.{w64}
 use Rattle.std.proofs.lemmas.Bool.{eqb-true, false≢true}
 use Rattle.std.proofs.lemmas.List.{nil_from_length}
@@ -10,17 +12,21 @@ use Rattle.arc_buffer.specs.Slice.{sub}
 use Rattle.arc_buffer.proofs.Sub.{sub-sub, length-sub}
 use Rattle.arc_block.specs.Block.{BlockInfo, BlockView, vector, memory_info, native_facts, raw_info}
 use Rattle.arc_block.specs.declared.block.TheConstants.{MAX_OWNERS}
-use Rattle.arc_block.specs.Place.{Place, nowhere, static_data, on_block, moved, part_place, at_owner}
+use Rattle.arc_block.specs.Place.{Place, nowhere, static_data, on_block, moved, part_place}
+use Rattle.arc_block.specs.Place.{at_owner}
 use Rattle.arc_block.specs.Natives.{NativeView, native_info}
 use Rattle.arc_block.specs.Table.{reader}
-use Rattle.arc_parts.specs.declared.storage.Storage.TheVariants.{Nothing, Static, Native, Block, Raw}
-use Rattle.arc_parts.specs.Window.{Window, PartsView, StandsBy, NeedsBlock, parts_of, window_of, window_seen, IsWithin}
+use Rattle.arc_parts.specs.declared.storage.Storage.TheVariants.{Nothing, Static, Native, Block}
+use Rattle.arc_parts.specs.declared.storage.Storage.TheVariants.{Raw}
+use Rattle.arc_parts.specs.Window.{Window, PartsView, StandsBy, NeedsBlock, parts_of, window_of}
+use Rattle.arc_parts.specs.Window.{window_seen, IsWithin}
 use Rattle.arc_parts.specs.Steps.{Shares, Makes, MakesOfVec, NeedsVecBlock, RefusesTaking}
 
 stays : {M : Type 0} (place : Place (Option Owner) M) → moved 0 place ≡ place
 stays nowhere = refl
 stays static_data = refl
-stays (on_block owner offset facts) = let same : offset + 0 ≡ offset = omega arith in ap (λ n. on_block owner n facts) same
+stays (on_block owner offset facts) = let same : offset + 0 ≡ offset = omega arith in
+    ap (λ n. on_block owner n facts) same
 
 -- the part of a part of a native block, by the numbers of its places
 pub part-of-part : {T : Type 0} (b : NativeView T) (from to start end : ℕ) → b.first ≤ from
@@ -35,9 +41,19 @@ part-of-part b from to start end after inside =
 
 module _ {T M : Type 0} where
   -- how many items there are
-  pub how_long : (inner : StandsBy T M) (from to : ℕ) (p : PartsView T M) → parts_of (window_seen inner from to) ≡ p → IsWithin inner from to → from + length p.items ≡ to
-  how_long (Nothing none) from to p view within = omega (arith, ap (λ (v : PartsView T M). length v.items) view, within.0, within.1)
-  how_long (Static items) from to p view within = omega (arith, ap (λ (v : PartsView T M). length v.items) view, length-sub items from to within.0 within.1, within.0)
+  pub how_long : (inner : StandsBy T M) (from to : ℕ) (p : PartsView T M)
+      → parts_of (window_seen inner from to) ≡ p → IsWithin inner from to
+      → from + length p.items ≡ to
+  how_long (Nothing none) from to p view within =
+      omega (arith, ap (λ (v : PartsView T M). length v.items) view, within.0, within.1)
+  how_long (Static items) from to p view within =
+      omega (
+        arith,
+        ap (λ (v : PartsView T M). length v.items) view,
+        length-sub items from to
+            within.0 within.1,
+        within.0,
+      )
   how_long (Native b) from to p view within =
       let f = within.0.from in let o = within.0.ordered in let t = within.0.to in
       omega (
@@ -47,8 +63,22 @@ module _ {T M : Type 0} where
         f,
         o,
       )
-  how_long (Block b) from to p view within = omega (arith, ap (λ (v : PartsView T M). length v.items) view, length-sub b.items from to within.0 within.1, within.0)
-  how_long (Raw items) from to p view within = omega (arith, ap (λ (v : PartsView T M). length v.items) view, length-sub items from to within.0 within.1, within.0)
+  how_long (Block b) from to p view within =
+      omega (
+        arith,
+        ap (λ (v : PartsView T M). length v.items) view,
+        length-sub b.items from to
+            within.0 within.1,
+        within.0,
+      )
+  how_long (Raw items) from to p view within =
+      omega (
+        arith,
+        ap (λ (v : PartsView T M). length v.items) view,
+        length-sub items from to
+            within.0 within.1,
+        within.0,
+      )
 
   -- places among the items are as small as the end, and so numbers of the code's
   pub places_fit : (inner : StandsBy T M) (from to : ℕ) (p : PartsView T M)
@@ -56,13 +86,22 @@ module _ {T M : Type 0} where
       → (start end : ℕ) → start ≤ end → end ≤ length p.items
       → Fits w64 (from + start) × Fits w64 (from + end)
   places_fit inner from to p view within fits start end ordered inside =
-      let long = how_long inner from to p view within in
-      (Fits-le (omega (arith, long, ordered, inside)) fits, Fits-le (omega (arith, long, inside)) fits)
+      let long = how_long inner from to p view within in (
+        Fits-le (omega (arith, long, ordered, inside)) fits,
+        Fits-le (omega (arith, long, inside))
+            fits,
+      )
 
   -- what is left between two ends lies within the block
-  pub kept_within : (inner : StandsBy T M) (from to start end : ℕ) → IsWithin inner from to → start ≤ end → from + end ≤ to → IsWithin inner (from + start) (from + end)
-  kept_within (Nothing none) from to start end within ordered inside = (omega (arith, within.0, within.1, ordered, inside), omega (arith, within.0, within.1, inside))
-  kept_within (Static items) from to start end within ordered inside = (omega (arith, ordered), omega (arith, inside, within.1))
+  pub kept_within : (inner : StandsBy T M) (from to start end : ℕ) → IsWithin inner from to
+      → start ≤ end → from + end ≤ to → IsWithin inner (from + start) (from + end)
+  kept_within (Nothing none) from to start end within ordered inside = (
+    omega (arith, within.0, within.1, ordered, inside),
+    omega
+        (arith, within.0, within.1, inside),
+  )
+  kept_within (Static items) from to start end within ordered inside =
+      (omega (arith, ordered), omega (arith, inside, within.1))
   kept_within (Native b) from to start end within ordered inside =
       let f = within.0.from in let t = within.0.to in (
         record {
@@ -72,20 +111,52 @@ module _ {T M : Type 0} where
         },
         within.1,
       )
-  kept_within (Block b) from to start end within ordered inside = (omega (arith, ordered), omega (arith, inside, within.1), within.2)
-  kept_within (Raw items) from to start end within ordered inside = (omega (arith, ordered), omega (arith, inside, within.1))
+  kept_within (Block b) from to start end within ordered inside =
+      (omega (arith, ordered), omega (arith, inside, within.1), within.2)
+  kept_within (Raw items) from to start end within ordered inside =
+      (omega (arith, ordered), omega (arith, inside, within.1))
 
   -- and is seen as the items between them, that much further in
-  pub kept_seen : (inner : StandsBy T M) (from to start end : ℕ) (p : PartsView T M) → parts_of (window_seen inner from to) ≡ p → IsWithin inner from to → start ≤ end → from + end ≤ to
-      → parts_of (window_seen inner (from + start) (from + end)) ≡ record { items = sub p.items start end; place = moved start p.place; role = p.role }
+  pub kept_seen : (inner : StandsBy T M) (from to start end : ℕ) (p : PartsView T M)
+      → parts_of (window_seen inner from to) ≡ p → IsWithin inner from to → start ≤ end
+      → from + end ≤ to
+      → parts_of (window_seen inner (from + start) (from + end)) ≡ record {
+        items =
+            sub p.items start end;
+        place = moved start p.place;
+        role = p.role;
+      }
   kept_seen (Nothing none) from to start end p view within ordered inside =
       let nil : List T = [] in
-      let empty : sub nil start end ≡ [] = nil_from_length (sub nil start end) (omega (arith, length-sub nil start end ordered (omega (arith, within.0, within.1, inside)), within.0, within.1, inside)) in
-      let seen : PartsView T M → Type 0 = λ v. parts_of (window_seen {T = T} (Nothing none) (from + start) (from + end)) ≡ record { items = sub v.items start end; place = moved start v.place; role = v.role } in
+      let empty : sub nil start end ≡ [] = nil_from_length (sub nil start end)
+      (omega (
+        arith,
+        length-sub nil start end ordered
+            (omega (arith, within.0, within.1, inside)),
+        within.0,
+        within.1,
+        inside,
+      )) in
+      let seen : PartsView T M
+      → Type 0 = λ v. parts_of (window_seen {T = T} (Nothing none) (from + start)
+      (from + end)) ≡ record {
+        items = sub v.items start end;
+        place =
+            moved start v.place;
+        role = v.role;
+      } in
       subst seen view (ap (λ xs. record { items = xs; place = nowhere; role = reader }) (sym empty))
   kept_seen (Static items) from to start end p view within ordered inside =
-      let seen : PartsView T M → Type 0 = λ v. parts_of (window_seen {T = T} (Static items) (from + start) (from + end)) ≡ record { items = sub v.items start end; place = moved start v.place; role = v.role } in
-      subst seen view (ap (λ xs. record { items = xs; place = static_data; role = reader }) (sym (sub-sub items from to start end inside)))
+      let seen : PartsView T M
+      → Type 0 = λ v. parts_of (window_seen {T = T} (Static items) (from + start)
+      (from + end)) ≡ record {
+        items = sub v.items start end;
+        place =
+            moved start v.place;
+        role = v.role;
+      } in
+      subst seen view (ap (λ xs. record { items = xs; place = static_data; role = reader })
+      (sym (sub-sub items from to start end inside)))
   kept_seen (Native b) from to start end p view within ordered inside =
       let seen : PartsView T M → Type 0 = λ v.
       parts_of (window_seen (Native b) (from + start) (from + end)) ≡ record {
@@ -97,26 +168,45 @@ module _ {T M : Type 0} where
       subst seen view (ap (λ xs. record { items = xs; place = there; role = reader })
       (part-of-part b from to start end within.0.from inside))
   kept_seen (Block b) from to start end p view within ordered inside =
-      let seen : PartsView T M → Type 0 = λ v. parts_of (window_seen (Block b) (from + start) (from + end)) ≡ record { items = sub v.items start end; place = moved start v.place; role = v.role } in
+      let seen : PartsView T M
+      → Type 0 = λ v. parts_of (window_seen (Block b) (from + start) (from + end)) ≡ record {
+        items = sub v.items start end;
+        place = moved start v.place;
+        role = v.role;
+      } in
       let there : Place (Option Owner) M = on_block (Some b.owner) (from + start) b.facts in
-      subst seen view (ap (λ xs. record { items = xs; place = there; role = reader }) (sym (sub-sub b.items from to start end inside)))
+      subst seen view (ap (λ xs. record { items = xs; place = there; role = reader })
+      (sym (sub-sub b.items from to start end inside)))
   kept_seen (Raw items) from to start end p view within ordered inside =
-      let seen : PartsView T M → Type 0 = λ v. parts_of (window_seen {T = T} (Raw items) (from + start) (from + end)) ≡ record { items = sub v.items start end; place = moved start v.place; role = v.role } in
+      let seen : PartsView T M
+      → Type 0 = λ v. parts_of (window_seen {T = T} (Raw items) (from + start)
+      (from + end)) ≡ record {
+        items = sub v.items start end;
+        place =
+            moved start v.place;
+        role = v.role;
+      } in
       let there : Place (Option Owner) M = on_block None (from + start) (raw_info (length items)) in
-      subst seen view (ap (λ xs. record { items = xs; place = there; role = reader }) (sym (sub-sub items from to start end inside)))
+      subst seen view (ap (λ xs. record { items = xs; place = there; role = reader })
+      (sym (sub-sub items from to start end inside)))
 
 -- the block that another owner stands on: its items and what is known of it are the same
 abbrev reowned : {T M : Type 0} → BlockView T M → Owner → BlockView T M
 reowned b other = record { owner = other; items = b.items; facts = b.facts }
 
-as_reowned : {T M : Type 0} (b b' : BlockView T M) → b'.items ≡ b.items → b'.facts ≡ b.facts → reowned b b'.owner ≡ b'
+as_reowned : {T M : Type 0} (b b' : BlockView T M) → b'.items ≡ b.items → b'.facts ≡ b.facts
+    → reowned b b'.owner ≡ b'
 as_reowned {T} {M} b b' items facts =
-    let f : List T → BlockView T M = λ xs. record { owner = b'.owner; items = xs; facts = b.facts } in
-    let g : BlockInfo M → BlockView T M = λ x. record { owner = b'.owner; items = b'.items; facts = x } in
+    let f : List T → BlockView T M = λ xs. record { owner = b'.owner; items = xs; facts = b.facts }
+    in
+    let g : BlockInfo M
+    → BlockView T M = λ x. record { owner = b'.owner; items = b'.items; facts = x } in
     ap f (sym items) ∙ ap g (sym facts)
 
 -- parts that stand on a block b
-module _ {T M : Type 0} (inner : StandsBy T M) (from to : ℕ) (p : PartsView T M) (b : BlockView T M) (view : parts_of (window_seen inner from to) ≡ p) (is : inner ≡ Block b) (within : IsWithin inner from to) where
+module _ {T M : Type 0} (inner : StandsBy T M) (from to : ℕ) (p : PartsView T M) (b : BlockView T M)
+    (view : parts_of (window_seen inner from to) ≡ p) (is : inner ≡ Block b)
+    (within : IsWithin inner from to) where
   here : IsWithin (Block b) from to
   here = subst (λ x. IsWithin x from to) is within
 
@@ -129,53 +219,90 @@ module _ {T M : Type 0} (inner : StandsBy T M) (from to : ℕ) (p : PartsView T 
 
   -- there are as many as lie between the ends
   pub between : length p.items ≡ to - from
-  between = ap (λ (v : PartsView T M). length v.items) on_block_seen ∙ length-sub b.items from to here.0 here.1
+  between = ap (λ (v : PartsView T M). length v.items) on_block_seen
+      ∙ length-sub b.items from to here.0 here.1
 
-  module _ (has_static : Bool) (start end : ℕ) (ordered : start ≤ end) (inside : end ≤ length p.items) (kept : (has_static && ((end - start) == 0)) ≡ false) where
+  module _ (has_static : Bool) (start end : ℕ) (ordered : start ≤ end)
+      (inside : end ≤ length p.items) (kept : (has_static && ((end - start) == 0)) ≡ false) where
     upto : from + end ≤ to
     upto = omega (arith, inside, between, here.0)
 
     -- a part of them is seen as a part
-    part_seen : parts_of (window_seen (Block b) (from + start) (from + end)) ≡ record { items = sub p.items start end; place = part_place has_static (sub p.items start end) start p.place; role = reader }
+    part_seen : parts_of (window_seen (Block b) (from + start) (from + end)) ≡ record {
+      items =
+          sub p.items start end;
+      place =
+          part_place has_static (sub p.items start end) start p.place;
+      role = reader;
+    }
     part_seen =
-        let parts : sub b.items (from + start) (from + end) ≡ sub (sub b.items from to) start end = sym (sub-sub b.items from to start end upto) in
-        let whole : length (sub b.items from to) ≡ to - from = length-sub b.items from to here.0 here.1 in
-        let long : length (sub (sub b.items from to) start end) ≡ end - start = length-sub (sub b.items from to) start end ordered (omega (arith, inside, between, whole)) in
+        let parts : sub b.items (from + start) (from + end) ≡ sub (sub b.items from to) start
+        end = sym (sub-sub b.items from to start end upto) in
+        let whole : length (sub b.items from to) ≡ to - from = length-sub b.items from to here.0
+        here.1 in
+        let long : length (sub (sub b.items from to) start end) ≡ end - start = length-sub
+        (sub b.items from to) start end ordered (omega (arith, inside, between, whole)) in
         let there : Place (Option Owner) M = on_block (Some b.owner) (from + start) b.facts in
-        let P : PartsView T M → Type 0 = λ v. parts_of (window_seen (Block b) (from + start) (from + end)) ≡ record { items = sub v.items start end; place = part_place has_static (sub v.items start end) start v.place; role = reader } in
+        let P : PartsView T M
+        → Type 0 = λ v. parts_of (window_seen (Block b) (from + start) (from + end)) ≡ record {
+          items = sub v.items start end;
+          place =
+              part_place has_static (sub v.items start end) start v.place;
+          role = reader;
+        } in
         subst P (sym on_block_seen)
         (ap (λ xs. record { items = xs; place = there; role = reader }) parts
-        ∙ ap (λ t. record { items = sub (sub b.items from to) start end; place = if t then nowhere else there; role = reader }) (sym (ap (λ n. has_static && (n == 0)) long ∙ kept)))
+        ∙ ap (λ t. record {
+          items = sub (sub b.items from to) start end;
+          place =
+              if t then nowhere else there;
+          role =
+              reader;
+        }) (sym (ap (λ n. has_static && (n == 0)) long ∙ kept)))
 
     -- also as parts of another owner
     module _ (b' : BlockView T M) (items : b'.items ≡ b.items) (facts : b'.facts ≡ b.facts) where
-      pub part_items : (window_seen (Block b') (from + start) (from + end)).items ≡ sub p.items start end
-      part_items = ap (λ xs. sub xs (from + start) (from + end)) items ∙ ap (λ (v : PartsView T M). v.items) part_seen
+      pub part_items : (window_seen (Block b') (from + start) (from + end)).items ≡ sub p.items
+          start end
+      part_items = ap (λ xs. sub xs (from + start) (from + end)) items
+          ∙ ap (λ (v : PartsView T M). v.items) part_seen
 
       pub part_within : IsWithin (Block b') (from + start) (from + end)
       part_within =
           let places = ap (λ (f : BlockInfo M). f.size) facts in
-          let many = ap length items in
-          (omega (arith, ordered), omega (arith, upto, here.1, many), omega (arith, here.2, places, many))
+          let many = ap length items in (
+            omega (arith, ordered),
+            omega (arith, upto, here.1, many),
+            omega
+                (arith, here.2, places, many),
+          )
 
-      pub part_shares : {H : Type 0} (old new : Pass H) → MakesAnother b.owner old new b'.owner → Shares (part_place has_static (sub p.items start end) start p.place) old new (window_seen (Block b') (from + start) (from + end)).place
+      pub part_shares : {H : Type 0} (old new : Pass H) → MakesAnother b.owner old new b'.owner
+          → Shares (part_place has_static (sub p.items start end) start p.place) old new
+          (window_seen (Block b') (from + start) (from + end)).place
       part_shares old new makes =
-          let P : Place (Option Owner) M → Type 0 = λ place. Shares place old new (on_block (Some b'.owner) (from + start) b'.facts) in
-          subst P (ap (λ (v : PartsView T M). v.place) part_seen) (b'.owner, makes, ap (λ x. on_block (Some b'.owner) (from + start) x) facts)
+          let P : Place (Option Owner) M → Type 0 = λ place. Shares place old new
+          (on_block (Some b'.owner) (from + start) b'.facts) in
+          subst P (ap (λ (v : PartsView T M). v.place) part_seen)
+          (b'.owner, makes, ap (λ x. on_block (Some b'.owner) (from + start) x) facts)
 
   -- they come back where all was as wanted but the count
-  pub taking_refused : {H : Type 0} (b' : BlockView T M) → b' ≡ b → (wanted : Type 0) → wanted → (old new : Pass H) → Asks b.owner old new false
+  pub taking_refused : {H : Type 0} (b' : BlockView T M) → b' ≡ b → (wanted : Type 0) → wanted
+      → (old new : Pass H) → Asks b.owner old new false
       → (parts_of (window_seen (Block b') from to) ≡ p) × RefusesTaking wanted p.place old new
   taking_refused b' same wanted met old new asks = (
     ap (λ x. parts_of (window_seen (Block x) from to)) same ∙ sym on_block_seen,
     record {
-      asked = λ _. subst (λ (v : PartsView T M). at_owner v.place ⊥ (λ o. Asks o old new false)) (sym on_block_seen) asks;
+      asked = λ _. subst (λ (v : PartsView T M). at_owner v.place ⊥ (λ o. Asks o old new false))
+          (sym on_block_seen) asks;
       unasked = λ unmet. absurd (unmet met);
     },
   )
 
 -- parts that stand on a static slice
-module _ {T M : Type 0} (inner : StandsBy T M) (from to : ℕ) (p : PartsView T M) (all : List T) (view : parts_of (window_seen inner from to) ≡ p) (is : inner ≡ Static all) (within : IsWithin inner from to) where
+module _ {T M : Type 0} (inner : StandsBy T M) (from to : ℕ) (p : PartsView T M) (all : List T)
+    (view : parts_of (window_seen inner from to) ≡ p) (is : inner ≡ Static all)
+    (within : IsWithin inner from to) where
   inside_slice : IsWithin {T = T} {M = M} (Static all) from to
   inside_slice = subst (λ x. IsWithin x from to) is within
 
@@ -183,13 +310,16 @@ module _ {T M : Type 0} (inner : StandsBy T M) (from to : ℕ) (p : PartsView T 
   on_slice_seen = sym view ∙ ap (λ x. parts_of (window_seen x from to)) is
 
   in_slice : length p.items ≡ to - from
-  in_slice = ap (λ (v : PartsView T M). length v.items) on_slice_seen ∙ length-sub all from to inside_slice.0 inside_slice.1
+  in_slice = ap (λ (v : PartsView T M). length v.items) on_slice_seen
+      ∙ length-sub all from to inside_slice.0 inside_slice.1
 
   -- a part of them
   module _ (start end : ℕ) (ordered : start ≤ end) (inside : end ≤ length p.items) where
-    pub slice_items : (items : List T) → items ≡ all → sub items (from + start) (from + end) ≡ sub p.items start end
+    pub slice_items : (items : List T) → items ≡ all → sub items (from + start) (from + end) ≡ sub
+        p.items start end
     slice_items items same =
-        ap (λ xs. sub xs (from + start) (from + end)) same ∙ sym (sub-sub all from to start end (omega (arith, inside, in_slice, inside_slice.0)))
+        ap (λ xs. sub xs (from + start) (from + end)) same
+        ∙ sym (sub-sub all from to start end (omega (arith, inside, in_slice, inside_slice.0)))
         ∙ ap (λ (v : PartsView T M). sub v.items start end) (sym on_slice_seen)
 
     pub slice_within : (items : List T) → items ≡ all
@@ -200,12 +330,17 @@ module _ {T M : Type 0} (inner : StandsBy T M) (from to : ℕ) (p : PartsView T 
           omega (arith, inside, in_slice, inside_slice.0, inside_slice.1, many),
         )
 
-    pub slice_shares : {H : Type 0} (has_static : Bool) (old : Pass H) → (has_static && ((end - start) == 0)) ≡ false
+    pub slice_shares : {H : Type 0} (has_static : Bool) (old : Pass H)
+        → (has_static && ((end - start) == 0)) ≡ false
         → Shares (part_place has_static (sub p.items start end) start p.place) old old static_data
     slice_shares has_static old kept =
-        let long : length (sub p.items start end) ≡ end - start = length-sub p.items start end ordered inside in
+        let long : length (sub p.items start end) ≡ end - start = length-sub p.items start end
+        ordered inside in
         let P : Place (Option Owner) M → Type 0 = λ place. Shares place old old static_data in
-        subst P (ap (λ b. if b then nowhere else static_data) (sym (ap (λ n. has_static && (n == 0)) long ∙ kept)) ∙ ap (λ (v : PartsView T M). part_place has_static (sub p.items start end) start v.place) (sym on_slice_seen)) (refl, refl)
+        subst P (ap (λ b. if b then nowhere else static_data)
+        (sym (ap (λ n. has_static && (n == 0)) long ∙ kept))
+        ∙ ap (λ (v : PartsView T M). part_place has_static (sub p.items start end) start
+        v.place) (sym on_slice_seen)) (refl, refl)
 
 both_true : (b : Bool) (n : ℕ) → (b && (n == 0)) ≡ true → n ≡ 0
 both_true true n both = eqb-true n 0 both
@@ -221,10 +356,12 @@ none_there has_static xs start end ordered inside nothing =
 -- nor has a part of what stands on nothing
 pub none_on_nothing : {T M : Type 0} (inner : StandsBy T M) (from to : ℕ)
     (p : PartsView T M) (none : List T) → parts_of (window_seen inner from to) ≡ p
-    → inner ≡ Nothing none → (start end : ℕ) → start ≤ end → end ≤ length p.items → [] ≡ sub p.items start end
+    → inner ≡ Nothing none → (start end : ℕ) → start ≤ end → end ≤ length p.items
+    → [] ≡ sub p.items start end
 none_on_nothing {T} {M} inner from to p none view is start end ordered inside =
     let empty : p.items ≡ [] =
-    ap (λ (v : PartsView T M). v.items) (sym view ∙ ap (λ x. parts_of (window_seen x from to)) is) in
+    ap (λ (v : PartsView T M). v.items) (sym view ∙ ap (λ x. parts_of (window_seen x from to)) is)
+    in
     let long = length-sub p.items start end ordered inside in
     let few = ap length empty in
     sym (nil_from_length (sub p.items start end) (omega (arith, long, inside, few)))
@@ -234,10 +371,13 @@ module _ {T M : Type 0} (has_static drops one_pass : Bool) (items : List T) wher
   pub made_on_nothing : (owner : Owner) → (has_static && (length items == 0)) ≡ true
       → Makes {M = M} has_static drops one_pass items (record { items = []; place = nowhere })
   made_on_nothing owner nothing =
-      let empty : items ≡ [] = nil_from_length items (both_true has_static (length items) nothing) in
-      let there : Bool → Place (Option Owner) M = λ b. if b then nowhere else on_block (Some owner) 0 (native_facts drops (length items)) in record {
+      let empty : items ≡ [] = nil_from_length items (both_true has_static (length items) nothing)
+      in
+      let there : Bool → Place (Option Owner) M = λ b. if b then nowhere else on_block (Some owner)
+      0 (native_facts drops (length items)) in record {
         owner = owner;
-        made = ap (λ xs. record { items = xs; place = nowhere }) (sym empty) ∙ ap (λ b. record { items = items; place = there b }) (sym nothing);
+        made = ap (λ xs. record { items = xs; place = nowhere }) (sym empty)
+            ∙ ap (λ b. record { items = items; place = there b }) (sym nothing);
         first = tt;
       }
 

@@ -13,7 +13,7 @@ use Rattle.arc_owners.specs.declared.error.RangeError.TheVariants.{OutOfRange}
 use Rattle.arc_owners.specs.declared.count.tokens.Pass.{Pass}
 use Rattle.arc_owners.specs.count.Invariant.{BlockId, Line}
 use Rattle.arc_owners.specs.count.Calls.{Owner, IsFirst, IsFreshPass, IsOfBlock, Asks, Leaves}
-use Rattle.arc_owners.specs.count.Calls.{FindsFull, pass_block, pass_number, history_of}
+use Rattle.arc_owners.specs.count.Calls.{RefusesOwner, pass_block, pass_number, history_of}
 use Rattle.arc_buffer.specs.Slice.{IsEdge, edge_answer}
 use Rattle.arc_block.specs.declared.block.TheConstants.{MAX_OWNERS}
 use Rattle.arc_parts.specs.declared.room.Room.{Room}
@@ -76,7 +76,8 @@ module _ {N T M : Type 0} where
 -- which both stand; or both stand on nothing.
 abbrev pub ends_at : {N M : Type 0} → ℕ → Place N M → Place N M → Bool
 ends_at places nowhere nowhere = true
-ends_at places (on_block block offset info) (on_block other there its_info) = offset + places == there
+ends_at places (on_block block offset info) (on_block other there its_info) =
+    offset + places == there
 ends_at places here there = false
 
 -- whether the other's places can be put behind a writer's, who has an item at each of his own
@@ -185,10 +186,8 @@ module _ {H : Type 0} where
   -- A split was refused: the count was found at its greatest; or, of a vector, memory for the block
   -- to which the window moves, and nothing was added.
   abbrev pub RefusesSplit : Sort → Owner → (before after : Pass H) → OwnerError → Type 0
-  RefusesSplit native o before after owner_error.CountFull = FindsFull o before after
-  RefusesSplit native o before after owner_error.AllocError = ⊥
-  RefusesSplit vector o before after owner_error.CountFull = ⊥
-  RefusesSplit vector o before after owner_error.AllocError = after ≡ before
+  RefusesSplit native o before after e = RefusesOwner false o before after e
+  RefusesSplit vector o before after e = (e ≡ owner_error.AllocError) × (after ≡ before)
   RefusesSplit (buffer writable) o before after e = ⊥
   RefusesSplit raw o before after e = ⊥
 

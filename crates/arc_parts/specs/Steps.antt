@@ -1,9 +1,9 @@
 -- What a call does to the pass of its window's block. A window that stands where no owners are
 -- counted has a pass of no block, and its calls add nothing.
 use Rattle.std.specs.Prelude.{◌≡◌, ℕ, ◌≤◌, ◌==◌, ◌&&◌, Bool, true, false, Option, Some}
-use Rattle.std.specs.Prelude.{None, List, [], length}
+use Rattle.std.specs.Prelude.{None, List, length}
 use Rattle.arc_owners.specs.declared.error.OwnerError.{OwnerError}
-use Rattle.arc_owners.specs.declared.error.OwnerError.TheVariants.{AllocError, CountFull}
+use Rattle.arc_owners.specs.declared.error.OwnerError.TheVariants.{AllocError}
 use Rattle.arc_owners.specs.declared.count.tokens.Pass.{Pass}
 use Rattle.arc_owners.specs.history.Histories.{Beginning, Counted}
 use Rattle.arc_owners.specs.count.Invariant.{BlockId, Line}
@@ -47,9 +47,8 @@ module _ {M H : Type 0} where
       → Type 0
   Refuses wants nowhere old new e = ⊥
   Refuses wants static_data old new e = ⊥
-  Refuses wants (on_block None offset facts) old new CountFull = ⊥
-  Refuses wants (on_block None offset facts) old new AllocError =
-      (wants facts.sort ≡ true) × (new ≡ old)
+  Refuses wants (on_block None offset facts) old new e =
+      (e ≡ AllocError) × (wants facts.sort ≡ true) × (new ≡ old)
   Refuses wants (on_block (Some o) offset facts) old new e =
       RefusesOwner (wants facts.sort) o old new e
 

@@ -10,7 +10,8 @@ use Rattle.arc_block.specs.Place.{Place, nowhere, static_data, on_block, IsOnBlo
 use Rattle.arc_block.specs.Natives.{NativeView, native_info, IsAmong}
 use Rattle.arc_block.specs.Table.{RowOf, reader}
 use Rattle.arc_parts.specs.declared.storage.Storage.{Storage}
-use Rattle.arc_parts.specs.declared.storage.Storage.TheVariants.{Nothing, Static, Native, Block, Raw}
+use Rattle.arc_parts.specs.declared.storage.Storage.TheVariants.{Nothing, Static, Native, Block}
+use Rattle.arc_parts.specs.declared.storage.Storage.TheVariants.{Raw}
 
 -- what is seen of a window: its items, and where it stands: on a block as one of its owners, where
 -- the block counts them

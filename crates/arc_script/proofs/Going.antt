@@ -18,8 +18,8 @@ use Rattle.arc_script.specs.declared.script.Engine.{Engine}
 use Rattle.arc_script.specs.declared.script.ScriptError.{ScriptError}
 use Rattle.arc_script.specs.declared.script.ScriptError.TheVariants.{Read, Write, Alloc}
 use Rattle.arc_script.proofs.Underway.{nothing_read, more_held, line_ended, went_out, begun_out}
-use Rattle.arc_script.proofs.Underway.{begun_front, answered_begun, still_begun, line_broken, begun_nothing}
-use Rattle.arc_script.proofs.Underway.{whole_answered}
+use Rattle.arc_script.proofs.Underway.{begun_front, answered_begun, still_begun, line_broken}
+use Rattle.arc_script.proofs.Underway.{begun_nothing, whole_answered}
 
 -- what holds whatever is answered
 pub on_ok : {T E P : Type 0} (r : Result T E) → P → OnOk r P
@@ -51,7 +51,8 @@ module _ {layout : ScriptLayout} {L A W : Type 0} {N : Named.Ghosts L W}
   -- the same windows and out make the same beginning
   same_begun : (fault : ScriptError) (start input : List ℕ) (w : Traffic) (e : Engine L A W N G K)
       (out : List ℕ) (state : ByteState) → e.out.items ≡ out → e.table ≡ state
-      → IsBegun layout fault start input w out state → IsBegun layout fault start input w e.out.items e.table
+      → IsBegun layout fault start input w out state → IsBegun layout fault start input w
+      e.out.items e.table
   same_begun fault start input w e out state same_out same_windows b =
       subst (λ o. IsBegun layout fault start input w o e.table) (sym same_out)
       (subst (λ s. IsBegun layout fault start input w out s) (sym same_windows) b)
@@ -81,7 +82,8 @@ module _ {layout : ScriptLayout} {L A W : Type 0} {N : Named.Ghosts L W}
 
   -- it stops, and what it holds goes out
   pub stops_and_out : (fault : ScriptError) (bytes : List ℕ) (w w1 w' : Traffic)
-      (e e1 e2 : Engine L A W N G K) → Stops layout bytes w w1 e e1 fault → w'.bytes ≡ w1.bytes ++ e1.out.items
+      (e e1 e2 : Engine L A W N G K) → Stops layout bytes w w1 e e1 fault
+      → w'.bytes ≡ w1.bytes ++ e1.out.items
       → e2.out.items ≡ [] → e2.table ≡ e1.table → Stops layout bytes w w' e e2 fault
   stops_and_out fault bytes w w1 w' e e1 e2 stops out none same start input more read =
       same_begun fault start (input ++ (bytes ++ more)) w' e2 [] e1.table none same
@@ -89,7 +91,8 @@ module _ {layout : ScriptLayout} {L A W : Type 0} {N : Named.Ghosts L W}
 
   -- or a front of it
   pub stops_and_front : (fault : ScriptError) (bytes : List ℕ) (w w1 w' : Traffic)
-      (e e1 e2 : Engine L A W N G K) → Stops layout bytes w w1 e e1 fault → TakesFront e1.out.items w1 w'
+      (e e1 e2 : Engine L A W N G K) → Stops layout bytes w w1 e e1 fault
+      → TakesFront e1.out.items w1 w'
       → e2.out.items ≡ [] → e2.table ≡ e1.table → Stops layout bytes w w' e e2 Write
   stops_and_front fault bytes w w1 w' e e1 e2 stops front none same start input more read =
       same_begun Write start (input ++ (bytes ++ more)) w' e2 [] e1.table none same
@@ -116,7 +119,8 @@ module _ {layout : ScriptLayout} {L A W : Type 0} {N : Named.Ghosts L W}
 
   -- it has read some bytes, and then others
   pub reads_on : (front more : List ℕ) (w w1 w2 : Traffic) (e e1 e2 : Engine L A W N G K)
-      → Reads layout front w w1 e e1 → Reads layout more w1 w2 e1 e2 → Reads layout (front ++ more) w w2 e e2
+      → Reads layout front w w1 e e1 → Reads layout more w1 w2 e1 e2
+      → Reads layout (front ++ more) w w2 e e2
   reads_on front more w w1 w2 e e1 e2 one other start input read =
       subst (λ xs. HasRead layout start xs w2 e2) (append_assoc input front more)
       (other start (input ++ front) (one start input read))
@@ -156,7 +160,8 @@ module _ {layout : ScriptLayout} {L A W : Type 0} {N : Named.Ghosts L W}
       (went_out read w' out.0))
 
   -- it holds the end of a line, and answers it
-  pub reads_line : (w : Traffic) (e e1 e2 : Engine L A W N G K) (bytes : List ℕ) → Reads layout bytes w w e e1
+  pub reads_line : (w : Traffic) (e e1 e2 : Engine L A W N G K) (bytes : List ℕ)
+      → Reads layout bytes w w e e1
       → Ends layout e1.line.items e1.too_long e1.table e2.table e1.out.items
       e2.out.items
       → (e2.line.items ≡ []) × (e2.too_long ≡ false)
@@ -189,7 +194,8 @@ module _ {layout : ScriptLayout} {L A W : Type 0} {N : Named.Ghosts L W}
       subst (λ xs. IsBegun layout Alloc start xs w e1.out.items e1.table)
       (append_assoc input bytes (line_feed ∷ more)
       ∙ ap (λ xs. input ++ xs) (sym (append_assoc bytes (line_feed ∷ []) more)))
-      (subst (λ o. IsBegun layout Alloc start ((input ++ bytes) ++ (line_feed ∷ [] ++ more)) w o e1.table)
+      (subst (λ o. IsBegun layout Alloc start ((input ++ bytes) ++ (line_feed ∷ [] ++ more)) w o
+      e1.table)
       (sym same_out) (line_broken held e1.table more may))
 
   -- and then its replies go out, or a front of them
@@ -219,7 +225,8 @@ module _ {layout : ScriptLayout} {L A W : Type 0} {N : Named.Ghosts L W}
       stops_and_front fault bytes w w1 w' e e1 e2 stops front none same
 
   -- it stops at the end, before it has written more
-  pub begun_at_end : (fault : ScriptError) (w : Traffic) (e : Engine L A W N G K) (start input : List ℕ)
+  pub begun_at_end : (fault : ScriptError) (w : Traffic) (e : Engine L A W N G K)
+      (start input : List ℕ)
       → HasRead layout start input w e → IsBegun layout fault start input w e.out.items e.table
   begun_at_end fault w e start input read =
       subst (λ xs. IsBegun layout fault start xs w e.out.items e.table) (append-nil input)
@@ -245,7 +252,8 @@ more_parts piece front rest line behind parts cut =
     ∙ sym (append_assoc front (line ++ line_feed ∷ []) behind)
 
 -- what was read and what was written go together
-pub exchange_begun : {layout : ScriptLayout} (fault : ScriptError) (r r' w w' : Traffic) (state : ByteState)
+pub exchange_begun : {layout : ScriptLayout} (fault : ScriptError) (r r' w w' : Traffic)
+    (state : ByteState)
     (input : List ℕ) → r'.bytes ≡ r.bytes ++ input → IsBegun layout fault w.bytes input w' [] state
     → Exchanges (IsBrokenOff layout fault state) r r' w w'
 exchange_begun fault r r' w w' state input given b = record {
@@ -268,7 +276,8 @@ module _ {layout : ScriptLayout} {L A W : Type 0} {N : Named.Ghosts L W}
       (begun_at_end fault w1 e w.bytes run.input run.read))
 
   -- then each whole line is answered
-  pub run_answered : (r r1 r2 w w1 : Traffic) (e : Engine L A W N G K) → IsRunning layout r r1 w w1 e
+  pub run_answered : (r r1 r2 w w1 : Traffic) (e : Engine L A W N G K)
+      → IsRunning layout r r1 w w1 e
       → r2.bytes ≡ r1.bytes → Exchanges (OfWholeLines (IsThrough layout e.table)) r r2 w w1
   run_answered r r1 r2 w w1 e run same = record {
     input = run.input;
@@ -293,7 +302,8 @@ module _ {layout : ScriptLayout} {L A W : Type 0} {N : Named.Ghosts L W}
   -- a run that goes on
   pub run_goes_on : (r r1 r2 w w1 w2 : Traffic) (e e1 : Engine L A W N G K) (bytes : List ℕ)
       → IsRunning layout r r1 w w1 e → r2.bytes ≡ r1.bytes ++ bytes → r2.failures ≡ r1.failures
-      → NoFault w1 w2 → Reads layout bytes w1 w2 e e1 → e1.out.items ≡ [] → IsRunning layout r r2 w w2 e1
+      → NoFault w1 w2 → Reads layout bytes w1 w2 e e1 → e1.out.items ≡ []
+      → IsRunning layout r r2 w w2 e1
   run_goes_on r r1 r2 w w1 w2 e e1 bytes run more failures clean reads none = record {
     input = run.input ++ bytes;
     given = more ∙ ap (λ xs. xs ++ bytes) run.given ∙ append_assoc r.bytes run.input bytes;
@@ -319,7 +329,8 @@ module _ {layout : ScriptLayout} {L A W : Type 0} {N : Named.Ghosts L W}
 
   -- whatever has come of the last line, a write fails then
   pub rest_then_stops : {T F : Type 0} (rest : Result T F) (start input : List ℕ) (w w' : Traffic)
-      (e e1 : Engine L A W N G K) → OnOk rest ((start input : List ℕ) (w : Traffic) → HasRead layout start input w e
+      (e e1 : Engine L A W N G K) → OnOk rest ((start input : List ℕ) (w : Traffic)
+      → HasRead layout start input w e
       → IsAnswered layout start input w e1.out.items e1.table)
       → OnErr rest ((start input : List ℕ) (w : Traffic) → HasRead layout start input w e
       → IsBegun layout Alloc start input w e1.out.items e1.table)
@@ -331,14 +342,16 @@ module _ {layout : ScriptLayout} {L A W : Type 0} {N : Named.Ghosts L W}
       begun_front (begun start input w read) w' front
 
 -- nothing was read and nothing written
-pub nothing_exchanged : {layout : ScriptLayout} (fault : ScriptError) (r w : Traffic) (state : ByteState)
+pub nothing_exchanged : {layout : ScriptLayout} (fault : ScriptError) (r w : Traffic)
+    (state : ByteState)
     → state ≡ empty_state → Exchanges (IsBrokenOff layout fault state) r r w w
 nothing_exchanged fault r w state empty =
     exchange_begun fault r r w w state [] (sym (append-nil r.bytes))
     (begun_nothing fault w state empty)
 
 -- a run that has answered all
-pub exchange_answered : {layout : ScriptLayout} (r r' w w' : Traffic) (state : ByteState) (input : List ℕ)
+pub exchange_answered : {layout : ScriptLayout} (r r' w w' : Traffic) (state : ByteState)
+    (input : List ℕ)
     → r'.bytes ≡ r.bytes ++ input → IsAnswered layout w.bytes input w' [] state
     → Exchanges (IsThrough layout state) r r' w w'
 exchange_answered r r' w w' state input given a =

@@ -1,5 +1,6 @@
 -- Each line has an answer, and each list of lines a run.
-use Rattle.std.proofs.Common.{◌≡◌, ◌≢◌, ℕ, Bool, not, eqb, true, List, [], ◌∷◌, ◌++◌, Option, Some, None, refl, sym, ap, ◌∙◌, append_assoc, arith}
+use Rattle.std.proofs.Common.{◌≡◌, ◌≢◌, ℕ, Bool, not, eqb, true, List, [], ◌∷◌, ◌++◌, Option, Some}
+use Rattle.std.proofs.Common.{None, refl, sym, ap, ◌∙◌, append_assoc, arith}
 use Rattle.std.specs.Prelude.{map}
 use Rattle.std.specs.List.{list_all, AllByRecursion}
 use Rattle.std.proofs.lemmas.Bool.{eqb-false, not-true}
@@ -13,7 +14,8 @@ use Rattle.arc_commands.specs.Changes.{no_shortage}
 use Rattle.arc_commands.specs.Step.{answer, count_brought}
 use Rattle.arc_forms.specs.Text.{line_feed, answer_text}
 use Rattle.arc_script.specs.declared.layout.ScriptLayout.{ScriptLayout}
-use Rattle.arc_script.specs.Script.{ended, HasNoFeed, AreLines, script_setting, ByteTable, Answers, BeginsReplyText}
+use Rattle.arc_script.specs.Script.{ended, HasNoFeed, AreLines, script_setting, ByteTable, Answers}
+use Rattle.arc_script.specs.Script.{BeginsReplyText}
 use Rattle.arc_forms.proofs.Forms.{reading, reading_says, unread_is_none}
 use Rattle.arc_commands.proofs.Answers.{answer_step}
 use Rattle.arc_commands.proofs.Runs.{run_append}
@@ -30,15 +32,24 @@ module _ (layout : ScriptLayout) where
     (answer (script_setting layout) no_shortage (count_brought c) old c).1,
   )
 
-  answered_is : (old : ByteTable) (line : List ℕ) (said : Option (ByteCmd)) → reading line ≡ said → Answers layout old line (answered old said).0 (answered old said).1
+  answered_is : (old : ByteTable) (line : List ℕ) (said : Option (ByteCmd)) → reading line ≡ said
+      → Answers layout old line (answered old said).0 (answered old said).1
   answered_is old line None e = (unread_is_none line e, refl)
-  answered_is old line (Some c) e = (c, reading_says line c e, answer_step (script_setting layout) (count_brought c) old c (omega arith))
+  answered_is old line (Some c) e = (
+    c,
+    reading_says line c e,
+    answer_step (script_setting layout) (count_brought c) old c
+        (omega arith),
+  )
 
-  pub line_answered : (old : ByteTable) (line : List ℕ) → Answers layout old line (answered old (reading line)).0 (answered old (reading line)).1
+  pub line_answered : (old : ByteTable) (line : List ℕ)
+      → Answers layout old line (answered old (reading line)).0 (answered old (reading line)).1
   line_answered old line = answered_is old line (reading line) refl
 
-  pub answers_exist : (old : ByteTable) (line : List ℕ) → (a : Option ByteReply) × (new : ByteTable) × Answers layout old line a new
-  answers_exist old line = ((answered old (reading line)).0, (answered old (reading line)).1, line_answered old line)
+  pub answers_exist : (old : ByteTable) (line : List ℕ) → (a : Option ByteReply) × (new : ByteTable)
+      × Answers layout old line a new
+  answers_exist old line =
+      ((answered old (reading line)).0, (answered old (reading line)).1, line_answered old line)
 
   -- the replies to lines where nothing is short, and the table after them
   abbrev pub script : ByteTable → List (List ℕ) → List (Option ByteReply) × ByteTable
@@ -48,11 +59,14 @@ module _ (layout : ScriptLayout) where
       let rest = script first.1 lines in
       (first.0 ∷ rest.0, rest.1)
 
-  pub script_runs : (old : ByteTable) (lines : List (List ℕ)) → RunOf (Answers layout) old lines (script old lines).0 (script old lines).1
+  pub script_runs : (old : ByteTable) (lines : List (List ℕ)) → RunOf (Answers layout) old lines
+      (script old lines).0 (script old lines).1
   script_runs old [] = refl
-  script_runs old (line ∷ lines) = (_, line_answered old line, script_runs (answered old (reading line)).1 lines)
+  script_runs old (line ∷ lines) =
+      (_, line_answered old line, script_runs (answered old (reading line)).1 lines)
 
-  pub run_exists : (old : ByteTable) (lines : List (List ℕ)) → (replies : List (Option ByteReply)) × (new : ByteTable) × RunOf (Answers layout) old lines replies new
+  pub run_exists : (old : ByteTable) (lines : List (List ℕ)) → (replies : List (Option ByteReply))
+      × (new : ByteTable) × RunOf (Answers layout) old lines replies new
   run_exists old lines = ((script old lines).0, (script old lines).1, script_runs old lines)
 
 -- ---- no line feed
@@ -61,20 +75,29 @@ abbrev pub is_line : List ℕ → Bool
 is_line line = list_all (λ byte. not (eqb byte line_feed)) line
 
 pub no_feed : (line : List ℕ) → is_line line ≡ true → HasNoFeed line
-no_feed line pass has = All-contains (λ byte. byte ≢ line_feed) line line_feed (all_by (λ byte. not (eqb byte line_feed)) (λ byte. byte ≢ line_feed) (λ byte e. eqb-false _ _ (not-true _ e)) line pass) has refl
+no_feed line pass has = All-contains (λ byte. byte ≢ line_feed) line line_feed
+    (all_by (λ byte. not (eqb byte line_feed)) (λ byte. byte ≢ line_feed)
+    (λ byte e. eqb-false _ _ (not-true _ e)) line pass) has refl
 
-pub no_feeds : (lines : List (List ℕ)) → list_all is_line lines ≡ true → AllByRecursion HasNoFeed lines
-no_feeds lines pass = recursion_from_All HasNoFeed lines (all_by is_line HasNoFeed no_feed lines pass)
+pub no_feeds : (lines : List (List ℕ)) → list_all is_line lines ≡ true
+    → AllByRecursion HasNoFeed lines
+no_feeds lines pass =
+    recursion_from_All HasNoFeed lines (all_by is_line HasNoFeed no_feed lines pass)
 
 -- ---- a text that goes on
 
-ended_append : (xs ys : List (Option ByteReply)) → ended (map answer_text (xs ++ ys)) ≡ ended (map answer_text xs) ++ ended (map answer_text ys)
-ended_append xs ys = ap ended (map-append answer_text xs ys) ∙ flat_map-append (λ (line : List ℕ). line ++ line_feed ∷ []) (map answer_text xs) (map answer_text ys)
+ended_append : (xs ys : List (Option ByteReply)) → ended (map answer_text (xs ++ ys)) ≡ ended
+    (map answer_text xs) ++ ended (map answer_text ys)
+ended_append xs ys = ap ended (map-append answer_text xs ys)
+    ∙ flat_map-append (λ (line : List ℕ). line ++ line_feed ∷ []) (map answer_text xs)
+    (map answer_text ys)
 
 -- What is written before the replies to some first lines are all written begins what is written for
 -- the input.
-pub begins : (layout : ScriptLayout) (input text more : List ℕ) (lines rest : List (List ℕ)) (replies : List (Option ByteReply)) (mid : ByteTable)
-    → AreLines input (lines ++ rest) → RunOf (Answers layout) empty_table lines replies mid → text ++ more ≡ ended (map answer_text replies) → BeginsReplyText layout input text
+pub begins : (layout : ScriptLayout) (input text more : List ℕ) (lines rest : List (List ℕ))
+    (replies : List (Option ByteReply)) (mid : ByteTable)
+    → AreLines input (lines ++ rest) → RunOf (Answers layout) empty_table lines replies mid
+    → text ++ more ≡ ended (map answer_text replies) → BeginsReplyText layout input text
 begins layout input text more lines rest replies mid cut run written =
     let others = (script layout mid rest).0 in
     let all = replies ++ others in
@@ -85,7 +108,10 @@ begins layout input text more lines rest replies mid cut run written =
         replies = all;
         after = (script layout mid rest).1;
         cut = cut;
-        run = run_append (Answers layout) empty_table lines replies mid rest others (script layout mid rest).1 run (script_runs layout mid rest);
-        written = sym (append_assoc text more (ended (map answer_text others))) ∙ ap (λ (front : List ℕ). front ++ ended (map answer_text others)) written ∙ sym (ended_append replies others);
+        run = run_append (Answers layout) empty_table lines replies mid rest others
+            (script layout mid rest).1 run (script_runs layout mid rest);
+        written = sym (append_assoc text more (ended (map answer_text others)))
+            ∙ ap (λ (front : List ℕ). front ++ ended (map answer_text others)) written
+            ∙ sym (ended_append replies others);
       };
     }

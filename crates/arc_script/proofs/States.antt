@@ -21,7 +21,8 @@ use Rattle.arc_script.proofs.Lines.{begins}
 use Rattle.arc_commands.proofs.Runs.{run_seen}
 
 -- a line that was read is answered
-pub line_carried_out : (layout : ScriptLayout) {C A : Type 0} (old : ByteState) (said : Option (LineCmd C A))
+pub line_carried_out : (layout : ScriptLayout) {C A : Type 0} (old : ByteState)
+    (said : Option (LineCmd C A))
     (answer : Option ByteReply) (new : ByteState)
     → CarriesOutSaid layout old (option_map line_command said) answer new
     → (line : List ℕ) → IsReadAs line said → AnswersLine layout old line answer new
@@ -31,7 +32,8 @@ line_carried_out layout old None (Some reply) new does line read = absurd does
 line_carried_out layout old (Some c) None new does line read = absurd does
 
 -- so the line that was held is answered, whichever it was
-pub line_ends : (layout : ScriptLayout) {C A : Type 0} (held : List ℕ) (too_long : Bool) (old new : ByteState)
+pub line_ends : (layout : ScriptLayout) {C A : Type 0} (held : List ℕ) (too_long : Bool)
+    (old new : ByteState)
     (said : Option (LineCmd C A)) (out out' : List ℕ)
     → ((line : List ℕ) → Holds held too_long line → IsReadAs line said)
     → AnswersInto layout (option_map line_command said) old new out out'
@@ -44,7 +46,8 @@ line_ends layout held too_long old new said out out' read into = record {
 }
 
 -- or it is answered, but not in out
-pub line_may_end : (layout : ScriptLayout) {C A : Type 0} (held : List ℕ) (too_long : Bool) (old new : ByteState)
+pub line_may_end : (layout : ScriptLayout) {C A : Type 0} (held : List ℕ) (too_long : Bool)
+    (old new : ByteState)
     (said : Option (LineCmd C A))
     → ((line : List ℕ) → Holds held too_long line → IsReadAs line said)
     → (answer : Option ByteReply)
@@ -56,15 +59,18 @@ line_may_end layout held too_long old new said read does = inr (
 )
 
 -- the tables answer it so, too
-table_answers : (layout : ScriptLayout) (old : ByteState) (line : List ℕ) (answer : Option ByteReply) (new : ByteState)
+table_answers : (layout : ScriptLayout) (old : ByteState) (line : List ℕ)
+    (answer : Option ByteReply) (new : ByteState)
     → AnswersLine layout old line answer new → Answers layout old.table line answer new.table
 table_answers layout old line (Some reply) new does = (does.0, does.1, does.2.rows)
 table_answers layout old line None new bad = (bad.0, ap (λ (s : ByteState). s.table) bad.1)
 
-table_run : (layout : ScriptLayout) (old : ByteState) (lines : List (List ℕ)) (replies : List (Option ByteReply))
+table_run : (layout : ScriptLayout) (old : ByteState) (lines : List (List ℕ))
+    (replies : List (Option ByteReply))
     (new : ByteState) → RunOf (AnswersLine layout) old lines replies new
     → RunOf (Answers layout) old.table lines replies new.table
-table_run layout = run_seen (AnswersLine layout) (Answers layout) (λ (s : ByteState). s.table) (table_answers layout)
+table_run layout = run_seen (AnswersLine layout) (Answers layout) (λ (s : ByteState). s.table)
+    (table_answers layout)
 
 -- what a run that went through has written is a reply text
 pub through_text : {layout : ScriptLayout} (state : ByteState) (input text : List ℕ)
@@ -79,7 +85,8 @@ through_text {layout} state input text h = record {
 }
 
 -- and of one that was broken off, a beginning of one
-pub broken_text : {layout : ScriptLayout} (fault : ScriptError) (state : ByteState) (input text : List ℕ)
+pub broken_text : {layout : ScriptLayout} (fault : ScriptError) (state : ByteState)
+    (input text : List ℕ)
     → IsBrokenOff layout fault state input text → BeginsReplyText layout input text
 broken_text {layout} fault state input text h =
     let run = h.2 in

@@ -75,7 +75,8 @@ none_lacks Read = refl
 none_lacks Write = tt
 none_lacks Alloc = inl refl
 
-module _ {layout : ScriptLayout} {fault : ScriptError} {start input out : List ℕ} {writer : Traffic} {state : ByteState}
+module _ {layout : ScriptLayout} {fault : ScriptError} {start input out : List ℕ} {writer : Traffic}
+    {state : ByteState}
     (b : IsBegun layout fault start input writer out state) where
   -- after a fault what is held goes out
   pub begun_out : (writer' : Traffic) → writer'.bytes ≡ writer.bytes ++ out
@@ -120,7 +121,8 @@ module _ {layout : ScriptLayout} {fault : ScriptError} {start input out : List �
   }
 
 -- before the first byte
-pub nothing_read : {layout : ScriptLayout} (writer : Traffic) (state : ByteState) → state ≡ empty_state
+pub nothing_read : {layout : ScriptLayout} (writer : Traffic) (state : ByteState)
+    → state ≡ empty_state
     → IsUnderway layout writer.bytes [] writer [] state [] false
 nothing_read writer state empty = record {
   text = [];
@@ -136,7 +138,8 @@ nothing_read writer state empty = record {
   written = refl;
 }
 
-module _ {layout : ScriptLayout} {start input out held : List ℕ} {writer : Traffic} {state : ByteState} {too_long : Bool}
+module _ {layout : ScriptLayout} {start input out held : List ℕ} {writer : Traffic}
+    {state : ByteState} {too_long : Bool}
     (u : IsUnderway layout start input writer out state held too_long) where
   -- more of a line has come
   pub more_held : (held' : List ℕ) (too_long' : Bool) (bytes : List ℕ) → HasNoFeed bytes
@@ -176,13 +179,15 @@ module _ {layout : ScriptLayout} {start input out held : List ℕ} {writer : Tra
 
   run_on : (answer : Option ByteReply) (state' : ByteState)
       → AnswersHeld layout held too_long state answer state'
-      → RunOf (AnswersLine layout) empty_state (u.whole ++ u.line ∷ []) (u.replies ++ answer ∷ []) state'
+      → RunOf (AnswersLine layout) empty_state (u.whole ++ u.line ∷ []) (u.replies ++ answer ∷ [])
+      state'
   run_on answer state' answered =
       run_push (AnswersLine layout) empty_state u.whole u.replies state u.line answer state' u.run
       (answered u.line u.holds)
 
   -- the line has ended, and is answered
-  pub line_ended : (state' : ByteState) (out' : List ℕ) → Ends layout held too_long state state' out out'
+  pub line_ended : (state' : ByteState) (out' : List ℕ) → Ends layout held too_long state state' out
+      out'
       → IsUnderway layout start (input ++ line_feed ∷ []) writer out' state' [] false
   line_ended state' out' ends = record {
     text = u.text;
@@ -301,7 +306,8 @@ module _ {layout : ScriptLayout} {start input out held : List ℕ} {writer : Tra
     }
 
     -- it is answered
-    pub last_answered : (state' : ByteState) (out' : List ℕ) → Ends layout held too_long state state' out out'
+    pub last_answered : (state' : ByteState) (out' : List ℕ) → Ends layout held too_long state
+        state' out out'
         → IsAnswered layout start input writer out' state'
     last_answered state' out' ends = record {
       text = u.text;
@@ -338,8 +344,10 @@ module _ {layout : ScriptLayout} {start input out held : List ℕ} {writer : Tra
     }
 
 -- at the end of the input nothing is left of a line
-pub all_answered : {layout : ScriptLayout} {start input out : List ℕ} {writer : Traffic} {state : ByteState}
-    → IsUnderway layout start input writer out state [] false → IsAnswered layout start input writer out state
+pub all_answered : {layout : ScriptLayout} {start input out : List ℕ} {writer : Traffic}
+    {state : ByteState}
+    → IsUnderway layout start input writer out state [] false → IsAnswered layout start input writer
+    out state
 all_answered u = record {
   text = u.text;
   taken = u.taken;
@@ -360,7 +368,8 @@ all_answered u = record {
 }
 
 -- the last replies go out, or a front of them
-pub all_out : {layout : ScriptLayout} {start input out : List ℕ} {writer : Traffic} {state : ByteState} (writer' : Traffic)
+pub all_out : {layout : ScriptLayout} {start input out : List ℕ} {writer : Traffic}
+    {state : ByteState} (writer' : Traffic)
     → IsAnswered layout start input writer out state → writer'.bytes ≡ writer.bytes ++ out
     → IsAnswered layout start input writer' [] state
 all_out {layout} {start} {input} {out} writer' a taken = record {
@@ -376,7 +385,8 @@ all_out {layout} {start} {input} {out} writer' a taken = record {
 }
 
 -- or a fault comes before that
-pub answered_begun : {layout : ScriptLayout} {start input out : List ℕ} {writer : Traffic} {state : ByteState}
+pub answered_begun : {layout : ScriptLayout} {start input out : List ℕ} {writer : Traffic}
+    {state : ByteState}
     (fault : ScriptError) → IsAnswered layout start input writer out state
     → IsBegun layout fault start input writer out state
 answered_begun {out = out} fault a = record {
@@ -395,12 +405,14 @@ answered_begun {out = out} fault a = record {
 }
 
 -- of nothing that was read nothing was written
-pub begun_nothing : {layout : ScriptLayout} (fault : ScriptError) (writer : Traffic) (state : ByteState)
+pub begun_nothing : {layout : ScriptLayout} (fault : ScriptError) (writer : Traffic)
+    (state : ByteState)
     → state ≡ empty_state → IsBegun layout fault writer.bytes [] writer [] state
 begun_nothing fault writer state empty = still_begun (nothing_read writer state empty) fault []
 
 -- each input has a reply text
-pub reply_text_exists : (layout : ScriptLayout) (input : List ℕ) → (text : List ℕ) × IsReplyText layout input text
+pub reply_text_exists : (layout : ScriptLayout) (input : List ℕ) → (text : List ℕ)
+    × IsReplyText layout input text
 reply_text_exists layout input =
     let s = split_exists input in
     let lines : List (List ℕ) = s.whole ++ last_line s.rest in

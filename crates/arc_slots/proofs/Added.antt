@@ -1,6 +1,6 @@
 -- What a call by a slot's window adds to the histories of the blocks. Under `Whole` it comes at
 -- once behind all that the block's pass had seen.
-use Rattle.std.proofs.Common.{inl, inr, ◌≡◌, ℕ, Bool, true, List, [], ◌∷◌}
+use Rattle.std.proofs.Common.{inl, inr, ◌≡◌, ◌⊎◌, ℕ, Bool, true, List, [], ◌∷◌}
 use Rattle.std.proofs.Common.{◌++◌, length, Option, Some, None, refl, sym, ap}
 use Rattle.std.proofs.Common.{◌∙◌}
 use Rattle.std.proofs.Common.{subst, IsTrue}
@@ -11,28 +11,30 @@ use Rattle.arc_owners.specs.declared.history.entry.Entry.{Entry}
 use Rattle.arc_owners.specs.declared.history.entry.Entry.TheVariants as entry
 use Rattle.arc_owners.specs.declared.error.OwnerError.{OwnerError}
 use Rattle.arc_owners.specs.declared.error.OwnerError.TheVariants.{AllocError, CountFull}
-use Rattle.arc_owners.specs.history.Histories.{Beginning, Lone, Counted, is_counted, is_promoted}
+use Rattle.arc_owners.specs.history.Histories.{is_counted, is_promoted}
 use Rattle.arc_owners.specs.history.Histories.{owners_ever}
 use Rattle.arc_owners.specs.count.Invariant.{BlockId, Line, entries_of}
 use Rattle.arc_owners.specs.count.Calls.{Owner, Appends, Asks, MakesAnother, FindsFull, MayJoin}
 use Rattle.arc_owners.specs.count.Calls.{Leaves}
 use Rattle.arc_owners.specs.count.Calls.{history_of, seen}
-use Rattle.arc_owners.proofs.Wholes.{before-is, may-stand}
+use Rattle.arc_owners.proofs.Wholes.{before-is, may-stand, promoted-counted}
 use Rattle.arc_block.specs.Block.{Sort}
 use Rattle.arc_block.specs.Owned.{Stand}
 use Rattle.arc_block.specs.Place.{Place}
 use Rattle.arc_commands.specs.Additions.{AddsAt, Raises}
 use Rattle.arc_commands.specs.Additions.{raised, asked, refused}
-use Rattle.arc_slots.specs.Calls.{Along, Beside, RefusesAt, AddsNothing}
+use Rattle.arc_slots.specs.Calls.{Along, Beside, FindsFullAt, RefusesAt, AddsNothing}
+use Rattle.arc_slots.proofs.Told.{why-refused-at}
 
 -- what the end of a window adds
 abbrev pub Ended : {H : Type 0} → Owner → Pass H → Pass H → Type 0
 Ended o p q = (last : Bool) × Leaves o p q last
 
-promoted-counted : (b : Beginning) (h : List Entry) → IsTrue (is_promoted h) → is_counted b h ≡ true
-unfolding is_counted
-promoted-counted Counted h p = refl
-promoted-counted Lone h p = p
+-- what a refusal adds: that the block was full, or nothing
+pub entries-refused : (e : OwnerError) (o : Owner) (history : List Entry)
+    → (refused e o history ≡ entry.Full o.number ∷ []) ⊎ (refused e o history ≡ [])
+entries-refused CountFull o history = inl refl
+entries-refused AllocError o history = inr refl
 
 module _ {H : Type 0} where
   before-lines : {t : BlockId} {old new : Pass H} {before : List Line} {es : List Entry}
@@ -137,10 +139,21 @@ module _ {H : Type 0} where
           raised-next o through.before through.after made through.whole through.called,
         )
 
-    pub refuses-at : {M : Type 0} (wants : Sort → Bool) (place : Place (Option ℕ) M) (e : OwnerError) (s : Stand)
+    full-adds : {M : Type 0} (place : Place (Option ℕ) M) (s : Stand)
+        → FindsFullAt place s passes passes' → AddsAt s (refused CountFull) passes passes'
+    full-adds place None full = absurd full
+    full-adds place (Some (n, o)) full =
+        enters-along FindsFull (refused CountFull) full-comes (Some (n, o)) full.1
+
+    pub refuses-at : {M : Type 0} (wants : Sort → Bool) (place : Place (Option ℕ) M)
+        (e : OwnerError) (s : Stand)
         → RefusesAt wants place s passes passes' e → AddsAt s (refused e) passes passes'
-    refuses-at wants place CountFull None why = absurd why
-    refuses-at wants place CountFull (Some (n, o)) why =
-        enters-along FindsFull (refused CountFull) full-comes (Some (n, o)) why.1
-    refuses-at wants place AllocError s why =
-        enters-along AddsNothing (refused AllocError) nothing-comes s why.1
+    refuses-at wants place e s why =
+        elim (why-refused-at passes passes' wants place s e why) [
+          | inl full ↦
+              subst (λ (x : OwnerError). AddsAt s (refused x) passes passes') (sym full.0)
+              (full-adds place s full.1)
+          | inr memory ↦
+              subst (λ (x : OwnerError). AddsAt s (refused x) passes passes') (sym memory.0)
+              (enters-along AddsNothing (refused AllocError) nothing-comes s memory.1.1)
+        ]

@@ -366,7 +366,8 @@ module _ {T M : Type 0} (setting : Setting T) (windows : ℕ) (s : SlotView T M)
           → Said (w what) reply.Ok (Some new) None passes'
       wrote-in (from.Fresh places) is none new passes' did =
           begins-as (w what) new
-          (with_more (items_of what) (new_writer setting.drops (Some (length passes)) [] places)) passes'
+          (with_more (items_of what) (new_writer setting.drops (Some (length passes)) [] places))
+          passes'
           (write-is what can no_shortage (from.Fresh places) is)
           (λ there. write-adds setting i here passes row one what there passes')
           (none refl) did.1 did.0

@@ -1,5 +1,5 @@
--- What a slot's window is answered that asks whether it is alone, is written from now on, or is taken
--- out: by the sort of its block.
+-- What a slot's window is answered that asks whether it is alone, is written from now on, or is
+-- taken out: by the sort of its block.
 use Rattle.std.proofs.Common.{◌≡◌, ℕ, ◌&&◌, Bool, true, false, if◌then◌else◌, List}
 use Rattle.std.proofs.Common.{length, Option, Some, None, is_some, refl, sym, ap}
 use Rattle.std.proofs.Common.{◌∙◌, subst, slice_set}
@@ -140,7 +140,8 @@ module _ {T M : Type 0} (setting : Setting T) (windows : ℕ) (s : SlotView T M)
 
       told-alone : (found : Bool) → AskedAs at found → alone_at at ≡ found
       told-alone found along =
-          alone-told passes passes' windows found at has along (λ e. absurd (none-some (n, o) (sym e)))
+          alone-told passes passes' windows found at has along
+          (λ e. absurd (none-some (n, o) (sym e)))
 
       uniq-sort : (found : Bool) (sort : Sort) → AsksSort sort at passes passes' found
           → (is_unique (says-short found) (alone_at at) sort ≡ found)
@@ -208,7 +209,8 @@ module _ {T M : Type 0} (setting : Setting T) (windows : ℕ) (s : SlotView T M)
           → answer_any setting (says-short found) around (command.Uniq i) row
           ≡ is_now (if found then reply.Yes else reply.No) row
       uniq-says i found told =
-          for-role setting windows s passes (says-short found) (command.Uniq i) (reads-for setting windows s passes reads (command.Uniq i) true refl)
+          for-role setting windows s passes (says-short found) (command.Uniq i)
+          (reads-for setting windows s passes reads (command.Uniq i) true refl)
           ∙ ap (λ b. is_now (if b then reply.Yes else reply.No) row) told.0
 
       pub uniq : (i : ℕ) (found : Bool) → AsksPlace row.place here passes passes' found
@@ -277,7 +279,8 @@ module _ {T M : Type 0} (setting : Setting T) (windows : ℕ) (s : SlotView T M)
       wrote-adds None (on_block (Some o) offset info) asks decides owner =
           absurd (false≢true (owner refl))
       wrote-adds (Some n) (on_block (Some o) offset info) asks decides owner =
-          by (may_write_sort any info.sort) asks (and_parts (may_write_sort any info.sort) true decides).0
+          by (may_write_sort any info.sort) asks (and_parts (may_write_sort any info.sort) true
+          decides).0
         where
           by : (w : Bool) → MayAsk w (Some (n, o)) passes passes' true → w ≡ true
               → AddsAt (Some (n, o)) (History_asked true) passes passes'
@@ -290,11 +293,13 @@ module _ {T M : Type 0} (setting : Setting T) (windows : ℕ) (s : SlotView T M)
           ≡ (if found then is_now reply.Ok (as_sole setting.drops row) else
           is_now reply.Refused row)
       mut-is i found may =
-          for-role setting windows s passes no_shortage (command.Mut i) (reads-for setting windows s passes reads (command.Mut i) true refl)
+          for-role setting windows s passes no_shortage (command.Mut i)
+          (reads-for setting windows s passes reads (command.Mut i) true refl)
           ∙ ap (λ b. if b then is_now reply.Ok (as_sole setting.drops row) else
           is_now reply.Refused row) may
 
-      pub wrote : (i : ℕ) → MayAsk (is_writable_at setting.writes_any row.place) here passes passes' true
+      pub wrote : (i : ℕ) → MayAsk (is_writable_at setting.writes_any row.place) here passes passes'
+          true
           → may_write_at setting.writes_any true row.place (length row.items) ≡ true
           → (is_on_block row.place ≡ true → is_some here ≡ true)
           → (new : SlotView T M) → stand_of (Some new) ≡ here
@@ -304,7 +309,8 @@ module _ {T M : Type 0} (setting : Setting T) (windows : ℕ) (s : SlotView T M)
         begins = false;
         places = 0;
         change =
-            mut-is i true (may-told setting.writes_any (length row.items) true s.block s.window.place
+            mut-is i true (may-told setting.writes_any (length row.items) true s.block
+            s.window.place
             has asks decides (λ so. owner)) ∙ ap (is_now reply.Ok) (sym is);
         blocks = many-may (is_writable_at setting.writes_any row.place) here true asks;
         adds = (
@@ -338,7 +344,8 @@ module _ {T M : Type 0} (setting : Setting T) (windows : ℕ) (s : SlotView T M)
           ≡ (if found then is_now reply.Ok (as_unique row) else is_now reply.Refused row)
       unique-is i found is =
           for-role setting windows s passes no_shortage (command.Unique i)
-          (several_each (λ role. is_allowed {T = T} {M = M} setting.calls (command.Unique i) role ≡ true)
+          (several_each (λ role. is_allowed {T = T} {M = M} setting.calls (command.Unique i)
+          role ≡ true)
           (λ places. shares) s.role several)
           ∙ ap (λ b. if b then is_now reply.Ok (as_unique row) else is_now reply.Refused row) is
 
@@ -587,7 +594,8 @@ module _ {T M : Type 0} (setting : Setting T) (windows : ℕ) (s : SlotView T M)
   beside-for : (i : ℕ) → is_several s.role ≡ true
       → is_allowed setting.calls (takes i taking.Vector) s.role ≡ true
   beside-for i several =
-      several_each (λ role. is_allowed {T = T} {M = M} setting.calls (takes i taking.Vector) role ≡ true)
+      several_each (λ role. is_allowed {T = T} {M = M} setting.calls (takes i taking.Vector)
+      role ≡ true)
       (λ places. refl) s.role several
 
   pub took-shared : HasPassFor passes here → is_several s.role ≡ true → (i : ℕ)
@@ -611,7 +619,8 @@ module _ {T M : Type 0} (setting : Setting T) (windows : ℕ) (s : SlotView T M)
   take-none i what several none adds =
       same setting windows s passes (takes i what) reply.Kind
       (not-for setting windows s passes no_shortage (takes i what)
-      (several_each (λ role. is_allowed {T = T} {M = M} setting.calls (takes i what) role ≡ false) none s.role
+      (several_each (λ role. is_allowed {T = T} {M = M} setting.calls (takes i what) role ≡ false)
+      none s.role
       several)) adds
 
   pub box-kind : (i : ℕ) → is_several s.role ≡ true

@@ -41,9 +41,11 @@ module _ {T M : Type 0} (setting : Setting T) (i : ℕ) (here : Stand) (passes :
       → (Joins here there made passes passes' (is_itself row part) → (number : ℕ)
       → RowAdds here there made passes passes' setting row (part_command i part) (reply.New number))
       × (Enters here there made passes passes' (refused AllocError)
-      → RowAdds here there made passes passes' setting row (part_command i part) (reply.Owner AllocError))
+      → RowAdds here there made passes passes' setting row (part_command i part)
+      (reply.Owner AllocError))
       × (Enters here there made passes passes' (refused CountFull)
-      → RowAdds here there made passes passes' setting row (part_command i part) (reply.Owner CountFull))
+      → RowAdds here there made passes passes' setting row (part_command i part)
+      (reply.Owner CountFull))
   part-adds All there made passes' = (λ joins number. joins, λ enters. enters, λ enters. enters)
   part-adds (Range start end) there made passes' =
       (λ joins number. joins, λ enters. enters, λ enters. enters)
@@ -59,7 +61,8 @@ module _ {T M : Type 0} (setting : Setting T) (i : ℕ) (here : Stand) (passes :
   )
 
   -- memory for it was refused
-  pub part-none : (part : Part) → RowAdds here here None passes passes setting row (part_command i part)
+  pub part-none : (part : Part) → RowAdds here here None passes passes setting row
+      (part_command i part)
       reply.Alloc
   part-none All = (refl, refl, refl)
   part-none (Range start end) = (refl, refl, refl)

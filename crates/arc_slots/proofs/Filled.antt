@@ -167,7 +167,8 @@ module _ {T M : Type 0} (b : Option ℕ) (w : PartsView T M) (fits : is_numbered
         let len = length w.items in
         ap (λ r. if not (nat_lt (capacity_of w.role - len) k) then Spare else r)
         (numbered_each (λ n place. room_at drops first size (numbered n place) len k
-        ≡ room_at drops first size place len k) refl refl (λ offset info. refl) (λ n o offset info. refl) b w.place
+        ≡ room_at drops first size place len k) refl refl (λ offset info. refl)
+        (λ n o offset info. refl) b w.place
         fits)
 
     pub none-fresh : (drops : Bool) (first size k : ℕ)
@@ -275,7 +276,8 @@ module _ {T M : Type 0} (mine : Role → Bool) (keeps : Keeps mine) (b : Option 
             ≡ with_full len k (numbered n place)) refl refl (λ offset info. refl)
             (λ n o offset info. refl) b w.place fits);
         stand =
-            numbered_each (λ n place. stand_at n (with_full len k place) ≡ stand_at n place) refl refl
+            numbered_each (λ n place. stand_at n (with_full len k place) ≡ stand_at n place) refl
+            refl
             (λ offset info. refl) (λ n o offset info. refl) b w.place fits;
       }
 
@@ -368,14 +370,16 @@ module _ {T M : Type 0} (b : Option ℕ) (w : PartsView T M) (fits : is_numbered
           (
             refl,
             ap (λ u. row_of (writer_slot u n)) made
-                ∙ ap (λ m. row_of (writer_slot (with_more items (with_room x w)) m)) same ∙ now.row_is,
+                ∙ ap (λ m. row_of (writer_slot (with_more items (with_room x w)) m)) same
+                ∙ now.row_is,
             ap (λ (u : PartsView T M). stand_at n u.place) made
                 ∙ ap (λ m. stand_at m (with_more items (with_room x w)).place) same ∙ now.stand,
             back ∙ back-same passes left p b took q none,
           ),
           (
             ap (λ (u : PartsView T M). is_numbered n u.place) made
-                ∙ ap (λ m. is_numbered m (with_more items (with_room x w)).place) same ∙ now.numbers,
+                ∙ ap (λ m. is_numbered m (with_more items (with_room x w)).place) same
+                ∙ now.numbers,
             ap (λ (u : PartsView T M). is_sole u.role) made ∙ now.writes,
           ),
         )
@@ -468,11 +472,14 @@ module _ {T M : Type 0} (b : Option ℕ) (w : PartsView T M) (fits : is_numbered
     unfilled (Refused refusal) e v passes' made back =
         let same = still v passes' made.1 back made.2 in ((made.0, same.0), same.1)
     unfilled Spare e v passes' made back =
-        let fine : ◌≡◌ {A = Result (Unit {0}) TryReserveError} (Err e) (Ok tt) = made.0 in absurd (cc)
+        let fine : ◌≡◌ {A = Result (Unit {0}) TryReserveError} (Err e) (Ok tt) = made.0 in
+        absurd (cc)
     unfilled Behind e v passes' made back =
-        let fine : ◌≡◌ {A = Result (Unit {0}) TryReserveError} (Err e) (Ok tt) = made.0 in absurd (cc)
+        let fine : ◌≡◌ {A = Result (Unit {0}) TryReserveError} (Err e) (Ok tt) = made.0 in
+        absurd (cc)
     unfilled Front e v passes' made back =
-        let fine : ◌≡◌ {A = Result (Unit {0}) TryReserveError} (Err e) (Ok tt) = made.0 in absurd (cc)
+        let fine : ◌≡◌ {A = Result (Unit {0}) TryReserveError} (Err e) (Ok tt) = made.0 in
+        absurd (cc)
 
 -- the same of a slot, whose window is written
 module _ {T M K : Type 0} (small : K → PartsView T M) (h : AnyWindow T M K) (w : PartsView T M)

@@ -40,7 +40,8 @@ new-if true = refl
 new-if false = refl
 
 new-leaves : (by_itself holds : Bool)
-    → is_new (if by_itself then to.LeavesCount else if holds then to.Stays else to.HandedBack) ≡ false
+    → is_new (if by_itself then to.LeavesCount else if holds then to.Stays
+    else to.HandedBack) ≡ false
 new-leaves true holds = refl
 new-leaves false holds = new-if holds
 
@@ -125,7 +126,8 @@ module _ {T M : Type 0} (layout : LayoutFacts) (drops : Bool) (items : List T) (
     from-nowhere false took moved begun same new =
         let made = moved.0 in
         founded took.1 made.owner made.made
-        (subst (λ (x : Window T M). at_owner x.place (Unit {0}) (λ y. IsFirst MAX_OWNERS true Counted y))
+        (subst (λ (x : Window T M). at_owner x.place (Unit {0})
+        (λ y. IsFirst MAX_OWNERS true Counted y))
         made.made made.first)
         (subst (λ (x : Window T M). at_owner x.place (q ≡ p) (λ y. IsFreshPass y q)) made.made
         moved.1) (new begun)
@@ -195,7 +197,8 @@ module _ {T M : Type 0} (layout : LayoutFacts) (drops : Bool) (items : List T) (
 
   numbered-if : (holds : Bool) (b : Option ℕ) (place : At M) → is_numbered b place ≡ true
       → Numbered b place (if holds then to.Stays else to.HandedBack)
-  numbered-if true b place fits moved begun same new = numbered-there b place fits moved (same begun)
+  numbered-if true b place fits moved begun same new =
+      numbered-there b place fits moved (same begun)
   numbered-if false b place fits moved begun same new = absurd moved
 
   numbered-block : (sort : Sort) → IsWritable sort → (b : Option ℕ) (place : At M)
@@ -266,7 +269,8 @@ module _ {T M : Type 0} (w : PartsView T M) (b : Option ℕ) (s : SlotView T M)
       sym (new_is layout b w.place fits writes)
       ∙ ap (λ (t : SlotView T M). is_new (layout_move layout (row_of t).place)) seen-slot
       ∙ begins in
-      let none : b ≡ None = none-is b (and_parts (not (is_some b)) (not layout.has_static) told).0 in
+      let none : b ≡ None = none-is b (and_parts (not (is_some b)) (not layout.has_static) told).0
+      in
       let all : left ≡ passes = (subst (λ c. TakenOut passes c p left) none took).1 in
       subst (λ (ps : List (Pass Whole)). length ps < m) (sym all) (room begins)
     where

@@ -27,7 +27,8 @@ use Rattle.arc_slots.specs.Answers.{Answers, around_in}
 use Rattle.arc_slots.specs.Calls.{AddsNothing, Along, FindsFullAt}
 use Rattle.arc_slots.specs.Parts.{part_command}
 use Rattle.arc_slots.specs.Several.{RefusesBeside, RefusesIf, SplitsBeside, SplitsIf, SplitsMoved}
-use Rattle.arc_slots.specs.Several.{SplitsThere, handed_places, is_split, kept_places, places_answer}
+use Rattle.arc_slots.specs.Several.{SplitsThere, handed_places, is_split, kept_places}
+use Rattle.arc_slots.specs.Several.{places_answer}
 use Rattle.arc_slots.specs.Slots.{SlotView, row_of, stand_of}
 use Rattle.arc_slots.specs.Stands.{HasPassFor}
 use Rattle.arc_slots.specs.declared.part.Part.{Part}
@@ -36,8 +37,8 @@ use Rattle.arc_slots.proofs.Added.{Ended, ended-comes, enters-along, nothing-com
 use Rattle.arc_slots.proofs.Added.{refuses-at}
 use Rattle.arc_slots.proofs.Answered.{for-role, not-for, same}
 use Rattle.arc_slots.proofs.Parted.{handed-block, vector-both}
-use Rattle.arc_slots.proofs.Told.{full-told, many-beside, many-founded, many-refused, many_along}
-use Rattle.arc_slots.proofs.Told.{room-beside, row-block, stand_block}
+use Rattle.arc_slots.proofs.Told.{full-at, full-told, many-beside, many-founded, many-refused}
+use Rattle.arc_slots.proofs.Told.{many_along, room-beside, row-block, stand_block}
 
 -- which of two comes of a test
 picked : {X : Type 0} {b : Bool} {x : X} (y : X) → b ≡ true → (if b then x else y) ≡ x
@@ -180,7 +181,8 @@ module _ {T M : Type 0} (setting : Setting T) (windows : ℕ) (s : SlotView T M)
               refused-adds part is AllocError passes' (
                 refl,
                 refl,
-                enters-along passes passes' AddsNothing (refused AllocError) nothing-comes here along,
+                enters-along passes passes' AddsNothing (refused AllocError) nothing-comes here
+                    along,
               );
         }
 
@@ -216,19 +218,16 @@ module _ {T M : Type 0} (setting : Setting T) (windows : ℕ) (s : SlotView T M)
               → Said c (reply.Owner e) (Some s) None passes'
           split-refused e why = by (is_vector_at row.place) refl why
             where
-              there : (x : OwnerError) → is_vector_at row.place ≡ false
-                  → RefusesIf false row.place here passes passes' x
-                  → Said c (reply.Owner x) (Some s) None passes'
-              there CountFull off why = split-full off why
-              there AllocError off why = absurd why
-
               by : (v : Bool) → is_vector_at row.place ≡ v
                   → RefusesIf v row.place here passes passes' e
                   → Said c (reply.Owner e) (Some s) None passes'
               by true on why =
                   subst (λ x. Said c (reply.Owner x) (Some s) None passes') (sym why.0)
                   (split-memory on passes' why.2)
-              by false off why = there e off why
+              by false off why =
+                  let full = full-at passes passes' row.place here e why in
+                  subst (λ x. Said c (reply.Owner x) (Some s) None passes') (sym full.0)
+                  (split-full off full.1)
 
           module _ (kept made : SlotView T M) where
             abbrev there : Stand
@@ -238,7 +237,8 @@ module _ {T M : Type 0} (setting : Setting T) (windows : ℕ) (s : SlotView T M)
             other = stand_of (Some made)
 
             -- it was split where it stands
-            split-there : is_vector_at row.place ≡ false → SplitsThere part s kept made passes passes'
+            split-there : is_vector_at row.place ≡ false → SplitsThere part s kept made passes
+                passes'
                 → Said c (reply.New windows) (Some kept) (Some made) passes'
             split-there off h =
                 let room =
@@ -252,7 +252,8 @@ module _ {T M : Type 0} (setting : Setting T) (windows : ℕ) (s : SlotView T M)
                   begins = false;
                   places = 0;
                   change =
-                      split-ok no_shortage ∙ unpicked _ (vector-both row.place ∙ off) ∙ unpicked _ room
+                      split-ok no_shortage ∙ unpicked _ (vector-both row.place ∙ off)
+                      ∙ unpicked _ room
                       ∙ ap (λ x. with_made around x (handed_places part row)) (sym h.stays)
                       ∙ ap (with_made around (row_of kept)) (sym h.made);
                   blocks = many-beside passes passes' here other h.beside;
@@ -303,7 +304,8 @@ module _ {T M : Type 0} (setting : Setting T) (windows : ℕ) (s : SlotView T M)
                       ∙ ap (λ d. let r = on_native d (Some (length passes)) row in
                       change (kept_places part r) (handed_places part r)) none
                       ∙ ap (λ r. change (kept_places part r) (handed_places part r)) (sym m.row)
-                      ∙ ap (λ r. change r (handed_places part (row_of m.whole))) (sym m.splits.stays)
+                      ∙ ap (λ r. change r (handed_places part (row_of m.whole)))
+                      (sym m.splits.stays)
                       ∙ ap (change (row_of kept)) (sym m.splits.made);
                   blocks =
                       many-beside m.between passes' at other m.splits.beside

@@ -1,7 +1,7 @@
 -- A part that is handed out of a slot's window, as what that is answered.
-use Rattle.std.proofs.Common.{◌≡◌, ℕ, ◌&&◌, Bool, true, false, if◌then◌else◌, List}
+use Rattle.std.proofs.Common.{inl, inr, ◌≡◌, ℕ, ◌&&◌, Bool, true, false, if◌then◌else◌, List}
 use Rattle.std.proofs.Common.{Option, Some, None, Ok, Err, is_some, refl, sym, ap}
-use Rattle.std.proofs.Common.{◌∙◌}
+use Rattle.std.proofs.Common.{◌∙◌, subst}
 use Rattle.std.proofs.lemmas.Bool.{false≢true}
 use Rattle.arc_owners.specs.declared.mark.Whole.{Whole}
 use Rattle.arc_owners.specs.declared.count.tokens.Pass.{Pass}
@@ -26,7 +26,7 @@ use Rattle.arc_commands.specs.Commands.{ListCmd, ListReply}
 use Rattle.arc_commands.specs.declared.command.Cmd.TheVariants as command
 use Rattle.arc_commands.specs.declared.command.Reply.TheVariants as reply
 use Rattle.arc_slots.specs.Answers.{Answers, around_in}
-use Rattle.arc_slots.specs.Calls.{Beside, RefusesAt}
+use Rattle.arc_slots.specs.Calls.{Beside, FindsFullAt, RefusesAt}
 use Rattle.arc_slots.specs.Parts.{is_itself, is_part_of, part_answer, part_command, part_row}
 use Rattle.arc_slots.specs.Parts.{rest_of}
 use Rattle.arc_slots.specs.Slots.{IsSlotRole, SlotView, row_of, stand_of}
@@ -37,7 +37,7 @@ use Rattle.arc_slots.specs.declared.part.Part.TheVariants.{Whole as All, Range, 
 use Rattle.arc_slots.proofs.ByForm.{part-adds, part-none}
 use Rattle.arc_slots.proofs.Added.{raises-beside}
 use Rattle.arc_slots.proofs.Added.{refuses-at}
-use Rattle.arc_slots.proofs.Told.{full-told, many-beside, many-refused}
+use Rattle.arc_slots.proofs.Told.{full-told, many-beside, many-refused, why-refused-at}
 use Rattle.arc_slots.proofs.Told.{room-beside, row-block}
 use Rattle.arc_slots.proofs.Answered.{for-role, not-for, same}
 
@@ -210,13 +210,11 @@ module _ {T M : Type 0} (setting : Setting T) (windows : ℕ) (s : SlotView T M)
     module _ (has : HasPassFor passes here) (passes' : List (Pass Whole)) (part : Part)
         (for : is_part_of s.role part ≡ true)
         (ok : part_answer setting.boundary s.window.items part ≡ Ok tt) where
-      -- an owner more was refused
-      pub part-refused : (e : OwnerError)
-          → RefusesAt setting.clone_wants
-          (part_row setting.layout.has_static row part).place here passes
-          passes' e
-          → Said (part_command i part) (reply.Owner e) (Some s) None passes'
-      part-refused AllocError why = record {
+      -- memory for an owner more was refused
+      part-memory : RefusesAt setting.clone_wants (new_part i part).place here passes passes'
+          AllocError
+          → Said (part_command i part) (reply.Owner AllocError) (Some s) None passes'
+      part-memory why = record {
         begins = false;
         places = 0;
         change =
@@ -238,7 +236,11 @@ module _ {T M : Type 0} (setting : Setting T) (windows : ℕ) (s : SlotView T M)
                   why,
             );
       }
-      part-refused CountFull why = record {
+
+      -- the block has as many owners as it may have
+      part-full : FindsFullAt (new_part i part).place here passes passes'
+          → Said (part_command i part) (reply.Owner CountFull) (Some s) None passes'
+      part-full why = record {
         begins = false;
         places = 0;
         change =
@@ -261,7 +263,7 @@ module _ {T M : Type 0} (setting : Setting T) (windows : ℕ) (s : SlotView T M)
       }
         where
           full-beside : (st : Stand) → HasPassFor passes st
-              → RefusesAt setting.clone_wants (new_part i part).place st passes passes' CountFull
+              → FindsFullAt (new_part i part).place st passes passes'
               → ((around_in 0 windows passes st).full
               && is_some (block_of (new_part i part).place)) ≡ true
           full-beside None has why = absurd why
@@ -269,6 +271,23 @@ module _ {T M : Type 0} (setting : Setting T) (windows : ℕ) (s : SlotView T M)
               ap (λ b. b && is_some (block_of (new_part i part).place))
               (full-told passes passes' windows n o has why.1)
               ∙ ap is_some why.0
+
+      -- an owner more was refused
+      pub part-refused : (e : OwnerError)
+          → RefusesAt setting.clone_wants
+          (part_row setting.layout.has_static row part).place here passes
+          passes' e
+          → Said (part_command i part) (reply.Owner e) (Some s) None passes'
+      part-refused e why =
+          elim (why-refused-at passes passes' setting.clone_wants (new_part i part).place here e
+          why) [
+            | inl full ↦
+                subst (λ x. Said (part_command i part) (reply.Owner x) (Some s) None passes')
+                (sym full.0) (part-full full.1)
+            | inr memory ↦
+                subst (λ x. Said (part_command i part) (reply.Owner x) (Some s) None passes')
+                (sym memory.0) (part-memory memory.1)
+          ]
 
       -- it was made: the window's owner has the one part, and that one the other
       part-made : (kept made other : SlotView T M)

@@ -1,5 +1,5 @@
--- What can be had of a window, as the code tests it and as relations say it, by a block's number and
--- by its owner.
+-- What can be had of a window, as the code tests it and as relations say it, by a block's number
+-- and by its owner.
 use Rattle.std.proofs.Common.{◌≡◌, ℕ, ◌&&◌, Bool, true, List, length, Option, refl}
 use Rattle.std.proofs.Common.{Some, None, ap, ◌∙◌}
 use Rattle.std.proofs.lemmas.Bool.{false≢true, and_parts}

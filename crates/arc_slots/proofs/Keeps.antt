@@ -1,17 +1,17 @@
 -- Where the windows of a table and the passes of their blocks belong together, they do after what a
 -- command adds.
-use Rattle.std.proofs.Common.{inl, inr, ◌≡◌, ℕ, ◌==◌, Bool, true, false, if◌then◌else◌, List, [], ◌∷◌}
-use Rattle.std.proofs.Common.{◌++◌, length, Option, Some, None, slice_get, slice_set, refl, sym, ap}
-use Rattle.std.proofs.Common.{◌∙◌, subst, arith}
+use Rattle.std.proofs.Common.{inl, inr, ◌≡◌, ℕ, ◌==◌, Bool, true, false, if◌then◌else◌, List, []}
+use Rattle.std.proofs.Common.{◌∷◌, ◌++◌, length, Option, Some, None, slice_get, slice_set, refl}
+use Rattle.std.proofs.Common.{sym, ap, ◌∙◌, subst, arith}
 use Rattle.std.specs.Option.{option_map_or}
 use Rattle.std.proofs.lemmas.Bool.{eq-eqb, eqb-true}
 use Rattle.std.proofs.lemmas.Option.{slice_get_cases}
 use Rattle.std.proofs.lemmas.List.Sorted.{length_permutation, list_any-IsPermutation}
 use Rattle.arc_owners.specs.declared.count.tokens.Pass.{Pass}
 use Rattle.arc_owners.specs.declared.error.OwnerError.{OwnerError}
-use Rattle.arc_owners.specs.declared.error.OwnerError.TheVariants.{AllocError, CountFull}
 use Rattle.arc_owners.specs.declared.error.TryReserveError.{TryReserveError}
 use Rattle.arc_owners.specs.declared.error.TryReserveError.TheVariants as reserve
+use Rattle.arc_owners.specs.declared.history.entry.Entry.{Entry}
 use Rattle.arc_owners.specs.declared.history.entry.Entry.TheVariants as entry
 use Rattle.arc_owners.specs.history.Histories.{is_counted, is_in, live_owners}
 use Rattle.arc_owners.specs.count.Invariant.{BlockId}
@@ -42,6 +42,7 @@ use Rattle.arc_commands.specs.declared.command.Cmd.TheVariants as command
 use Rattle.arc_commands.specs.declared.command.Reply.TheVariants as reply
 use Rattle.arc_slots.specs.Answers.{live_on}
 use Rattle.arc_slots.specs.Stands.{HasPassFor}
+use Rattle.arc_slots.proofs.Added.{entries-refused}
 use Rattle.arc_slots.proofs.Taken.{set-back, set-twice}
 
 number_here : (n : ℕ) (o : Owner) → number_on n (Some (n, o)) ≡ Some o.number
@@ -70,7 +71,8 @@ module _ {H : Type 0} (stands : List Stand) (passes : List (Pass H))
         before = history_of adds.before;
         added = adds.added;
         exact = (
-          λ one. one_is xs o.number (lives n o at adds.before adds.was) (eqb-true (length xs) 1 one),
+          λ one. one_is xs o.number (lives n o at adds.before adds.was)
+              (eqb-true (length xs) 1 one),
           λ alone. eq-eqb (length xs) 1 (ap length alone),
         );
       }))
@@ -145,16 +147,23 @@ module _ {H : Type 0} (stands : List Stand) (passes : List (Pass H))
       (passes' : List (Pass H)) → AddsAt here (refused e) passes passes'
       → IsKept MAX_OWNERS stands passes'
   refused-at None at e passes' adds = subst (IsKept MAX_OWNERS stands) (sym adds) k
-  refused-at (Some (n, o)) at AllocError passes' adds =
-      subst (IsKept MAX_OWNERS stands) (sym adds.others) (kept-same i n k at adds.was adds.added)
-  refused-at (Some (n, o)) at CountFull passes' adds =
-      subst (IsKept MAX_OWNERS stands) (sym adds.others) (kept-full i n k at adds.was (record {
-        middle = adds.before;
-        joined = inl refl;
-        before = history_of adds.before;
-        added = adds.added;
-        full = (may-stand adds.added).2;
-      }))
+  refused-at (Some (n, o)) at e passes' adds =
+      let added = λ (es : List Entry). Appends o.block adds.before adds.after
+      (history_of adds.before) es in
+      subst (IsKept MAX_OWNERS stands) (sym adds.others)
+      (elim (entries-refused e o (seen adds.before)) [
+        | inl full ↦
+            let fills : Appends o.block adds.before adds.after (history_of adds.before)
+            (entry.Full o.number ∷ []) = subst added full adds.added in
+            kept-full i n k at adds.was (record {
+              middle = adds.before;
+              joined = inl refl;
+              before = history_of adds.before;
+              added = fills;
+              full = (may-stand fills).2;
+            })
+        | inr nothing ↦ kept-same i n k at adds.was (subst added nothing adds.added)
+      ])
 
   raised-at : (here other : Stand) → slice_get stands i ≡ Some here → (passes' : List (Pass H))
       → Raises here other passes passes' → IsKept MAX_OWNERS (stands ++ other ∷ []) passes'

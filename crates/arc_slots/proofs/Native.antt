@@ -264,7 +264,8 @@ module _ {T M : Type 0} (items : List T) where
   box-is nowhere is = absurd (false≢true is)
   box-is static_data is = absurd (false≢true is)
   box-is (on_block block offset info) is =
-      let both = and_parts (is_vector info.sort) ((offset == 0) && (info.size == length items)) is in
+      let both = and_parts (is_vector info.sort) ((offset == 0) && (info.size == length items)) is
+      in
       let all = and_parts (offset == 0) (info.size == length items) both.1 in
       record {
         sort = is-vector info.sort both.0;

@@ -9,18 +9,17 @@ use Rattle.std.proofs.lemmas.List.{length-append, length-set, set-append_left}
 use Rattle.arc_owners.specs.declared.mark.Whole.{Whole}
 use Rattle.arc_owners.specs.declared.count.tokens.Pass.{Pass}
 use Rattle.arc_owners.specs.declared.error.OwnerError.{OwnerError}
-use Rattle.arc_owners.specs.declared.error.OwnerError.TheVariants.{AllocError, CountFull}
 use Rattle.arc_owners.specs.history.Histories.{IsLegal, live_owners, owners_ended, owners_ever}
 use Rattle.arc_owners.specs.history.Histories.{is_in}
 use Rattle.arc_owners.specs.count.Invariant.{BlockId, Line, entries_of}
-use Rattle.arc_owners.specs.count.Calls.{FindsFull, IsPassFor, Owner, history_of, seen}
+use Rattle.arc_owners.specs.count.Calls.{IsPassFor, Owner, RefusesOwner, history_of, seen}
 use Rattle.arc_owners.proofs.Wholes.{full-exact}
 use Rattle.arc_block.specs.Block.{Sort, native, vector, buffer, raw}
 use Rattle.arc_block.specs.Owned.{Stand}
 use Rattle.arc_block.specs.Place.{Place, nowhere, static_data, on_block, moved}
 use Rattle.arc_parts.specs.Shared.{LeavesVector, RefusesSplit, RefusesSplitAt, SplitsWriter}
-use Rattle.arc_parts.specs.Shared.{StandsToSplit, StandsToSplitAt, front_of, is_vector, is_vector_at}
-use Rattle.arc_parts.specs.Shared.{on_native}
+use Rattle.arc_parts.specs.Shared.{StandsToSplit, StandsToSplitAt, front_of, is_vector}
+use Rattle.arc_parts.specs.Shared.{is_vector_at, on_native}
 use Rattle.arc_parts.specs.Steps.{IsPassAt, Refuses, Shares}
 use Rattle.arc_block.specs.Table.{Row, block_of}
 use Rattle.arc_parts.specs.Window.{PartsView}
@@ -43,10 +42,11 @@ use Rattle.arc_slots.specs.declared.part.Part.{Part}
 use Rattle.arc_slots.specs.declared.part.Part.TheVariants.{Whole as All, Range, Back, Front}
 use Rattle.arc_slots.specs.declared.window.Held.TheVariants.{Several}
 use Rattle.arc_slots.proofs.Added.{Ended}
-use Rattle.arc_slots.proofs.Slots.{along, moved-fits, moved-numbered, moved-stand, refuses, same-row}
-use Rattle.arc_slots.proofs.Slots.{shares, shares-fits, shares-numbered, still-number}
+use Rattle.arc_slots.proofs.Slots.{along, moved-fits, moved-numbered, moved-stand, refuses}
+use Rattle.arc_slots.proofs.Slots.{same-row, shares, shares-fits, shares-numbered, still-number}
 use Rattle.arc_slots.proofs.Slots.{window-pass}
 use Rattle.arc_slots.proofs.Taken.{set-back}
+use Rattle.arc_slots.proofs.Told.{full-at}
 
 -- where a window stands, by its owner
 abbrev At : Type 0 → Type 0
@@ -160,19 +160,17 @@ module _ {T M : Type 0} (H : Type 0) (real : BlockId → ℕ → List Line → T
   stays-at static_data none stands = absurd stands
   stays-at (on_block owner offset info) none stands = stays-by info.sort none stands
 
--- none is refused there but for too many owners
+-- none is refused there but for an owner more, which wants no memory
 refused-by : {H : Type 0} (sort : Sort) (o : Owner) (p q : Pass H) (e : OwnerError)
-    → is_vector sort ≡ false → RefusesSplit sort o p q e
-    → (e ≡ CountFull) × FindsFull o p q
-refused-by native o p q CountFull none why = (refl, why)
-refused-by native o p q AllocError none why = absurd why
+    → is_vector sort ≡ false → RefusesSplit sort o p q e → RefusesOwner false o p q e
+refused-by native o p q e none why = why
 refused-by vector o p q e none why = absurd (false≢true (sym none))
 refused-by (buffer writable) o p q e none why = absurd why
 refused-by raw o p q e none why = absurd why
 
 refused-at : {M H : Type 0} (place : At M) (p q : Pass H) (e : OwnerError)
     → is_vector_at place ≡ false → RefusesSplitAt place p q e
-    → (e ≡ CountFull) × Refuses (λ sort. false) place p q CountFull
+    → Refuses (λ sort. false) place p q e
 refused-at nowhere p q e none why = absurd why
 refused-at static_data p q e none why = absurd why
 refused-at (on_block None offset info) p q e none why = absurd why
@@ -287,7 +285,8 @@ module _ {T M K : Type 0} (small : K → PartsView T M) (h : AnyWindow T M K) (w
             ap (λ (x : PartsView T M). is_several x.role) kept-is ∙ one.several is-one
 
         pub made-numbered : is_numbered b made.place ≡ true
-        made-numbered = shares-fits p q b handed.place made.place (other.numbers its-number) made-shares
+        made-numbered = shares-fits p q b handed.place made.place (other.numbers its-number)
+            made-shares
 
         pub made-several : is_several w.role ≡ true → is_several made.role ≡ true
         made-several is-one = ap is_several made-is.1 ∙ other.several is-one
@@ -315,12 +314,12 @@ module _ {T M K : Type 0} (small : K → PartsView T M) (h : AnyWindow T M K) (w
       pub places-refused : (e : OwnerError) → RefusesSplitAt w.place p q e
           → RefusesPlaces (row_of s).place (stand_of (Some s)) passes after e
       places-refused e why =
-          let full = refused-at w.place p q e off why in
-          subst (λ x. RefusesPlaces (row_of s).place (stand_of (Some s)) passes after x) (sym full.0)
-          (subst (λ (x : SlotView T M). FindsFullAt (row_of x).place (stand_of (Some x)) passes
-          after) seen-as
-          (subst (λ ps. FindsFullAt (numbered b w.place) (stand_at b w.place) passes ps) (sym back)
-          (refuses passes left p q (λ sort. false) CountFull b w.place its-number its-pass took full.1)))
+          subst (λ (x : SlotView T M). RefusesPlaces (row_of x).place (stand_of (Some x)) passes
+          after e) seen-as
+          (subst (λ ps. RefusesPlaces (numbered b w.place) (stand_at b w.place) passes ps e)
+          (sym back)
+          (refuses passes left p q (λ sort. false) e b w.place its-number its-pass took
+          (refused-at w.place p q e off why)))
 
     -- it leaves a vector, and the new block's pass comes behind the others
     module _ (v : PartsView T M) (q first : Pass Whole)
@@ -378,7 +377,8 @@ module _ {H : Type 0} (old new : List (Pass H)) where
   module _ (n : ℕ) (o : Owner) (founds : Founds (Some (n, o)) old new) where
     first-pass : slice_get new n ≡ Some founds.2
     first-pass =
-        ap (slice_get new) founds.0 ∙ ap (λ (ps : List (Pass H)). slice_get ps (length old)) founds.4
+        ap (slice_get new) founds.0 ∙ ap (λ (ps : List (Pass H)). slice_get ps (length old))
+        founds.4
         ∙ get-push old founds.2
 
     first-is : (q : Pass H) → slice_get new n ≡ Some q → founds.2 ≡ q
@@ -418,9 +418,8 @@ module _ {H : Type 0} (old new : List (Pass H)) where
   pub founded-splits : {M : Type 0} (place : Place (Option ℕ) M) (there : Stand)
       (after : List (Pass H)) (e : OwnerError) → Founds there old new
       → RefusesPlaces place there new after e → ⊥
-  founded-splits place there after CountFull founds why =
-      founded-room place there after founds why
-  founded-splits place there after AllocError founds why = why
+  founded-splits place there after e founds why =
+      founded-room place there after founds (full-at new after place there e why).1
 
 -- ---- a window adds nothing to its block's history, which is legal
 

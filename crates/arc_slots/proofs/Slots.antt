@@ -1,11 +1,12 @@
 -- What a call by a slot's window adds to the pass of its block, it adds to the passes of the table,
 -- where that pass was taken out for it and is put back.
-use Rattle.std.proofs.Common.{◌≡◌, ℕ, Bool, true, false, if◌then◌else◌, List}
+use Rattle.std.proofs.Common.{inl, inr, ◌≡◌, ℕ, Bool, true, false, if◌then◌else◌, List}
 use Rattle.std.proofs.Common.{Option, Some, None, slice_set, refl, sym, ap}
 use Rattle.std.proofs.Common.{◌∙◌, subst}
 use Rattle.std.proofs.lemmas.Bool.{false≢true}
 use Rattle.arc_owners.specs.declared.count.tokens.Pass.{Pass}
 use Rattle.arc_owners.specs.count.Calls.{Owner, MakesAnother, FindsFull}
+use Rattle.arc_owners.proofs.Wholes.{why-refused}
 use Rattle.arc_owners.specs.declared.error.OwnerError.{OwnerError}
 use Rattle.arc_owners.specs.declared.error.OwnerError.TheVariants.{AllocError, CountFull}
 use Rattle.arc_block.specs.Block.{Sort, BlockInfo}
@@ -230,21 +231,27 @@ module _ {M H : Type 0} (passes : List (Pass H)) where
           → RefusesAt wants (numbered b place) (stand_at b place) passes (put_back left b new) e
       refuses wants e b nowhere fits has took why = absurd why
       refuses wants e b static_data fits has took why = absurd why
-      refuses wants CountFull None (on_block None offset facts) fits has took why = absurd why
-      refuses wants CountFull None (on_block (Some o) offset facts) fits has took why =
+      refuses wants e None (on_block None offset facts) fits has took why =
+          subst (λ (x : OwnerError). RefusesAt wants (on_block None offset facts) None passes
+          (put_back left None new) x) (sym why.0)
+          (why.1, back-same passes left p None took new why.2)
+      refuses wants e None (on_block (Some o) offset facts) fits has took why =
           absurd (false≢true fits)
-      refuses wants CountFull (Some n) (on_block None offset facts) fits has took why =
+      refuses wants e (Some n) (on_block None offset facts) fits has took why =
           absurd (false≢true fits)
-      refuses wants CountFull (Some n) (on_block (Some owner) offset facts) fits has took why =
-          (refl, through passes left p new n owner FindsFull has took why)
-      refuses wants AllocError None (on_block None offset facts) fits has took why =
-          (why.0, back-same passes left p None took new why.1)
-      refuses wants AllocError None (on_block (Some o) offset facts) fits has took why =
-          absurd (false≢true fits)
-      refuses wants AllocError (Some n) (on_block None offset facts) fits has took why =
-          absurd (false≢true fits)
-      refuses wants AllocError (Some n) (on_block (Some owner) offset facts) fits has took why =
-          (why.0, through passes left p new n owner AddsNothing has took (why.2, why.3))
+      refuses wants e (Some n) (on_block (Some owner) offset facts) fits has took why =
+          elim (why-refused (wants facts.sort) owner p new e why) [
+            | inl full ↦
+                subst (λ (x : OwnerError). RefusesAt wants (on_block (Some n) offset facts)
+                (Some (n, owner)) passes (slice_set left n new) x) (sym full.0)
+                (refl, through passes left p new n owner FindsFull has took full.1)
+            | inr memory ↦
+                subst (λ (x : OwnerError). RefusesAt wants (on_block (Some n) offset facts)
+                (Some (n, owner)) passes (slice_set left n new) x) (sym memory.0) (
+                  memory.1.0,
+                  through passes left p new n owner AddsNothing has took (memory.1.2, memory.1.3),
+                )
+          ]
 
       -- the same for a part
       pub shares-part : (nothing : Bool) (start : ℕ) (b : Option ℕ) (place there : At M)

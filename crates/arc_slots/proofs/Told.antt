@@ -1,5 +1,5 @@
 -- What the pass of a window's block tells of the rest of its table.
-use Rattle.std.proofs.Common.{inl, inr, ◌≡◌, ℕ, ◌&&◌, Bool, true, false, List, length}
+use Rattle.std.proofs.Common.{inl, inr, ◌≡◌, ◌⊎◌, ℕ, ◌&&◌, Bool, true, false, List, length}
 use Rattle.std.proofs.Common.{[], ◌∷◌}
 use Rattle.std.proofs.Common.{Option, Some, None, is_some, refl, sym, ap, ◌∙◌, arith, slice_get}
 use Rattle.std.specs.Option.{option_map, option_map_or}
@@ -18,9 +18,10 @@ use Rattle.arc_block.specs.Owned.{Stand}
 use Rattle.arc_block.specs.Place.{Place, nowhere, static_data, on_block}
 use Rattle.arc_block.specs.Table.{Row, block_of}
 use Rattle.arc_commands.specs.Additions.{Founds}
+use Rattle.arc_commands.specs.Changes.{of_clones, is_wanting}
 use Rattle.arc_commands.specs.Step.{with_block}
 use Rattle.arc_slots.specs.Answers.{around_in, live_on}
-use Rattle.arc_slots.specs.Calls.{Through, Along, Beside, RefusesAt, AddsNothing}
+use Rattle.arc_slots.specs.Calls.{Through, Along, Beside, FindsFullAt, RefusesAt, AddsNothing}
 use Rattle.arc_slots.specs.Slots.{SlotView, row_of, stand_of}
 use Rattle.arc_slots.specs.Stands.{HasPassFor, numbered, stand_at}
 
@@ -80,13 +81,45 @@ module _ {H : Type 0} (passes passes' : List (Pass H)) where
   many-beside (Some (n, o)) (Some made) joins =
       ap length joins.1.others ∙ length-set passes n joins.1.after
 
+  -- Why no window was made beside one that stands here: its block was full, or memory was refused.
+  -- What else is known of a refusal goes by this, so that no other proof matches on the error.
+  pub why-refused-at : {M : Type 0} (wants : Sort → Bool) (place : Place (Option ℕ) M) (s : Stand)
+      (e : OwnerError) → RefusesAt wants place s passes passes' e
+      → ((e ≡ CountFull) × FindsFullAt place s passes passes')
+      ⊎ ((e ≡ AllocError) × RefusesAt wants place s passes passes' AllocError)
+  why-refused-at wants place s CountFull full = inl (refl, full)
+  why-refused-at wants place s AllocError why = inr (refl, why)
+
+  wants-none : {M : Type 0} (place : Place (Option ℕ) M)
+      → is_wanting of_clones (λ sort. false) place ≡ true → ⊥
+  wants-none nowhere wants = false≢true wants
+  wants-none static_data wants = false≢true wants
+  wants-none (on_block block offset info) wants = false≢true wants
+
+  -- where no memory is wanted the block was full
+  pub full-at : {M : Type 0} (place : Place (Option ℕ) M) (s : Stand) (e : OwnerError)
+      → RefusesAt (λ sort. false) place s passes passes' e
+      → (e ≡ CountFull) × FindsFullAt place s passes passes'
+  full-at place s e why =
+      elim (why-refused-at (λ sort. false) place s e why) [
+        | inl full ↦ full
+        | inr memory ↦ absurd (wants-none place memory.1.0)
+      ]
+
+  many-full : {M : Type 0} (place : Place (Option ℕ) M) (s : Stand)
+      → FindsFullAt place s passes passes' → length passes' ≡ length passes
+  many-full place None full = absurd full
+  many-full place (Some (n, o)) full =
+      ap length full.1.others ∙ length-set passes n full.1.after
+
   pub many-refused : {M : Type 0} (wants : Sort → Bool) (place : Place (Option ℕ) M) (s : Stand)
       (e : OwnerError) → RefusesAt wants place s passes passes' e
       → length passes' ≡ length passes
-  many-refused wants place None CountFull why = absurd why
-  many-refused wants place (Some (n, o)) CountFull why =
-      ap length why.1.others ∙ length-set passes n why.1.after
-  many-refused wants place s AllocError why = many_along s AddsNothing why.1
+  many-refused wants place s e why =
+      elim (why-refused-at wants place s e why) [
+        | inl full ↦ many-full place s full.1
+        | inr memory ↦ many_along s AddsNothing memory.1.1
+      ]
 
   module _ (windows : ℕ) where
     -- how many owners live, where this pass of the block was found

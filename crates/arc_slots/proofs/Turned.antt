@@ -94,7 +94,8 @@ module _ {T M : Type 0} (setting : Setting T) (windows : ℕ) (s : SlotView T M)
         by to.NewCount is did = absurd did
         by to.LeavesCount is did = absurd did
         by to.NewEmpty is did =
-            begins-as setting windows s passes freeze new (made_row false setting.drops (length passes) row.items) passes'
+            begins-as setting windows s passes freeze new
+            (made_row false setting.drops (length passes) row.items) passes'
             (frozen-is no_shortage to.NewEmpty is) (λ there adds. adds)
             (new-none setting.layout s.block s.window.place (ap is_new is))
             did.1 did.0
@@ -108,13 +109,17 @@ module _ {T M : Type 0} (setting : Setting T) (windows : ℕ) (s : SlotView T M)
             → Said freeze reply.Refused (Some s) None passes
         by to.Stays is none = absurd none
         by to.HandedBack is none =
-            same setting windows s passes freeze reply.Refused (frozen-is of_blocks to.HandedBack is) (refl, refl, refl)
+            same setting windows s passes freeze reply.Refused
+            (frozen-is of_blocks to.HandedBack is) (refl, refl, refl)
         by to.NewCount is none =
-            same setting windows s passes freeze reply.Refused (frozen-is of_blocks to.NewCount is) (refl, refl, refl)
+            same setting windows s passes freeze reply.Refused (frozen-is of_blocks to.NewCount is)
+            (refl, refl, refl)
         by to.LeavesCount is none =
-            same setting windows s passes freeze reply.Refused (frozen-is of_blocks to.LeavesCount is) (refl, refl, refl)
+            same setting windows s passes freeze reply.Refused
+            (frozen-is of_blocks to.LeavesCount is) (refl, refl, refl)
         by to.NewEmpty is none =
-            same setting windows s passes freeze reply.Refused (frozen-is of_blocks to.NewEmpty is) (refl, refl, refl)
+            same setting windows s passes freeze reply.Refused (frozen-is of_blocks to.NewEmpty is)
+            (refl, refl, refl)
 
   -- ---- who is one of several from now on
 

@@ -1,5 +1,6 @@
 -- What the window of a slot is answered to a command, and what becomes of it.
-use Rattle.std.specs.Prelude.{◌≡◌, ℕ, ◌==◌, Bool, true, false, List, length, Option, Some, None, slice_get}
+use Rattle.std.specs.Prelude.{◌≡◌, ℕ, ◌==◌, Bool, true, false, List, length, Option, Some, None}
+use Rattle.std.specs.Prelude.{slice_get}
 use Rattle.std.specs.Option.{option_map, option_map_or}
 use Rattle.arc_owners.specs.declared.mark.Whole.{Whole}
 use Rattle.arc_owners.specs.declared.count.tokens.Pass.{Pass}
@@ -56,8 +57,8 @@ pub record Answers {T M : Type 0} (setting : Setting T) (windows : ℕ) (c : Lis
       (option_map (λ s. stand_of (Some s)) made) before after setting (row_of old) c r
 
 module _ {T M H : Type 0} where
-  -- Two slots' windows were to be joined, and this was said: they were, and the other has gone, whose
-  -- owner ended; or they weren't, and nothing changed.
+  -- Two slots' windows were to be joined, and this was said: they were, and the other has gone,
+  -- whose owner ended; or they weren't, and nothing changed.
   abbrev pub JoinAnswers : Calls → (i j : ℕ) → (old other : SlotView T M)
       → (before : List (Pass H)) → ListReply T M → (new its : Option (SlotView T M))
       → (after : List (Pass H)) → Type 0

@@ -32,8 +32,8 @@ module _ {T : Type 0} where
   IsPart boundary items (Back at) = IsEdge boundary items at
   IsPart boundary items (Front at) = IsEdge boundary items at
 
--- whether such a part is handed out of a window of this role: each of a reader, and of a small window
--- a clone and a range
+-- whether such a part is handed out of a window of this role: each of a reader, and of a small
+-- window a clone and a range
 abbrev pub is_part_of : Role → Part → Bool
 is_part_of reader part = true
 is_part_of inline Whole = true

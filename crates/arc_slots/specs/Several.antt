@@ -19,7 +19,7 @@ use Rattle.arc_parts.specs.Shared.{on_native, split_answer}
 use Rattle.arc_block.specs.Table.{Row, RowOf}
 use Rattle.arc_parts.specs.Writers.{Reclaims, after_advance, capacity_of, new_writer, with_room}
 use Rattle.arc_commands.specs.Additions.{Founds}
-use Rattle.arc_slots.specs.Calls.{AddsNothing, Along, Beside, FindsFullAt}
+use Rattle.arc_slots.specs.Calls.{AddsNothing, Along, Beside, RefusesAt}
 use Rattle.arc_slots.specs.Slots.{SlotView, row_of, stand_of}
 use Rattle.arc_slots.specs.Writing.{IsUnchanged}
 use Rattle.arc_slots.specs.declared.part.Part.{Part}
@@ -81,11 +81,10 @@ module _ {H : Type 0} where
     pub stands : is_some there ≡ true
     pub begins : Founds there between new
 
-  -- a split was refused: the block had as many owners as it may have
+  -- a split was refused, which wants no memory: the block had as many owners as it may have
   abbrev pub RefusesPlaces : {M : Type 0} → Place (Option ℕ) M → Stand → List (Pass H)
       → List (Pass H) → OwnerError → Type 0
-  RefusesPlaces place here old new owner_error.CountFull = FindsFullAt place here old new
-  RefusesPlaces place here old new owner_error.AllocError = ⊥
+  RefusesPlaces place here old new e = RefusesAt (λ sort. false) place here old new e
 
 module _ {M H : Type 0} where
   -- The places of a window weren't split: its block had as many owners as it may have, or memory
@@ -101,9 +100,10 @@ module _ {M H : Type 0} where
   RefusesBeside place here old new e = RefusesIf (is_vector_at place) place here old new e
 
 module _ {T M H : Type 0} where
-  -- The places of a window were split where it stands: it keeps these, and those were handed out, as
-  -- another owner's of the block.
-  pub record SplitsThere (part : Part) (old new handed : SlotView T M) (before after : List (Pass H))
+  -- The places of a window were split where it stands: it keeps these, and those were handed out,
+  -- as another owner's of the block.
+  pub record SplitsThere (part : Part) (old new handed : SlotView T M)
+      (before after : List (Pass H))
       : Type 0 where
     pub stays : row_of new ≡ kept_places part (row_of old)
     pub made : row_of handed ≡ handed_places part (row_of old)
@@ -111,7 +111,8 @@ module _ {T M H : Type 0} where
     pub beside : Beside (stand_of (Some old)) before after (stand_of (Some handed))
 
   -- A window of a vector moved to a native block with as many places first, and is its first owner.
-  pub record SplitsMoved (part : Part) (old new handed : SlotView T M) (before after : List (Pass H))
+  pub record SplitsMoved (part : Part) (old new handed : SlotView T M)
+      (before after : List (Pass H))
       : Type 0 where
     pub between : List (Pass H)
     pub whole : SlotView T M

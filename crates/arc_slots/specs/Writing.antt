@@ -89,8 +89,8 @@ module _ {T M H : Type 0} where
   IsUnchanged old new before after = (new ≡ old) × (after ≡ before)
 
   -- A slot's window has this room, and these items behind its others: on the block on which it
-  -- stood, or as the first owner of a block more. Or it was refused the room, and nothing changed. A
-  -- caller's buffer makes its own room, or refuses it.
+  -- stood, or as the first owner of a block more. Or it was refused the room, and nothing changed.
+  -- A caller's buffer makes its own room, or refuses it.
   abbrev pub Fills : (drops : Bool) → Room → List T → (old new : SlotView T M)
       → (before after : List (Pass H)) → Result (Unit {0}) TryReserveError → Type 0
   Fills drops (Fresh places) items old new before after (Ok done) =

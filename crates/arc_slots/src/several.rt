@@ -38,6 +38,7 @@ use std::sync::Wait;
 
 /// Writes into a window of several, by a call that its kind has: room is made, and the items are
 /// put behind the others. Refused, nothing changes, and what was to be written is let go.
+#[inline(always)]
 fn write_beside_as<
     S: Commands<A>,
     K: LayoutMut,
@@ -426,6 +427,7 @@ where
     ///
     /// On a block, where the window hasn't the places already, Alone with the answer. A first
     /// block's history begins.
+    #[inline(always)]
     pub fn write_beside(
         &mut self,
         what: Writing<Vec<S::Item, A>, S::Item>,

@@ -69,6 +69,7 @@ impl<T, A: Allocator> Writing<Vec<T, A>, T> {
     ghost use Rattle.arc_slots.specs.Writing.{seen_writing, additional_of};
 
     /// For how many items there is to be room.
+    #[inline(always)]
     pub fn additional(&self) -> usize
         ensures { result ≡ additional_of (seen_writing self.now) }
     {
@@ -82,6 +83,7 @@ impl<T, A: Allocator> Writing<Vec<T, A>, T> {
 
 /// Writes into a window, by a call that its kind has: room is made, and the items are put behind
 /// the others. Refused, nothing changes, and what was to be written is let go.
+#[inline(always)]
 fn write_as<
     S: Commands<A>,
     K: LayoutMut,
@@ -632,6 +634,7 @@ where
     }
 
     /// Whether a first block has to be made for so many items more in the window, which is written.
+    #[inline(always)]
     pub fn wants_block(&self, additional: usize) -> bool
         requires { is_writer self.now.role ≡ true }
         ensures { result ≡ is_fresh
@@ -664,6 +667,7 @@ where
     /// # History
     ///
     /// None. A first block's history begins.
+    #[inline(always)]
     pub fn write(
         &mut self,
         what: Writing<Vec<S::Item, A>, S::Item>,

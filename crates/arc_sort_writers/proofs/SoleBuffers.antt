@@ -357,7 +357,8 @@ lent_held {T} {B} {M} {A} list places drops one_pass o content start end w view 
     let seen : block_part drops (held_in {A = A} list places drops o (Buffer after)) start end
     ≡ with_items w ws =
     ap (λ ys. make (sub ys start end) (places new) (length (list new))) now
-    ∙ ap (λ ys. make ys (places new) (length (list new))) (part-written xs ws start end here.1 here.2)
+    ∙ ap (λ ys. make ys (places new) (length (list new)))
+    (part-written xs ws start end here.1 here.2)
     ∙ ap (λ p. make (refill (length part) part ws) p (length (list new))) room
     ∙ ap (make (refill (length part) part ws) (places held.buffer)) long
     ∙ ap (λ s. with_items s ws) there in

@@ -12,7 +12,8 @@ use Rattle.arc_block.specs.Natives.{IsKeptFor, IsLaidFor}
 use Rattle.arc_sort_writers.specs.NativeWriters.{KeepsPlaces}
 
 -- how many places the memory has that a block keeps
-pub kept_size : {T A : Type 0} (kept kept' : Kept T A) (memory : LentMemory) (count : ℕ) → KeepsPlaces kept memory
+pub kept_size : {T A : Type 0} (kept kept' : Kept T A) (memory : LentMemory) (count : ℕ)
+    → KeepsPlaces kept memory
     → kept' ≡ kept → count ≡ (kept_in kept').inheritance.memory.whole → count ≡ memory.whole
 kept_size (Places kept) kept' memory count keeps is counts =
     counts ∙ ap (λ k. (kept_in k).inheritance.memory.whole) is ∙ ap (λ m. m.whole) keeps
@@ -26,7 +27,8 @@ module _ {T A : Type 0} (kept kept' : Kept T A) (is : kept' ≡ kept) where
       ap (λ k. (kept_in k).inheritance.memory.lifetime) is
       ∙ ap (λ m. m.lifetime) (memory-of kept memory keeps) ∙ sym same
     where
-      memory-of : (k : Kept T A) (m : LentMemory) → KeepsPlaces k m → (kept_in k).inheritance.memory ≡ m
+      memory-of : (k : Kept T A) (m : LentMemory) → KeepsPlaces k m
+          → (kept_in k).inheritance.memory ≡ m
       memory-of (Places k) m keeps = keeps
       memory-of (Items k) m keeps = absurd keeps
 

@@ -186,8 +186,9 @@ impl<S: Slice, B: Buffer<S::Item> + Drop, M: Drop, A: Allocator + Copy, H: Mark>
         items: Vec<S::Item, A>,
         pass: &mut Pass<H>,
     ) -> Result<Self, Vec<S::Item, A>>
-        ensures made { IfOk result (λ parts. IsWriterOver Counted vector S.DROPS H.whole items.items
-            (vec_capacity items) parts pass.new) }
+        ensures made { IfOk result (λ parts.
+            IsWriterOver Counted vector S.DROPS H.whole items.items (vec_capacity items) parts
+            pass.new) }
         ensures refused { IfErr result (λ back. (back ≡ items) × (pass.new ≡ pass.old)) }
     {
         let end = items.len();

@@ -211,7 +211,13 @@ module _ {T M : Type 0} (setting : Setting T) (slots : List (Option (SlotView T 
               ∙ ap (λ a. changed t i (answer_any setting (shortage r c) a c (row_of s)))
               (sym (around-is said.places))
               ∙ ap (changed t i) said.change
-              ∙ ap (λ rs. (r, record { rows = rs; blocks = with_block said.begins (length passes) })) rows
+              ∙ ap (λ rs. (
+                r,
+                record {
+                  rows = rs;
+                  blocks = with_block said.begins (length passes);
+                },
+              )) rows
               ∙ ap (λ n. (r, record { rows = map (option_map row_of) slots'; blocks = n }))
               (sym said.blocks);
         })
@@ -412,7 +418,8 @@ module _ {T M : Type 0} (setting : Setting T) (slots : List (Option (SlotView T 
   -- what is said of each setting and count of windows is said of these
   pub ended : (i : ℕ) (place : Option (SlotView T M)) (r : ListReply T M)
       (new : Option (SlotView T M)) (passes' : List (Pass Whole))
-      → IfSome place (λ s. (any : Setting T) (next j : ℕ) → Answers any next (command.Drop j) s passes
+      → IfSome place (λ s. (any : Setting T) (next j : ℕ) → Answers any next (command.Drop j) s
+      passes
       reply.Ok new None passes')
       → IfSome place (λ s. r ≡ reply.Ok)
       → IfSome place (λ s. Answers setting (length slots) (command.Drop i) s passes r new None
@@ -445,7 +452,8 @@ module _ {T M : Type 0} (setting : Setting T) (slots : List (Option (SlotView T 
       (answered i s there (command.Show i) refl refl reply.Kind (Some s) None passes
       (same setting (length slots) s passes (command.Show i) reply.Kind
       (not-for setting (length slots) s passes no_shortage (command.Show i)
-      (slot_each (λ r. is_allowed {T = T} {M = M} setting.calls (command.Show i) r ≡ false) none (λ n. none)
+      (slot_each (λ r. is_allowed {T = T} {M = M} setting.calls (command.Show i) r ≡ false) none
+      (λ n. none)
       (λ n. none) none s.role role)) (refl, refl, refl)))
 
   -- ---- a join of two windows
@@ -560,7 +568,8 @@ module _ {T M : Type 0} (setting : Setting T) (slots : List (Option (SlotView T 
           stands' : stands_of slots' ≡ slice_set (stands_of slots) j None
           stands' =
               map-slice_set stand_of (slice_set slots j None) i (Some whole)
-              ∙ ap (λ ss. slice_set ss i (stand_of (Some whole))) (map-slice_set stand_of slots j None)
+              ∙ ap (λ ss. slice_set ss i (stand_of (Some whole)))
+              (map-slice_set stand_of slots j None)
               ∙ ap (slice_set (slice_set (stands_of slots) j None) i) stand
               ∙ set-back (slice_set (stands_of slots) j None) i (stand_of (Some s))
               (get-set_other (stands_of slots) j i None apart ∙ stand-at i s there)
@@ -580,8 +589,16 @@ module _ {T M : Type 0} (setting : Setting T) (slots : List (Option (SlotView T 
                 enough = omega arith;
                 answered =
                     pair-is ∙ is
-                    ∙ ap (λ rs. (reply.Ok, record { rows = rs; blocks = length passes })) (sym rows')
-                    ∙ ap (λ n. (reply.Ok, record { rows = map (option_map row_of) slots'; blocks = n }))
+                    ∙ ap (λ rs. (reply.Ok, record { rows = rs; blocks = length passes }))
+                    (sym rows')
+                    ∙ ap (λ n. (
+                      reply.Ok,
+                      record {
+                        rows = map (option_map row_of) slots';
+                        blocks =
+                            n;
+                      },
+                    ))
                     (sym (many_along passes passes' (stand_of (Some o)) Ended left));
               }) (
                 subst (λ st. AddsAt st end_entry passes passes') (sym (stand-is j o beside)) ends,
@@ -593,7 +610,8 @@ module _ {T M : Type 0} (setting : Setting T) (slots : List (Option (SlotView T 
             → Done setting old join r (slice_set (slice_set slots j its) i new) passes'
         paired reply.Ok new its said =
             let whole = said.0 in
-            subst (λ x. Done setting old join reply.Ok (slice_set (slice_set slots j its) i x) passes')
+            subst (λ x. Done setting old join reply.Ok (slice_set (slice_set slots j its) i x)
+            passes')
             (sym said.3)
             (subst (λ x. Done setting old join reply.Ok
             (slice_set (slice_set slots j x) i (Some whole)) passes') (sym said.4)

@@ -13,7 +13,7 @@ use Rattle.arc_parts.specs.declared.room.Room.TheVariants.{Growth, Own, Refused}
 use Rattle.arc_block.specs.Layouts.{LayoutFacts, holds_block}
 use Rattle.arc_block.specs.Moves.{IsRefused, counted_move, layout_move}
 use Rattle.arc_block.specs.declared.layout.Move.TheVariants.{Stays, HandedBack}
-use Rattle.arc_block.specs.Place.{Place, nowhere, static_data, on_block, IsOnBlock, moved}
+use Rattle.arc_block.specs.Place.{Place, nowhere, static_data, on_block, moved}
 use Rattle.arc_parts.specs.Window.{PartsView, IsBlockHeld}
 use Rattle.arc_block.specs.Place.{at_front}
 use Rattle.arc_parts.specs.Writers.{with_size, with_full, with_room, with_more}
@@ -21,7 +21,7 @@ use Rattle.arc_parts.specs.Writers.{with_capacity, after_advance, after_truncate
 use Rattle.arc_parts.specs.Writers.{MakesRoom, Pushes, Reclaims}
 use Rattle.arc_parts.specs.Writers.{MakesWriterOver, MakesBufferWriter}
 use Rattle.arc_block.specs.Layouts.{MayWrite}
-use Rattle.arc_parts.specs.Writers.{BecomesSoleAt, RefusesSoleAt}
+use Rattle.arc_parts.specs.Writers.{RefusesSoleAt}
 
 -- another place of the block, and one of the block with other places, are held too
 module _ {M : Type 0} (layout : LayoutFacts) where
@@ -154,11 +154,13 @@ module _ {T M : Type 0} (layout : LayoutFacts) where
       (λ (r : TryReserveError × T). r.0) (Err r) tt refused.1 held
 
   -- a new window, on nothing or on a block of a sort that the layout holds
-  over-held : {H : Type 0} (beginning : Beginning) (sort : Sort) (drops one_pass : Bool) (items : List T) (places : ℕ)
+  over-held : {H : Type 0} (beginning : Beginning) (sort : Sort) (drops one_pass : Bool)
+      (items : List T) (places : ℕ)
       (w : PartsView T M) (before after : Pass H)
       → ((o : Owner) → holds_block layout (Some o) sort ≡ true)
       → MakesWriterOver beginning sort drops one_pass items places w before after → HoldsRow w
-  over-held beginning sort drops one_pass items zero w before after holds made = same (made.idle refl).0 tt
+  over-held beginning sort drops one_pass items zero w before after holds made =
+      same (made.idle refl).0 tt
   over-held beginning sort drops one_pass items (suc n) w before after holds made =
       let new = made.new (omega arith) in same new.made (holds new.owner)
 

@@ -1,4 +1,5 @@
--- What the window of one of several writers stands on is held by its layout, whatever is done to it.
+-- What the window of one of several writers stands on is held by its layout, whatever is done to
+-- it.
 use Rattle.std.proofs.Common.{◌≡◌, ℕ, Bool, true, false, List, [], ◌∷◌, ◌++◌, length}
 use Rattle.std.proofs.Common.{Option, Some, None, refl, sym, ap, subst}
 use Rattle.std.specs.Prelude.{Result, Ok, Err, OnOk, IfOk, OnErr, IfErr}
@@ -89,7 +90,8 @@ module _ {T M : Type 0} (layout : LayoutFacts) where
       → IsBlockHeld layout old.place → IsBlockHeld layout new.place
   shared_extend_held asks one_pass room xs old new before after why (Ok done) pushed refused held =
       same pushed.pushed
-      (shared_room_held asks one_pass room old pushed.between before after (Ok tt) pushed.makes held)
+      (shared_room_held asks one_pass room old pushed.between before after (Ok tt) pushed.makes
+      held)
   shared_extend_held asks one_pass room xs old new before after why (Err e) pushed refused held =
       shared_room_held asks one_pass room old new before after (Err (why e)) refused held
 
@@ -138,7 +140,8 @@ module _ {T M : Type 0} (layout : LayoutFacts) where
       let whole = stands-held real one_pass w split.whole before split.between w.place split.stands
       held in (
         same split.stays whole,
-        shares-held layout (after_advance at split.whole).place back.place split.between after split.shares
+        shares-held layout (after_advance at split.whole).place back.place split.between after
+            split.shares
             (advance-held at split.whole whole),
       )
 
@@ -150,7 +153,8 @@ module _ {T M : Type 0} (layout : LayoutFacts) where
   split_to_held real one_pass at w front back before after split held =
       let whole = stands-held real one_pass w split.whole before split.between w.place split.stands
       held in (
-        shares-held layout (front_of at split.whole).place front.place split.between after split.shares
+        shares-held layout (front_of at split.whole).place front.place split.between after
+            split.shares
             whole,
         same split.stays (advance-held at split.whole whole),
       )

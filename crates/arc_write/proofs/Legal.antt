@@ -1,5 +1,7 @@
 -- What is written stays legal.
-use Rattle.std.proofs.Common.{◌≡◌, ℕ, ◌<◌, ◌≤◌, Bool, not, true, false, List, [], ◌∷◌, ◌++◌, length, take, drop, if◌then◌else◌, Option, Result, Ok, Err, OnOk, IfErr, refl, sym, ap, ◌∙◌, subst, arith}
+use Rattle.std.proofs.Common.{◌≡◌, ℕ, ◌<◌, ◌≤◌, Bool, not, true, false, List, [], ◌∷◌, ◌++◌, length}
+use Rattle.std.proofs.Common.{take, drop, if◌then◌else◌, Option, Result, Ok, Err, OnOk, IfErr, refl}
+use Rattle.std.proofs.Common.{sym, ap, ◌∙◌, subst, arith}
 use Rattle.std.specs.Prelude.{nat_lt}
 use Rattle.std.proofs.Math.Logic.{∥∥₁_map}
 use Rattle.std.proofs.Math.Dec.{T}
@@ -53,7 +55,8 @@ module _ {X : Type 0} (legal : List X → Type 0) where
       → ((xs : List X) → legal xs → IsEdge boundary xs 0 × IsEdge boundary xs (length xs))
       → (xs : List X) (n : ℕ) → IsEdge boundary xs n → ∥ legal xs ∥₁ → ∥ legal (drop n xs) ∥₁
   back-legal boundary part ends xs n edge l =
-      let all : sub xs n (length xs) ≡ drop n xs = ap (drop n) (take_all (length xs) xs (omega arith)) in
+      let all : sub xs n (length xs) ≡ drop n xs = ap (drop n)
+      (take_all (length xs) xs (omega arith)) in
       ∥∥₁_map l (λ h. subst legal all (part xs n (length xs) h (record {
         ordered = edge.within;
         within = omega arith;
@@ -66,7 +69,8 @@ module _ {X : Type 0} (legal : List X → Type 0) where
       → ((xs : List X) → legal xs → IsEdge boundary xs 0 × IsEdge boundary xs (length xs))
       → (xs : List X) (n : ℕ) → (n < length xs → IsEdge boundary xs n) → ∥ legal xs ∥₁
       → (b : Bool) → nat_lt n (length xs) ≡ b → ∥ legal (if b then take n xs else xs) ∥₁
-  by_test boundary part ends xs n edge l true short = cut-legal boundary part ends xs n (edge (ltb_yes (yes (nat_lt n (length xs)) short))) l
+  by_test boundary part ends xs n edge l true short =
+      cut-legal boundary part ends xs n (edge (ltb_yes (yes (nat_lt n (length xs)) short))) l
   by_test boundary part ends xs n edge l false short = l
 
 module _ {T M : Type 0} (legal : List T → Type 0) where
@@ -83,7 +87,8 @@ module _ {T M : Type 0} (legal : List T → Type 0) where
   refused-items drops one_pass (Refused refusal) old new before after e r = ap (λ w. w.items) r.1
 
   -- room that is had without memory keeps a list legal
-  pub reclaimed_legal : (room : Room) (old new : PartsView T M) (found : Bool) → Reclaims room old new found → ∥ legal old.items ∥₁
+  pub reclaimed_legal : (room : Room) (old new : PartsView T M) (found : Bool)
+      → Reclaims room old new found → ∥ legal old.items ∥₁
       → ∥ legal new.items ∥₁
   reclaimed_legal Spare old new found r l = same legal (ap (λ w. w.items) r.1) l
   reclaimed_legal Behind old new found r l = same legal (ap (λ w. w.items) r.1) l
@@ -104,7 +109,11 @@ module _ {T M : Type 0} (legal : List T → Type 0) where
       (back-legal legal boundary part ends old.items n edge l)
 
   items_of : (drops : Bool) (n : ℕ) (w : PartsView T M) (b : Bool)
-      → (if b then record w { items = take n w.items; role = if drops then with_capacity w.role n else w.role } else w).items
+      → (if b then record w {
+        items = take n w.items;
+        role = if drops then with_capacity w.role n
+            else w.role;
+      } else w).items
       ≡ (if b then take n w.items else w.items)
   items_of drops n w true = refl
   items_of drops n w false = refl
@@ -117,8 +126,12 @@ module _ {T M : Type 0} (legal : List T → Type 0) where
       → ∥ legal old.items ∥₁ → ∥ legal new.items ∥₁
   truncated_legal boundary part ends drops n old new is edge l =
       let shorter : List T = take n old.items in
-      let first : (b : Bool) → nat_lt n (length old.items) ≡ b → ∥ legal (if b then shorter else old.items) ∥₁ = λ b e. by_test legal boundary part ends old.items n edge l b e in
-      subst (λ zs. ∥ legal zs ∥₁) (sym (ap (λ w. w.items) is ∙ items_of drops n old (nat_lt n (length old.items)))) (first (nat_lt n (length old.items)) refl)
+      let first : (b : Bool) → nat_lt n (length old.items) ≡ b
+      → ∥ legal (if b then shorter else old.items) ∥₁ =
+      λ b e. by_test legal boundary part ends old.items n edge l b e in
+      subst (λ zs. ∥ legal zs ∥₁)
+      (sym (ap (λ w. w.items) is ∙ items_of drops n old (nat_lt n (length old.items))))
+      (first (nat_lt n (length old.items)) refl)
 
   sole-at-legal : {H : Type 0} (has_any drops : Bool) (xs : List T) (place : Place (Option Owner) M)
       (v : PartsView T M) (before after : Pass H) → v ≡ sole_at drops xs place
@@ -158,9 +171,11 @@ module _ {T M : Type 0} (legal : List T → Type 0) where
       → IfErr reply (λ r. (r.1 ≡ x) × MakesRoom drops one_pass room old new before after (Err r.0))
       → ∥ legal old.items ∥₁ → ∥ legal new.items ∥₁
   push_legal drops one_pass room x old new before after more (Ok u) pushed refused l =
-      extend_legal drops one_pass room (x ∷ []) old new before after (λ (r : TryReserveError × T). r.0) more (Ok u) pushed tt l
+      extend_legal drops one_pass room (x ∷ []) old new before after
+      (λ (r : TryReserveError × T). r.0) more (Ok u) pushed tt l
   push_legal drops one_pass room x old new before after more (Err r) pushed refused l =
-      extend_legal drops one_pass room (x ∷ []) old new before after (λ (r : TryReserveError × T). r.0) more (Err r) tt refused.1 l
+      extend_legal drops one_pass room (x ∷ []) old new before after
+      (λ (r : TryReserveError × T). r.0) more (Err r) tt refused.1 l
 
 module _ {T : Type 0} (legal : List T → Type 0) where
   -- no items of a legal list are legal

@@ -20,8 +20,8 @@ EachOf step [] old new = new ≡ old
 EachOf {W = W} step (x ∷ xs) old new = (between : W) × step x old between
     × EachOf step xs between new
 
--- of windows under the mark H, whose callers' buffers have these lists and places, and this leave to
--- grow and to refuse
+-- of windows under the mark H, whose callers' buffers have these lists and places, and this leave
+-- to grow and to refuse
 module _ {T M B : Type 0} (H : Type 0) (real : BlockId → ℕ → List Line → Type 0)
     (drops one_pass : Bool) (item_size : ℕ) (list : B → List T) (places : B → ℕ)
     (grows : B → ℕ → ℕ → Type 0) (refuses : B → ℕ → TryReserveError → Type 0) where

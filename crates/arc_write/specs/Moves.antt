@@ -17,7 +17,8 @@ writer_move layout nowhere = Stays
 writer_move layout static_data = Stays
 writer_move layout (on_block owner offset info) = layout_move layout (on_block owner offset info)
 
--- A reader became the only writer of the block, by one Alone, and went under the layout.
+-- A reader became the only writer, by one Alone where its block counts its owners, and went under
+-- the layout.
 pub record BecomesWriter {T M H : Type 0} (layout : LayoutFacts) (drops one_pass : Bool)
     (w v : PartsView T M) (before after : Pass H) : Type 0 where
   pub between : Pass H

@@ -8,6 +8,7 @@ ghost use Rattle.arc_parts.specs.Writers.{IsWriterPlace, idle_writer};
 use arc_block::layout::{DefaultLayoutMut, LayoutMut};
 use arc_buffer::buffer::BufferMut;
 use arc_buffer::kinds::{Emptyable, Plain, Slice, Text};
+use arc_owners::hint::assert_unchecked;
 use arc_owners::mark::{Mark, Open};
 use arc_writer_parts::shared::SharedParts;
 use arc_writer_parts::sole::SoleParts;
@@ -170,7 +171,10 @@ impl<
     {
         match &self.parts {
             WriterStorage::Sole(parts) => parts.known_place(),
-            WriterStorage::Several(_) => unreachable!(),
+            WriterStorage::Several(_) => unsafe {
+                assert_unchecked(false);
+                unreachable!()
+            },
         }
     }
 
@@ -184,7 +188,10 @@ impl<
         let ArcSliceMut { parts, of: _ } = self;
         match parts {
             WriterStorage::Sole(parts) => parts,
-            WriterStorage::Several(_) => unreachable!(),
+            WriterStorage::Several(_) => unsafe {
+                assert_unchecked(false);
+                unreachable!()
+            },
         }
     }
 }

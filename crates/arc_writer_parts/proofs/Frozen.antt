@@ -1,5 +1,6 @@
 -- One of several writers on a native block, as a reader.
-use Rattle.std.proofs.Common.{◌≡◌, ℕ, ◌+◌, ◌-◌, Bool, true, false, List, length, Some, sym, ◌∙◌, arith}
+use Rattle.std.proofs.Common.{◌≡◌, ℕ, ◌+◌, ◌-◌, Bool, true, false, List, length, Some, sym, ◌∙◌}
+use Rattle.std.proofs.Common.{arith}
 use Rattle.std.proofs.lemmas.Bool.{false≢true}
 use Rattle.arc_buffer.specs.Slice.{sub}
 use Rattle.arc_buffer.proofs.Sub.{sub-whole}
@@ -13,9 +14,12 @@ use Rattle.arc_parts.specs.Writers.{as_reader}
 use Rattle.arc_parts.specs.declared.storage.Storage.TheVariants.{Native}
 
 -- the same items at the same place
-pub frozen_several : {T M : Type 0} (drops : Bool) (w : NativeWriter T) (b : NativeView T) (start len : ℕ)
-    → drops ≡ false → b ≡ native_view drops w.owner w.items w.start w.size → start ≡ w.start → len ≡ length w.items
-    → parts_of (window_seen {M = M} (Native b) start (start + len)) ≡ as_reader (native_row {M = M} w)
+pub frozen_several : {T M : Type 0} (drops : Bool) (w : NativeWriter T) (b : NativeView T)
+    (start len : ℕ)
+    → drops ≡ false → b ≡ native_view drops w.owner w.items w.start w.size → start ≡ w.start
+    → len ≡ length w.items
+    → parts_of (window_seen {M = M} (Native b) start (start + len)) ≡ as_reader
+    (native_row {M = M} w)
 frozen_several true w b start len copied is begins long = absurd (false≢true (sym copied))
 frozen_several {T} {M} false w b start len copied is begins long =
     let none : w.start - w.start ≡ 0 = omega arith in

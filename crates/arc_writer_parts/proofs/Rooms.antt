@@ -1,5 +1,6 @@
 -- Room for one of several writers: that of the only one, who is one of several then.
-use Rattle.std.proofs.Common.{◌≡◌, ℕ, ◌-◌, ◌≤◌, ◌<◌, ◌==◌, nat_lt, Bool, true, false, not, ◌&&◌, if◌then◌else◌, length, Option, Some, None, refl, sym, ap, ◌∙◌, subst}
+use Rattle.std.proofs.Common.{◌≡◌, ℕ, ◌-◌, ◌≤◌, ◌<◌, ◌==◌, nat_lt, Bool, true, false, not, ◌&&◌}
+use Rattle.std.proofs.Common.{if◌then◌else◌, length, Option, Some, None, refl, sym, ap, ◌∙◌, subst}
 use Rattle.std.specs.Prelude.{Result, Ok, Err, ◌↔◌, IsTrue}
 use Rattle.std.proofs.lemmas.Bool.{lt-ltb, le-ltb, false≢true}
 use Rattle.arc_owners.specs.declared.error.TryReserveError.{TryReserveError}
@@ -11,15 +12,16 @@ use Rattle.arc_parts.specs.declared.room.Room.TheVariants.{Spare, Fresh, Behind,
 use Rattle.arc_parts.specs.declared.room.Room.TheVariants.{Growth, Own, Refused}
 use Rattle.arc_block.specs.Block.{Sort, native, vector, buffer, raw, IsMemory, IsBuffer}
 use Rattle.arc_block.specs.Place.{Place, nowhere, static_data, on_block, IsOnBlock}
-use Rattle.arc_parts.specs.Shared.{as_shared, as_unique, asks_alone, is_on_block, AsksAlone, IsSharedPlace}
-use Rattle.arc_parts.specs.Shared.{MakesRoomBeside, MakesSharedRoom, ReclaimsShared}
+use Rattle.arc_parts.specs.Shared.{as_shared, as_unique, asks_alone, is_on_block, AsksAlone}
+use Rattle.arc_parts.specs.Shared.{IsSharedPlace, MakesRoomBeside, MakesSharedRoom, ReclaimsShared}
 use Rattle.arc_block.specs.Table.{sole_writer, one_writer_of_several}
 use Rattle.arc_parts.specs.Window.{PartsView, IsOfBuffer}
 use Rattle.arc_parts.specs.Writers.{capacity_of, room_at, room_for, MakesRoom, Reclaims, with_size}
 use Rattle.arc_block.specs.Place.{at_front}
 
 -- whether a place lies on a block, as an answer says it
-pub on_block_answer : {N M : Type 0} (b : Bool) (place : Place N M) → (IsTrue b ↔ IsOnBlock place) → b ≡ is_on_block place
+pub on_block_answer : {N M : Type 0} (b : Bool) (place : Place N M) → (IsTrue b ↔ IsOnBlock place)
+    → b ≡ is_on_block place
 on_block_answer true nowhere e = absurd (e.0 refl)
 on_block_answer true static_data e = absurd (e.0 refl)
 on_block_answer true (on_block block offset info) e = refl
@@ -34,32 +36,38 @@ memory_not_buffer vector memory = λ b. b
 memory_not_buffer (buffer writable) memory = absurd memory
 memory_not_buffer raw memory = λ b. b
 
-pub no_buffer_shared : {N M : Type 0} (place : Place (Option N) M) → IsSharedPlace place → ¬ IsOfBuffer place
+pub no_buffer_shared : {N M : Type 0} (place : Place (Option N) M) → IsSharedPlace place
+    → ¬ IsOfBuffer place
 no_buffer_shared nowhere there = λ b. b
 no_buffer_shared static_data there = absurd there
 no_buffer_shared (on_block None offset info) there = absurd there
 no_buffer_shared (on_block (Some owner) offset info) there = memory_not_buffer info.sort there
 
 -- nor where the only one had room
-size-no-buffer : {N M : Type 0} (places : ℕ) (place : Place N M) → ¬ IsOfBuffer place → ¬ IsOfBuffer (with_size places place)
+size-no-buffer : {N M : Type 0} (places : ℕ) (place : Place N M) → ¬ IsOfBuffer place
+    → ¬ IsOfBuffer (with_size places place)
 size-no-buffer places nowhere none = none
 size-no-buffer places static_data none = none
 size-no-buffer places (on_block block offset info) none = none
 
-front-no-buffer : {N M : Type 0} (place : Place N M) → ¬ IsOfBuffer place → ¬ IsOfBuffer (at_front place)
+front-no-buffer : {N M : Type 0} (place : Place N M) → ¬ IsOfBuffer place
+    → ¬ IsOfBuffer (at_front place)
 front-no-buffer nowhere none = none
 front-no-buffer static_data none = none
 front-no-buffer (on_block block offset info) none = none
 
 module _ {T M : Type 0} where
   -- one of several is that
-  pub several_again : (w : PartsView T M) → w.role ≡ one_writer_of_several (capacity_of w.role) → as_shared w ≡ w
+  pub several_again : (w : PartsView T M) → w.role ≡ one_writer_of_several (capacity_of w.role)
+      → as_shared w ≡ w
   several_again w is = λ i. record { items = w.items; place = w.place; role = sym is i }
 
   -- a sole writer, who was seen as one of several
-  pub sole_again : (parts w : PartsView T M) → parts.role ≡ sole_writer (capacity_of parts.role) → as_shared parts ≡ w
+  pub sole_again : (parts w : PartsView T M) → parts.role ≡ sole_writer (capacity_of parts.role)
+      → as_shared parts ≡ w
       → parts ≡ as_unique w
-  sole_again parts w is view = (λ i. record { items = parts.items; place = parts.place; role = is i }) ∙ ap as_unique view
+  sole_again parts w is view =
+      (λ i. record { items = parts.items; place = parts.place; role = is i }) ∙ ap as_unique view
 
   moved-no-buffer : (w v : PartsView T M) → v ≡ w → ¬ IsOfBuffer w.place → ¬ IsOfBuffer v.place
   moved-no-buffer w v is none = subst (λ (x : PartsView T M). ¬ IsOfBuffer x.place) (sym is) none
@@ -71,14 +79,16 @@ module _ {T M : Type 0} where
   no_buffer_reclaimed Behind old new found made none =
       subst (λ (x : PartsView T M). ¬ IsOfBuffer x.place) (sym made.1) none
   no_buffer_reclaimed Front old new found made none =
-      subst (λ (x : PartsView T M). ¬ IsOfBuffer x.place) (sym made.1) (front-no-buffer old.place none)
+      subst (λ (x : PartsView T M). ¬ IsOfBuffer x.place) (sym made.1)
+      (front-no-buffer old.place none)
   no_buffer_reclaimed (Fresh places) old new found made none = moved-no-buffer old new made.1 none
   no_buffer_reclaimed (Growth places) old new found made none = moved-no-buffer old new made.1 none
   no_buffer_reclaimed (Own additional) old new found made none = moved-no-buffer old new made.1 none
   no_buffer_reclaimed (Refused e) old new found made none = moved-no-buffer old new made.1 none
 
   -- the only one, who had it, is one of several again
-  beside-reclaimed : (room : Room) (w sole new : PartsView T M) (found : Bool) → new ≡ as_shared sole
+  beside-reclaimed : (room : Room) (w sole new : PartsView T M) (found : Bool)
+      → new ≡ as_shared sole
       → Reclaims room (as_unique w) sole found → Reclaims room (as_shared w) new found
   beside-reclaimed Spare w sole new found is made = (made.0, is ∙ ap as_shared made.1)
   beside-reclaimed Behind w sole new found is made = (made.0, is ∙ ap as_shared made.1)
@@ -89,7 +99,8 @@ module _ {T M : Type 0} where
   beside-reclaimed (Refused e) w sole new found is made = (made.0, is ∙ ap as_shared made.1)
 
   -- his items stay
-  pub reclaimed_items : (room : Room) (old new : PartsView T M) (found : Bool) → Reclaims room old new found → new.items ≡ old.items
+  pub reclaimed_items : (room : Room) (old new : PartsView T M) (found : Bool)
+      → Reclaims room old new found → new.items ≡ old.items
   reclaimed_items Spare old new found made = ap (λ w. w.items) made.1
   reclaimed_items Behind old new found made = ap (λ w. w.items) made.1
   reclaimed_items Front old new found made = ap (λ w. w.items) made.1
@@ -99,8 +110,10 @@ module _ {T M : Type 0} where
   reclaimed_items (Refused e) old new found made = ap (λ w. w.items) made.1
 
   -- on no block there is no room without memory
-  idle-room : (size additional : ℕ) (w : PartsView T M) (place : Place (Option Owner) M) → is_on_block place ≡ false
-      → Reclaims (room_at false (if size == 1 then 8 else 4) size place (length w.items) additional) w w false
+  idle-room : (size additional : ℕ) (w : PartsView T M) (place : Place (Option Owner) M)
+      → is_on_block place ≡ false
+      → Reclaims (room_at false (if size == 1 then 8 else 4) size place (length w.items) additional)
+      w w false
   idle-room size additional w nowhere on = (refl, refl)
   idle-room size additional w static_data on = (refl, refl)
   idle-room size additional w (on_block owner offset info) on = absurd (false≢true (sym on))
@@ -118,109 +131,153 @@ module _ {T M : Type 0} where
 
 module _ {T M H : Type 0} where
   -- nor where he made room
-  pub no_buffer_room : (drops one_pass : Bool) (room : Room) (old new : PartsView T M) (before after : Pass H)
-      (reply : Result (Unit {0}) TryReserveError) → MakesRoom drops one_pass room old new before after reply
+  pub no_buffer_room : (drops one_pass : Bool) (room : Room) (old new : PartsView T M)
+      (before after : Pass H)
+      (reply : Result (Unit {0}) TryReserveError) → MakesRoom drops one_pass room old new before
+      after reply
       → ¬ IsOfBuffer old.place → ¬ IsOfBuffer new.place
-  no_buffer_room drops one_pass Spare old new before after reply made none = moved-no-buffer old new made.1 none
+  no_buffer_room drops one_pass Spare old new before after reply made none =
+      moved-no-buffer old new made.1 none
   no_buffer_room drops one_pass Behind old new before after reply made none =
       subst (λ (x : PartsView T M). ¬ IsOfBuffer x.place) (sym made.1) none
   no_buffer_room drops one_pass Front old new before after reply made none =
-      subst (λ (x : PartsView T M). ¬ IsOfBuffer x.place) (sym made.1) (front-no-buffer old.place none)
+      subst (λ (x : PartsView T M). ¬ IsOfBuffer x.place) (sym made.1)
+      (front-no-buffer old.place none)
   no_buffer_room drops one_pass (Fresh places) old new before after (Ok done) made none =
       subst (λ (x : PartsView T M). ¬ IsOfBuffer x.place) (sym made.made) (λ b. b)
-  no_buffer_room drops one_pass (Fresh places) old new before after (Err e) made none = moved-no-buffer old new made.1 none
+  no_buffer_room drops one_pass (Fresh places) old new before after (Err e) made none =
+      moved-no-buffer old new made.1 none
   no_buffer_room drops one_pass (Growth places) old new before after (Ok done) made none =
-      subst (λ (x : PartsView T M). ¬ IsOfBuffer x.place) (sym made.1) (size-no-buffer places old.place none)
-  no_buffer_room drops one_pass (Growth places) old new before after (Err e) made none = moved-no-buffer old new made.1 none
+      subst (λ (x : PartsView T M). ¬ IsOfBuffer x.place) (sym made.1)
+      (size-no-buffer places old.place none)
+  no_buffer_room drops one_pass (Growth places) old new before after (Err e) made none =
+      moved-no-buffer old new made.1 none
   no_buffer_room drops one_pass (Own additional) old new before after (Ok done) made none =
-      subst (λ (x : PartsView T M). ¬ IsOfBuffer x.place) (sym made.2) (size-no-buffer made.0 old.place none)
-  no_buffer_room drops one_pass (Own additional) old new before after (Err e) made none = moved-no-buffer old new made.1 none
-  no_buffer_room drops one_pass (Refused refusal) old new before after reply made none = moved-no-buffer old new made.1 none
+      subst (λ (x : PartsView T M). ¬ IsOfBuffer x.place) (sym made.2)
+      (size-no-buffer made.0 old.place none)
+  no_buffer_room drops one_pass (Own additional) old new before after (Err e) made none =
+      moved-no-buffer old new made.1 none
+  no_buffer_room drops one_pass (Refused refusal) old new before after reply made none =
+      moved-no-buffer old new made.1 none
 
   module _ (one_pass : Bool) (size additional : ℕ) where
     -- who has the places already gets no more
-    pub spare_shared : (w : PartsView T M) (p : Pass H) → as_shared w ≡ w → additional ≤ capacity_of w.role - length w.items
-        → MakesSharedRoom (asks_alone w additional) one_pass (room_for false size w additional) w w p p (Ok tt)
+    pub spare_shared : (w : PartsView T M) (p : Pass H) → as_shared w ≡ w
+        → additional ≤ capacity_of w.role - length w.items
+        → MakesSharedRoom (asks_alone w additional) one_pass (room_for false size w additional) w w
+        p p (Ok tt)
     spare_shared w p several enough =
-        let none : nat_lt (capacity_of w.role - length w.items) additional ≡ false = le-ltb (capacity_of w.role - length w.items) additional enough in
+        let none : nat_lt (capacity_of w.role - length w.items) additional ≡ false = le-ltb
+        (capacity_of w.role - length w.items) additional enough in
         subst (λ (b : Bool). MakesSharedRoom (b && is_on_block w.place) one_pass
-        (if not b then Spare else room_at false (if size == 1 then 8 else 4) size w.place (length w.items) additional) w w p p (Ok tt))
+        (if not b then Spare else room_at false (if size == 1 then 8 else 4) size w.place
+        (length w.items) additional) w w p p (Ok tt))
         (sym none) (record { sole = as_unique w; shared = sym several; makes = (refl, refl, refl) })
 
     -- on no block he has it as the only one
-    pub alone_shared : (w sole new : PartsView T M) (before after : Pass H) (reply : Result (Unit {0}) TryReserveError)
-        → capacity_of w.role - length w.items < additional → is_on_block w.place ≡ false → sole ≡ as_unique w
+    pub alone_shared : (w sole new : PartsView T M) (before after : Pass H)
+        (reply : Result (Unit {0}) TryReserveError)
+        → capacity_of w.role - length w.items < additional → is_on_block w.place ≡ false
+        → sole ≡ as_unique w
         → MakesRoomBeside one_pass (room_for false size sole additional) sole new before after reply
-        → MakesSharedRoom (asks_alone w additional) one_pass (room_for false size w additional) w new before after reply
+        → MakesSharedRoom (asks_alone w additional) one_pass (room_for false size w additional) w
+        new before after reply
     alone_shared w sole new before after reply short on is made =
-        subst (λ (b : Bool). MakesSharedRoom b one_pass (room_for false size w additional) w new before after reply)
+        subst (λ (b : Bool). MakesSharedRoom b one_pass (room_for false size w additional) w new
+        before after reply)
         (sym (asks-no additional w short on))
-        (subst (λ (s : PartsView T M). MakesRoomBeside one_pass (room_for false size s additional) s new before after reply) is made)
+        (subst (λ (s : PartsView T M). MakesRoomBeside one_pass (room_for false size s additional) s
+        new before after reply) is made)
 
     -- and on a block, once he was told that he is
-    pub asked_shared : (w sole new : PartsView T M) (before between after : Pass H) (reply : Result (Unit {0}) TryReserveError)
+    pub asked_shared : (w sole new : PartsView T M) (before between after : Pass H)
+        (reply : Result (Unit {0}) TryReserveError)
         → capacity_of w.role - length w.items < additional → is_on_block w.place ≡ true
         → AsksAlone w.place before between true → sole ≡ as_unique w
-        → MakesRoomBeside one_pass (room_for false size sole additional) sole new between after reply
-        → MakesSharedRoom (asks_alone w additional) one_pass (room_for false size w additional) w new before after reply
+        → MakesRoomBeside one_pass (room_for false size sole additional) sole new between after
+        reply
+        → MakesSharedRoom (asks_alone w additional) one_pass (room_for false size w additional) w
+        new before after reply
     asked_shared w sole new before between after reply short on asked is made =
-        subst (λ (b : Bool). MakesSharedRoom b one_pass (room_for false size w additional) w new before after reply)
+        subst (λ (b : Bool). MakesSharedRoom b one_pass (room_for false size w additional) w new
+        before after reply)
         (sym (asks-yes additional w short on)) (
           true,
           between,
           asked,
-          subst (λ (s : PartsView T M). MakesRoomBeside one_pass (room_for false size s additional) s new between after reply) is made,
+          subst (λ (s : PartsView T M). MakesRoomBeside one_pass (room_for false size s additional)
+              s new between after reply) is made,
         )
 
     -- beside another owner nothing changes
     pub refused_shared : (w new : PartsView T M) (before after : Pass H)
         → capacity_of w.role - length w.items < additional → is_on_block w.place ≡ true
         → AsksAlone w.place before after false → new ≡ w
-        → MakesSharedRoom (asks_alone w additional) one_pass (room_for false size w additional) w new before after (Err NotUnique)
+        → MakesSharedRoom (asks_alone w additional) one_pass (room_for false size w additional) w
+        new before after (Err NotUnique)
     refused_shared w new before after short on asked same =
-        subst (λ (b : Bool). MakesSharedRoom b one_pass (room_for false size w additional) w new before after (Err NotUnique))
+        subst (λ (b : Bool). MakesSharedRoom b one_pass (room_for false size w additional) w new
+        before after (Err NotUnique))
         (sym (asks-yes additional w short on)) (false, after, asked, (refl, same, refl))
 
   module _ (size additional : ℕ) where
     -- Room without memory. Who has the places already gets no more;
-    pub spare_reclaimed : (w : PartsView T M) (p : Pass H) → additional ≤ capacity_of w.role - length w.items
+    pub spare_reclaimed : (w : PartsView T M) (p : Pass H)
+        → additional ≤ capacity_of w.role - length w.items
         → ReclaimsShared (asks_alone w additional) (room_for false size w additional) w w p p true
     spare_reclaimed w p enough =
-        let none : nat_lt (capacity_of w.role - length w.items) additional ≡ false = le-ltb (capacity_of w.role - length w.items) additional enough in
+        let none : nat_lt (capacity_of w.role - length w.items) additional ≡ false = le-ltb
+        (capacity_of w.role - length w.items) additional enough in
         subst (λ (b : Bool). ReclaimsShared (b && is_on_block w.place)
-        (if not b then Spare else room_at false (if size == 1 then 8 else 4) size w.place (length w.items) additional) w w p p true)
+        (if not b then Spare else room_at false (if size == 1 then 8 else 4) size w.place
+        (length w.items) additional) w w p p true)
         (sym none) (refl, (refl, refl))
 
     -- on no block there is none,
-    pub idle_reclaimed : (w : PartsView T M) (p : Pass H) → capacity_of w.role - length w.items < additional
+    pub idle_reclaimed : (w : PartsView T M) (p : Pass H)
+        → capacity_of w.role - length w.items < additional
         → is_on_block w.place ≡ false
         → ReclaimsShared (asks_alone w additional) (room_for false size w additional) w w p p false
     idle_reclaimed w p short on =
-        let some : nat_lt (capacity_of w.role - length w.items) additional ≡ true = lt-ltb (capacity_of w.role - length w.items) additional short in
+        let some : nat_lt (capacity_of w.role - length w.items) additional ≡ true = lt-ltb
+        (capacity_of w.role - length w.items) additional short in
         subst (λ (z : Bool × Bool). ReclaimsShared (z.0 && z.1)
-        (if not z.0 then Spare else room_at false (if size == 1 then 8 else 4) size w.place (length w.items) additional) w w p p false)
+        (if not z.0 then Spare else room_at false (if size == 1 then 8 else 4) size w.place
+        (length w.items) additional) w w p p false)
         (λ i. (sym some i, sym on i)) (refl, idle-room size additional w w.place on)
 
     -- beside another owner nothing changes,
     pub refused_reclaimed : (w new : PartsView T M) (before after : Pass H)
         → capacity_of w.role - length w.items < additional → is_on_block w.place ≡ true
         → AsksAlone w.place before after false → new ≡ w
-        → ReclaimsShared (asks_alone w additional) (room_for false size w additional) w new before after false
+        → ReclaimsShared (asks_alone w additional) (room_for false size w additional) w new before
+        after false
     refused_reclaimed w new before after short on asked same =
-        subst (λ (b : Bool). ReclaimsShared b (room_for false size w additional) w new before after false)
+        subst (λ (b : Bool). ReclaimsShared b (room_for false size w additional) w new before after
+        false)
         (sym (asks-yes additional w short on)) (false, asked, (refl, same))
 
     -- and who is alone has it as the only one
-    pub asked_reclaimed : (drops : Bool) (w unique sole new : PartsView T M) (before after : Pass H) (found : Bool)
+    pub asked_reclaimed : (drops : Bool) (w unique sole new : PartsView T M) (before after : Pass H)
+        (found : Bool)
         → drops ≡ false → as_shared w ≡ w
         → capacity_of w.role - length w.items < additional → is_on_block w.place ≡ true
         → AsksAlone w.place before after true → unique ≡ as_unique w → new ≡ as_shared sole
         → Reclaims (room_for drops size unique additional) unique sole found
-        → ReclaimsShared (asks_alone w additional) (room_for false size w additional) w new before after found
-    asked_reclaimed drops w unique sole new before after found copied several short on asked same is made =
-        let alike = subst (λ (d : Bool). Reclaims (room_for d size unique additional) unique sole found) copied made in
+        → ReclaimsShared (asks_alone w additional) (room_for false size w additional) w new before
+        after found
+    asked_reclaimed drops w unique sole new before after found copied several short on asked same is
+        made =
+        let alike = subst (λ (d : Bool). Reclaims (room_for d size unique additional) unique sole
+        found) copied made in
         let beside = beside-reclaimed (room_for false size w additional) w sole new found is
-        (subst (λ (s : PartsView T M). Reclaims (room_for false size s additional) s sole found) same alike) in
-        subst (λ (b : Bool). ReclaimsShared b (room_for false size w additional) w new before after found)
-        (sym (asks-yes additional w short on))
-        (true, asked, subst (λ (x : PartsView T M). Reclaims (room_for false size w additional) x new found) several beside)
+        (subst (λ (s : PartsView T M). Reclaims (room_for false size s additional) s sole found)
+        same alike) in
+        subst (λ (b : Bool). ReclaimsShared b (room_for false size w additional) w new before after
+        found)
+        (sym (asks-yes additional w short on)) (
+          true,
+          asked,
+          subst (λ (x : PartsView T M). Reclaims (room_for false size w additional) x
+              new found) several beside,
+        )

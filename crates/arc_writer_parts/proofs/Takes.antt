@@ -11,7 +11,8 @@ use Rattle.arc_parts.specs.Writers.{IsWholeWriter}
 
 module _ {M H : Type 0} where
   -- the owner was told that he is alone, and then ended
-  pub asked_taken : (place : Place (Option Owner) M) (before middle after : Pass H) → AsksAlone place before middle true
+  pub asked_taken : (place : Place (Option Owner) M) (before middle after : Pass H)
+      → AsksAlone place before middle true
       → at_owner place ⊥ (λ o. Leaves o middle after true) → TakesAt place before after
   asked_taken nowhere before middle after asked left = absurd left
   asked_taken static_data before middle after asked left = absurd left
@@ -20,8 +21,10 @@ module _ {M H : Type 0} where
       record { middle = middle; asked = asked; left = left }
 
   -- or that he isn't
-  pub asked_refused : (wanted : Type 0) (place : Place (Option Owner) M) (before after : Pass H) → wanted
-      → IsOnBlock place → IsSharedPlace place → AsksAlone place before after false → RefusesTaking wanted place before after
+  pub asked_refused : (wanted : Type 0) (place : Place (Option Owner) M) (before after : Pass H)
+      → wanted
+      → IsOnBlock place → IsSharedPlace place → AsksAlone place before after false
+      → RefusesTaking wanted place before after
   asked_refused wanted nowhere before after is on there asked = absurd on
   asked_refused wanted static_data before after is on there asked = absurd on
   asked_refused wanted (on_block None offset info) before after is on there asked = absurd there
@@ -29,7 +32,8 @@ module _ {M H : Type 0} where
       record { asked = λ _. asked; unasked = λ never. absurd (never is) }
 
 -- where a native block's writer asked for all of its places
-pub several_refused : {T M H : Type 0} (n : ℕ) (w : NativeWriter T) (row : PartsView T M) (before after : Pass H)
+pub several_refused : {T M H : Type 0} (n : ℕ) (w : NativeWriter T) (row : PartsView T M)
+    (before after : Pass H)
     → native_row w ≡ row → ((length w.items ≡ n) × (w.size ≡ n) → Asks w.owner before after false)
     → (¬ ((length w.items ≡ n) × (w.size ≡ n)) → after ≡ before)
     → RefusesTaking (IsWholeWriter n row) row.place before after

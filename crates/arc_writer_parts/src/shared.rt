@@ -17,6 +17,7 @@ use arc_owners::mark::{Mark, Open};
 use arc_sort_writers::shared::SharedNative;
 use std::alloc::{Allocator, Global};
 use std::marker::Model;
+use std::mem;
 
 /// What the parts of one of several writers are.
 #[derive(Drop)]
@@ -90,6 +91,16 @@ impl<S: Slice, B: BufferMut<S::Item> + Drop, M: Drop, A: Allocator + Copy, H: Ma
             on: SharedStorage::Alone(SoleParts::on_nothing(alloc)),
             alloc,
         }
+    }
+
+    /// Takes these in the place of parts on nothing, which are forgotten: dropped, they would be
+    /// tested first.
+    #[inline(always)]
+    pub(crate) fn take_in(&mut self, parts: Self)
+        requires { self.old.place ≡ nowhere }
+        ensures { self.new ≡ parts }
+    {
+        mem::forget(mem::replace(self, parts));
     }
 
     /// One of several writers on a native block.

@@ -17,8 +17,14 @@ use Rattle.arc_owners.specs.contracts.count.word.Word.TheInside as Inside
 abbrev pub word_val : ℕ → Val
 word_val n = vstruct (vcons (vint w64 n) vnil)
 
-pub word_made : {M : Type 1} {𝓤 : Ura M} (𝓛 : Logic 𝓤) (t : BlockId) (n : ℕ) → n < 2 ^ 64 → ent 𝓤 (sem 𝓛 (behind t n)) (sem 𝓛 (Word.the_row.own_val t (word_val n ∷ [])))
-word_made {𝓤 = 𝓤} 𝓛 t n f = let S : RattleType = Inside.the_row in let vs : List Val = word_val n ∷ [] in let at : ℕ → S.Denot = λ m. record { bits = m } in
+pub word_made : {M : Type 1} {𝓤 : Ura M} (𝓛 : Logic 𝓤) (t : BlockId) (n : ℕ) → n < 2 ^ 64
+    → ent 𝓤 (sem 𝓛 (behind t n)) (sem 𝓛 (Word.the_row.own_val t (word_val n ∷ [])))
+word_made {𝓤 = 𝓤} 𝓛 t n f = let S : RattleType = Inside.the_row in
+    let vs : List Val = word_val n ∷ [] in let at : ℕ → S.Denot = λ m. record { bits = m } in
     let fits : Type 0 = Typed Word.the_row.mir vs in qed 𝓛 (‵ (behind t n) ∷ []) ∵
-    use0 𝓛 (‵ (S.own_val (at n) vs)) (makes_shadow 𝓛 (S.own_val (at n) vs) (λ vss. (tt, ((tt, tt), tt))) ((vint w64 n ∷ [], tt), (refl, ((refl, f), tt)))) $
-    fjoin ! $ fpack ! ℕ (λ m. fsep (S.own_val (at m) vs) (behind t m)) n $ use0 𝓛 (‵ (fex fits (λ _. ftrue))) (fact_i 𝓤 fits (emp 𝓤) ((tt, (record { fits = f }, tt)), tt)) $ done !
+    use0 𝓛 (‵ (S.own_val (at n) vs))
+    (makes_shadow 𝓛 (S.own_val (at n) vs) (λ vss. (tt, ((tt, tt), tt)))
+    ((vint w64 n ∷ [], tt), (refl, ((refl, f), tt)))) $
+    fjoin ! $ fpack ! ℕ (λ m. fsep (S.own_val (at m) vs) (behind t m)) n $
+    use0 𝓛 (‵ (fex fits (λ _. ftrue)))
+    (fact_i 𝓤 fits (emp 𝓤) ((tt, (record { fits = f }, tt)), tt)) $ done !

@@ -25,11 +25,16 @@ module _ (E : Bx) where
   Pair = Tuple (RawPtr ∷ P E ∷ [])
 
   module _ {M : Type 1} {𝓤 : Ura M} (𝓛 : Logic 𝓤) where
-    pub as_box : (d : Row.Denot) (vs : List Val) → ent 𝓤 (sem 𝓛 (Row.own_val d vs)) (sem 𝓛 ((B E).own_val (boxed d) vs))
+    pub as_box : (d : Row.Denot) (vs : List Val) → ent 𝓤 (sem 𝓛 (Row.own_val d vs))
+        (sem 𝓛 ((B E).own_val (boxed d) vs))
     as_box d vs = id⊢ 𝓤 (sem 𝓛 (Row.own_val d vs))
 
-    pub as_bare : (d : Row.Denot) (vs : List Val) → ent 𝓤 (sem 𝓛 ((B E).own_val (boxed d) vs)) (sem 𝓛 (Row.own_val d vs))
+    pub as_bare : (d : Row.Denot) (vs : List Val) → ent 𝓤 (sem 𝓛 ((B E).own_val (boxed d) vs))
+        (sem 𝓛 (Row.own_val d vs))
     as_bare d vs = id⊢ 𝓤 (sem 𝓛 (Row.own_val d vs))
 
-    pub pair_as_box : (r : Pair.Denot) (x : X E) (vs : List Val) → ent 𝓤 (sep 𝓤 (sem 𝓛 (Pair.own_val r vs)) (sem 𝓛 (box_owns (token E.al r.1) (R E) r.0 x))) (sem 𝓛 ((B E).own_val (record { ptr = r.0; alloc = r.1; value = x }) vs))
-    pair_as_box r x vs = id⊢ 𝓤 (sem 𝓛 ((B E).own_val (record { ptr = r.0; alloc = r.1; value = x }) vs))
+    pub pair_as_box : (r : Pair.Denot) (x : X E) (vs : List Val)
+        → ent 𝓤 (sep 𝓤 (sem 𝓛 (Pair.own_val r vs)) (sem 𝓛 (box_owns (token E.al r.1) (R E) r.0 x)))
+        (sem 𝓛 ((B E).own_val (record { ptr = r.0; alloc = r.1; value = x }) vs))
+    pair_as_box r x vs =
+        id⊢ 𝓤 (sem 𝓛 ((B E).own_val (record { ptr = r.0; alloc = r.1; value = x }) vs))

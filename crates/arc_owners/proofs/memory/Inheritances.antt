@@ -25,14 +25,19 @@ module _ (P : Fml) (l : Lease) where
   abbrev pub keep : Fml
   keep = finv (kept_for P l)
 
-  pub keep_twice : {M : Type 1} {𝓤 : Ura M} (𝓛 : Logic 𝓤) → ent 𝓤 (sem 𝓛 keep) (sep 𝓤 (sem 𝓛 keep) (sem 𝓛 keep))
+  pub keep_twice : {M : Type 1} {𝓤 : Ura M} (𝓛 : Logic 𝓤)
+      → ent 𝓤 (sem 𝓛 keep) (sep 𝓤 (sem 𝓛 keep) (sem 𝓛 keep))
   keep_twice 𝓛 = 𝓛.invs.inv_dup (kept_for P l)
 
   pub keep_lends : {M : Type 1} {𝓤 : Ura M} (𝓛 : Logic 𝓤) (λ' : Lft) → Lends 𝓛 keep (said keep) λ'
   keep_lends 𝓛 λ' = lends_twice 𝓛 keep (keep_twice 𝓛) λ'
 
   pub keep_shr : ShrLaws (said keep)
-  keep_shr = record { contraction = λ M 𝓤 𝓛 κ. keep_twice 𝓛; mono = λ M 𝓤 𝓛 κ' κ. snd∗ 𝓤 (sem 𝓛 (before κ' κ)) (sem 𝓛 keep) }
+  keep_shr = record {
+    contraction = λ M 𝓤 𝓛 κ. keep_twice 𝓛;
+    mono =
+        λ M 𝓤 𝓛 κ' κ. snd∗ 𝓤 (sem 𝓛 (before κ' κ)) (sem 𝓛 keep);
+  }
 
 either_keyless : (P : Fml) (l : Lease) → Keyless P → (y : Bool) → Keyless (kept_if P l y)
 either_keyless P l k true = k
@@ -40,5 +45,9 @@ either_keyless P l k false = entry_keyless token l.key 0 tt
 
 -- what a box owns may come back in any thread, where its value may go there and its memory may be
 -- freed there
-pub keep_keyless : (T A : RattleType) (g : Ghosts A.Denot) → IsSend T → Frees g g.dealloc_token → (alloc : A.Denot) (at : Ptr) (value : T.Denot) (l : Lease) → Keyless (finv (kept_for (box_owns (g.dealloc_token alloc) T at value) l))
-keep_keyless T A g s f alloc at value l = either_keyless (box_owns (g.dealloc_token alloc) T at value) l (lies T s at value, f.frees alloc (raw (lone T.mir)) at)
+pub keep_keyless : (T A : RattleType) (g : Ghosts A.Denot) → IsSend T → Frees g g.dealloc_token
+    → (alloc : A.Denot) (at : Ptr) (value : T.Denot) (l : Lease)
+    → Keyless (finv (kept_for (box_owns (g.dealloc_token alloc) T at value) l))
+keep_keyless T A g s f alloc at value l =
+    either_keyless (box_owns (g.dealloc_token alloc) T at value) l
+    (lies T s at value, f.frees alloc (raw (lone T.mir)) at)

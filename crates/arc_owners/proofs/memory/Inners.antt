@@ -12,13 +12,16 @@ use types.Run.{well_typed}
 use base.Before.{before}
 use base.Fraction.{full_share}
 use base.Logic.{SProp, ent, sep, emp, via, fst∗, never_e, upd_i, id⊢}
-use base.Fml.{Lft, Incl, Incl-refl, Incl-trans, Share, Fml, ftrue, fsep, fseps, fex, fwand, fupd, fdead, fbor, flft, fleft, fshr_bor}
+use base.Fml.{Lft, Incl, Incl-refl, Incl-trans, Share, Fml, ftrue, fsep, fseps, fex, fwand, fupd}
+use base.Fml.{fdead, fbor, flft, fleft, fshr_bor}
 use contract.BorrowLft.{meet_⊑_left, meet_⊑_right}
 use prog.Memory.{size, align, up}
 use types.Logic.{Logic, sem}
 use types.Na.{before-Incl}
 use types.Tokens.{bor_open, bor_fracture, obor_alter}
-use types.Kit.{‵, ◌⊛◌, later, ◌$◌, ◌∵◌, !, qed, by, move, keep, drop, split, split3, join, fsplit, fsplit3, fjoin, fjoin3, fpick, fpack, assume, suffices, updating, await, now, done, rewrite, use0, use1, use2, use3}
+use types.Kit.{‵, ◌⊛◌, later, ◌$◌, ◌∵◌, !, qed, by, move, keep, drop, split, split3, join, fsplit}
+use types.Kit.{fsplit3, fjoin, fjoin3, fpick, fpack, assume, suffices, updating, await, now, done}
+use types.Kit.{rewrite, use0, use1, use2, use3}
 use denote.RattleType.{RattleType, Denots}
 use denote.Memory.{part_of, part_at, cell_at, shared_of, lone}
 use denote.RawPtr.{block_ptr}
@@ -62,21 +65,32 @@ module _ {M : Type 1} {𝓤 : Ura M} (𝓛 : Logic 𝓤) (t : BlockId) (b o : �
 
   typed_cell : (us : List Val) → ent 𝓤 (sem 𝓛 (ghost_var us)) (fact 𝓤 (IsTyped us))
   typed_cell [] = never_e 𝓤 (fact 𝓤 (IsTyped []))
-  typed_cell (u ∷ []) = qed 𝓛 (‵ (ghost_var (u ∷ [])) ∷ []) ∵ well_typed ! (λ is. keep ! [] $ by ! (fact_i 𝓤 (IsTyped (u ∷ [])) (emp 𝓤) ((subst lib.Dec.T (has_ty-raw (lone Word.the_row.mir) u) is.0, is.1), tt)))
+  typed_cell (u ∷ []) = qed 𝓛 (‵ (ghost_var (u ∷ [])) ∷ [])
+      ∵ well_typed ! (λ is. keep ! [] $
+      by ! (fact_i 𝓤 (IsTyped (u ∷ [])) (emp 𝓤)
+      ((subst lib.Dec.T (has_ty-raw (lone Word.the_row.mir) u) is.0, is.1), tt)))
   typed_cell (u ∷ w ∷ us) = never_e 𝓤 (fact 𝓤 (IsTyped (u ∷ w ∷ us)))
 
-  word_bare : ent 𝓤 (sem 𝓛 (part_at Word.the_row full_share t b o)) (sem 𝓛 (part_at Word.the_written full_share t b o))
+  word_bare : ent 𝓤 (sem 𝓛 (part_at Word.the_row full_share t b o))
+      (sem 𝓛 (part_at Word.the_written full_share t b o))
   unfolding part_of
-  word_bare = qed 𝓛 (‵ (part_at Word.the_row full_share t b o) ∷ []) ∵ fpick ! (λ us. fsplit3 ! $ keep ! (0 ∷ 2 ∷ []) $ fjoin ! $ fpack ! (List Val) (λ ws. fsep (ghost_var ws) (Word.the_written.own_val t ws)) us $ done !)
+  word_bare = qed 𝓛 (‵ (part_at Word.the_row full_share t b o) ∷ [])
+      ∵ fpick ! (λ us. fsplit3 ! $ keep ! (0 ∷ 2 ∷ []) $ fjoin ! $
+      fpack ! (List Val) (λ ws. fsep (ghost_var ws) (Word.the_written.own_val t ws)) us $ done !)
 
-  word_laid : ent 𝓤 (sem 𝓛 (part_at Word.the_written full_share t b o)) (sem 𝓛 (part_at Word.the_row full_share t b o))
+  word_laid : ent 𝓤 (sem 𝓛 (part_at Word.the_written full_share t b o))
+      (sem 𝓛 (part_at Word.the_row full_share t b o))
   unfolding part_of
-  word_laid = qed 𝓛 (‵ (part_at Word.the_written full_share t b o) ∷ []) ∵ fpick ! (λ us. let C : Fml = ghost_var us in let O : Fml = Word.the_written.own_val t us in
-      by ! (fact_use 𝓤 (IsTyped us) (via 𝓤 (sem 𝓛 C) (fst∗ 𝓤 (sem 𝓛 C) (sem 𝓛 O)) (typed_cell us)) (λ is.
-      qed 𝓛 (‵ C ∷ ‵ O ∷ []) ∵ use0 𝓛 (‵ (fex (IsTyped us) (λ _. ftrue))) (fact_i 𝓤 (IsTyped us) (emp 𝓤) is) $ move ! (1 ∷ 0 ∷ []) $ fjoin3 ! $
+  word_laid = qed 𝓛 (‵ (part_at Word.the_written full_share t b o) ∷ [])
+      ∵ fpick ! (λ us. let C : Fml = ghost_var us in let O : Fml = Word.the_written.own_val t us in
+      by ! (fact_use 𝓤 (IsTyped us) (via 𝓤 (sem 𝓛 C) (fst∗ 𝓤 (sem 𝓛 C) (sem 𝓛 O)) (typed_cell us))
+      (λ is.
+      qed 𝓛 (‵ C ∷ ‵ O ∷ []) ∵ use0 𝓛 (‵ (fex (IsTyped us) (λ _. ftrue)))
+      (fact_i 𝓤 (IsTyped us) (emp 𝓤) is) $ move ! (1 ∷ 0 ∷ []) $ fjoin3 ! $
       fpack ! (List Val) (λ ws. fsep (ghost_var ws) (Word.the_row.own_val t ws)) us $ done !)))
 
-module _ (T : RattleType) (L : Laws T) {M : Type 1} {𝓤 : Ura M} (𝓛 : Logic 𝓤) (t : BlockId) (v : (R T).Denot) (D : Fml) (b o : ℕ) where
+module _ (T : RattleType) (L : Laws T) {M : Type 1} {𝓤 : Ura M} (𝓛 : Logic 𝓤) (t : BlockId)
+    (v : (R T).Denot) (D : Fml) (b o : ℕ) where
   open 𝓛 use {H, A as At}
 
   abbrev Pr : Type 2
@@ -117,11 +131,14 @@ module _ (T : RattleType) (L : Laws T) {M : Type 1} {𝓤 : Ura M} (𝓛 : Logic
 
   apart : ⟦ Whole ⟧ ⊢ ⟦ parts_at full_share ms zero vs b o ⟧ ∗ ⟦ Rest ⟧
   unfolding part_of
-  apart = Struct-left 𝓛 full_share [] ms (lawful_Lones 𝓛 ms (word_laws.lawful 𝓛, ((param_laws 0 T L).lawful 𝓛, tt))) vs b o
+  apart = Struct-left 𝓛 full_share [] ms
+      (lawful_Lones 𝓛 ms (word_laws.lawful 𝓛, ((param_laws 0 T L).lawful 𝓛, tt))) vs b o
 
   together : ⟦ TheWord ⟧ ∗ ⟦ TheValue ⟧ ∗ ⟦ Rest ⟧ ⊢ ⟦ Whole ⟧
   unfolding part_of
-  together = qed 𝓛 (‵ TheWord ∷ ‵ TheValue ∷ ‵ Rest ∷ []) ∵ use1 𝓛 (‵ TheField) (word_laid 𝓛 t b (o + word_at T)) $ nothing ! $ move ! (2 ∷ 0 ∷ []) $ fjoin ! $ move ! (1 ∷ 0 ∷ []) $ fjoin ! $
+  together = qed 𝓛 (‵ TheWord ∷ ‵ TheValue ∷ ‵ Rest ∷ [])
+      ∵ use1 𝓛 (‵ TheField) (word_laid 𝓛 t b (o + word_at T)) $ nothing ! $ move ! (2 ∷ 0 ∷ []) $
+      fjoin ! $ move ! (1 ∷ 0 ∷ []) $ fjoin ! $
       by ! (left_Struct 𝓛 full_share [] ms vs b o)
 
   -- the memory, with what frees it
@@ -133,7 +150,10 @@ module _ (T : RattleType) (L : Laws T) {M : Type 1} {𝓤 : Ura M} (𝓛 : Logic
 
   way_back : (κ : Lft) → ⟦ D ⟧ ⊢ ⟦ fwand (fsep (fdead κ) (fseps cut)) (fupd memory) ⟧
   unfolding fseps
-  way_back κ = qed 𝓛 (‵ D ∷ []) ∵ assume ! (‵ (fsep (fdead κ) (fsep TheWord (fsep TheValue (fsep Rest ftrue))))) $ suffices ! ⟦ memory ⟧ (upd_i 𝓤 ⟦ memory ⟧) $ fsplit ! $ drop ! $ fsplit ! $ move ! (1 ∷ []) $ fsplit ! $ move ! (1 ∷ []) $ fsplit ! $
+  way_back κ = qed 𝓛 (‵ D ∷ [])
+      ∵ assume ! (‵ (fsep (fdead κ) (fsep TheWord (fsep TheValue (fsep Rest ftrue))))) $
+      suffices ! ⟦ memory ⟧ (upd_i 𝓤 ⟦ memory ⟧) $ fsplit ! $ drop ! $ fsplit ! $ move ! (1 ∷ []) $
+      fsplit ! $ move ! (1 ∷ []) $ fsplit ! $
       move ! (3 ∷ 2 ∷ 0 ∷ 4 ∷ []) $ use3 𝓛 (‵ Whole) together $ fjoin ! $ keep ! (0 ∷ []) $ done !
 
   module _ (a : ℕ) (s : Share) (τ : Lft) (p : Share) (inc : Incl τ (R T).lives) where
@@ -155,28 +175,41 @@ module _ (T : RattleType) (L : Laws T) {M : Type 1} {𝓤 : Ura M} (𝓛 : Logic
 
     -- the word's borrow, once more, is what a `&` to the word has
     shown : ⟦ Lodged ⟧ ∗ ⟦ ValueShown ⟧ ∗ ⟦ RestShown ⟧ ⊢ ⟦ Lodged ⟧ ∗ ⟦ Shown ⟧
-    shown = qed 𝓛 (‵ Lodged ∷ ‵ ValueShown ∷ ‵ RestShown ∷ []) ∵ use1 𝓛 (‵ Lodged ⊛ ‵ Lodged) (word_borrow_twice 𝓛 t (block_ptr b o) a) $ split ! $
+    shown = qed 𝓛 (‵ Lodged ∷ ‵ ValueShown ∷ ‵ RestShown ∷ [])
+        ∵ use1 𝓛 (‵ Lodged ⊛ ‵ Lodged) (word_borrow_twice 𝓛 t (block_ptr b o) a) $ split ! $
         rewrite ! 0 (λ (x : ℕ). ‵ (word_borrow_for t b x α)) (sym (add-zero o)) refl $ fpick ! (λ j.
-        use0 𝓛 (‵ (before α α)) (before-Incl 𝓛 α α (Incl-refl α)) $ fjoin ! $ fpack ! (Lft × ℕ) (lent t b (o + word_at T) α) (α, j) $
+        use0 𝓛 (‵ (before α α)) (before-Incl 𝓛 α α (Incl-refl α)) $ fjoin ! $
+        fpack ! (Lft × ℕ) (lent t b (o + word_at T) α) (α, j) $
         -- [the word; its borrow; the value; the rest]
-        move ! (2 ∷ []) $ nothing ! $ move ! (1 ∷ 0 ∷ []) $ fjoin ! $ move ! (1 ∷ 0 ∷ []) $ fjoin ! $ move ! (0 ∷ 2 ∷ []) $ fjoin ! $ move ! (1 ∷ 0 ∷ []) $ done !)
+        move ! (2 ∷ []) $ nothing ! $ move ! (1 ∷ 0 ∷ []) $ fjoin ! $ move ! (1 ∷ 0 ∷ []) $
+        fjoin ! $ move ! (0 ∷ 2 ∷ []) $ fjoin ! $ move ! (1 ∷ 0 ∷ []) $ done !)
 
     -- lent for the lifetime a, with tokens of it and of the value's type
-    pub settles : At.bor α memory ∗ At.lft α s ∗ At.lft τ p ⊢ H.⇛ (⟦ Lodged ⟧ ∗ ⟦ Shown ⟧ ∗ At.lft α s ∗ At.lft τ p)
+    pub settles : At.bor α memory ∗ At.lft α s ∗ At.lft τ p ⊢ H.⇛
+        (⟦ Lodged ⟧ ∗ ⟦ Shown ⟧ ∗ At.lft α s ∗ At.lft τ p)
     unfolding fseps
-    settles = qed 𝓛 (‵ (fbor α memory) ∷ ‵ (flft α s) ∷ ‵ (flft τ p) ∷ []) ∵ updating ! $ bor_open ! tt $ move ! (1 ∷ []) $ fsplit ! $
-        use1 𝓛 (‵ (parts_at full_share ms zero vs b o) ⊛ ‵ Rest) apart $ split ! $ fsplit ! $ use1 𝓛 (‵ TheWord) (word_bare 𝓛 t b (o + word_at T)) $ move ! (1 ∷ []) $ fsplit ! $
-        -- [the value; nothing; the word; the rest; what frees the memory; the open borrow; the type's
-        -- token]
-        move ! (4 ∷ []) $ use1 𝓛 (‵ (fwand (fsep (fdead α) (fseps cut)) (fupd memory))) (way_back α) $ move ! (4 ∷ 2 ∷ []) $ fjoin ! $ move ! (2 ∷ 0 ∷ []) $ fjoin ! $ move ! (2 ∷ 0 ∷ []) $ fjoin ! $
-        move ! (2 ∷ 0 ∷ 1 ∷ []) $ obor_alter ! tt cut $ use1 𝓛 (‵ (fbor α TheWord) ⊛ ‵ (fbor α TheValue) ⊛ ‵ (fbor α Rest) ⊛ ‵ ftrue) (id⊢ 𝓤 _) $ split3 ! $ move ! (2 ∷ []) $ split ! $
+    settles = qed 𝓛 (‵ (fbor α memory) ∷ ‵ (flft α s) ∷ ‵ (flft τ p) ∷ []) ∵ updating ! $
+        bor_open ! tt $ move ! (1 ∷ []) $ fsplit ! $
+        use1 𝓛 (‵ (parts_at full_share ms zero vs b o) ⊛ ‵ Rest) apart $ split ! $ fsplit ! $
+        use1 𝓛 (‵ TheWord) (word_bare 𝓛 t b (o + word_at T)) $ move ! (1 ∷ []) $ fsplit ! $
+        -- [the value; nothing; the word; the rest; what frees the memory; the open borrow; the
+        -- type's token]
+        move ! (4 ∷ []) $ use1 𝓛 (‵ (fwand (fsep (fdead α) (fseps cut)) (fupd memory)))
+        (way_back α) $ move ! (4 ∷ 2 ∷ []) $ fjoin ! $ move ! (2 ∷ 0 ∷ []) $ fjoin ! $
+        move ! (2 ∷ 0 ∷ []) $ fjoin ! $
+        move ! (2 ∷ 0 ∷ 1 ∷ []) $ obor_alter ! tt cut $
+        use1 𝓛 (‵ (fbor α TheWord) ⊛ ‵ (fbor α TheValue) ⊛ ‵ (fbor α Rest) ⊛ ‵ ftrue)
+        (id⊢ 𝓤 _) $ split3 ! $ move ! (2 ∷ []) $ split ! $
         bor_fracture ! tt (λ q. fleft q (ty_struct [] (raw_tys ms)) (raw_tys ms) b o) full_share $
         -- [the rest; nothing; two borrows; the tokens]
-        move ! (2 ∷ 4 ∷ []) $ use2 𝓛 (later (‵ (word_borrow_for t b (o + word_at T) α) ⊛ ‵ (flft α s))) (borrows_word 𝓛 t b (o + word_at T) α s) $ await ! tt $ split ! $
+        move ! (2 ∷ 4 ∷ []) $
+        use2 𝓛 (later (‵ (word_borrow_for t b (o + word_at T) α) ⊛ ‵ (flft α s)))
+        (borrows_word 𝓛 t b (o + word_at T) α s) $ await ! tt $ split ! $
         rewrite ! 0 (λ (x : ℕ). ‵ (word_borrow_for t b x α)) (add-zero o) refl $
         -- [the word's borrow; a token; the rest; nothing; the value; a token]
         move ! (1 ∷ 5 ∷ []) $ join ! $ move ! (4 ∷ 0 ∷ []) $
         use2 𝓛 (later (‵ ValueShown ⊛ ‵ (flft α s) ⊛ ‵ (flft τ p)))
-        ((param_laws 0 T L).shares 𝓛 v α ((α, s) ∷ (τ, p) ∷ []) b (o + value_at T) (Incl-trans (meet_⊑_right α τ) inc) (meet_⊑_left α τ)) $ await ! tt $ split3 ! $
+        ((param_laws 0 T L).shares 𝓛 v α ((α, s) ∷ (τ, p) ∷ []) b (o + value_at T)
+        (Incl-trans (meet_⊑_right α τ) inc) (meet_⊑_left α τ)) $ await ! tt $ split3 ! $
         move ! (3 ∷ 0 ∷ 4 ∷ []) $ use3 𝓛 (‵ Lodged ⊛ ‵ Shown) shown $ split ! $
         now ! $ keep ! (0 ∷ 1 ∷ 2 ∷ 3 ∷ []) $ done !

@@ -11,11 +11,27 @@ use Rattle.arc_owners.specs.count.Invariant.{block_id_coded}
 pub same_box : {V A H : Type 0} {MAX : ℕ} {G : Ghosts H} → Coded A → (b : SoleBox V A MAX H G)
     (m : BoxPlace (Inner (Housed V A)) A) → b.memory ≡ m → (greatest : m.value.word.most ≡ MAX)
     (counted : b.sole.right.block ≡ m.value.word) (homed : m.alloc ≡ m.value.value.alloc)
-    → ◌≡◌ {A = SoleBox V A MAX H G} (record { memory = m; sole = b.sole; greatest = greatest; counted = counted; homed = homed }) b
+    → ◌≡◌ {A = SoleBox V A MAX H G}
+    (record {
+      memory = m;
+      sole = b.sole;
+      greatest = greatest;
+      counted = counted;
+      homed =
+          homed;
+    }) b
 same_box {V} {A} {H} {MAX} {G} c b m e =
     let Same : BoxPlace (Inner (Housed V A)) A → Type 0 = λ n. (greatest : n.value.word.most ≡ MAX)
     (counted : b.sole.right.block ≡ n.value.word) (homed : n.alloc ≡ n.value.value.alloc)
-    → ◌≡◌ {A = SoleBox V A MAX H G} (record { memory = n; sole = b.sole; greatest = greatest; counted = counted; homed = homed }) b in
+    → ◌≡◌ {A = SoleBox V A MAX H G}
+    (record {
+      memory = n;
+      sole = b.sole;
+      greatest = greatest;
+      counted = counted;
+      homed =
+          homed;
+    }) b in
     subst Same e (λ x y z i. record {
       memory = b.memory;
       sole = b.sole;

@@ -46,8 +46,8 @@ impl<const MAX: u64, H: Mark> SoleCount<MAX, H> {
     ghost use Rattle.arc_owners.specs.memory.Boxes.{owner_in_rest};
     ghost use Rattle.arc_owners.specs.memory.SoleCounts.{count_owner};
 
-    /// An owner to whom a value is lent, and whose share of the lifetime is elsewhere, is of another
-    /// block than a sole owner. It does nothing: what it says is so.
+    /// An owner to whom a value is lent, and whose share of the lifetime is elsewhere, is of
+    /// another block than a sole owner. It does nothing: what it says is so.
     pub fn apart_from_rest<W: Drop, B: Allocator + Copy>(
         &self,
         other: &CountedBoxWithoutLifetime<W, B, MAX, H>,

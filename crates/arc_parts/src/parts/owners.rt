@@ -30,8 +30,9 @@ impl<S: Slice, B: Buffer<S::Item> + Drop, M: Drop, A: Allocator + Copy, H: Mark>
     H,
 > {
     /// One attempt to make another owner of the same items at the same place: nothing where another
-    /// thread's step came between, which only a block's owner can meet. On a word that has a count
-    /// no entry is added then; where the exchange was lost that was to promote it, Joined.
+    /// thread's step came between, which only a block's owner can meet. A pass that knows that the
+    /// word has a count adds no entry then; where the exchange was lost that was to promote it,
+    /// Joined.
     ///
     /// # Errors
     ///

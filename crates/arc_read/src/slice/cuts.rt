@@ -2,7 +2,7 @@
 ghost use Rattle.std.specs.Prelude.{◌≡◌, ◌<◌, length, drop, take, slice_range};
 ghost use Rattle.std.specs.Prelude.{IfOk, IfErr, IfSome, IfNone};
 ghost use Rattle.arc_buffer.specs.Slice.{IsEdge, IsRange, sub};
-ghost use Rattle.arc_block.specs.Place.{at_owner, moved};
+ghost use Rattle.arc_block.specs.Place.{moved};
 ghost use Rattle.arc_parts.specs.Steps.{IsPassAt, MayJoinAt, Shares, Refuses};
 ghost use Rattle.arc_read.specs.Cuts.{sub_place};
 
@@ -26,7 +26,7 @@ impl<
     H: Mark,
 > ArcSlice<S, L, B, M, A, H> {
     /// One attempt of `try_clone_as`: nothing where another thread's step came between, which only
-    /// a block's owner can meet. On a word that has a count no entry is added then.
+    /// a block's owner can meet. A pass that knows that the word has a count adds no entry then.
     #[tactic(auto, using(arc_parts::proofs::Held::shared_held))]
     #[inline(always)]
     pub(super) fn try_clone_once_as(
@@ -87,8 +87,8 @@ impl<
         unreachable!()
     }
 
-    /// One attempt of `try_subslice_as`: nothing where another thread's step came between. On a word
-    /// that has a count no entry is added then.
+    /// One attempt of `try_subslice_as`: nothing where another thread's step came between. A pass
+    /// that knows that the word has a count adds no entry then.
     #[inline(always)]
     pub(super) fn try_subslice_once_as(
         &self,

@@ -37,8 +37,8 @@ impl<
     ) -> Result<Self, Vec<S::Item, A>>
         requires legal { S.is_legal items.items }
         requires pass { IsPassOfNone pass.old }
-        ensures made { IfOk result (λ window. MakesOfVec L.STATIC L.lone S.DROPS H.whole items.items
-            (vec_capacity items) window) }
+        ensures made { IfOk result (λ window.
+            MakesOfVec L.STATIC L.lone S.DROPS H.whole items.items (vec_capacity items) window) }
         ensures pass { IfOk result (λ window. Begins window pass.old pass.new) }
         ensures refused { IfErr result (λ back. (back ≡ items)
             × NeedsVecBlock L.STATIC (vec_capacity items) × (pass.new ≡ pass.old)) }

@@ -16,6 +16,7 @@ use super::parts::WriterStorage;
 use arc_block::layout::{AnyBufferLayout, LayoutMut};
 use arc_buffer::buffer::{BorrowMetadata, BufferMut};
 use arc_buffer::kinds::{AnyItems, Slice};
+use arc_owners::hint::assert_unchecked;
 use arc_owners::mark::{Mark, Stepping};
 use arc_owners::owners::Pass;
 use arc_writer_parts::sole::SoleParts;
@@ -123,7 +124,10 @@ impl<
     {
         match &self.parts {
             WriterStorage::Sole(parts) => parts.metadata(),
-            WriterStorage::Several(_) => unreachable!(),
+            WriterStorage::Several(_) => unsafe {
+                assert_unchecked(false);
+                unreachable!()
+            },
         }
     }
 
@@ -137,7 +141,10 @@ impl<
     {
         match &self.parts {
             WriterStorage::Sole(parts) => parts.borrowed_metadata(),
-            WriterStorage::Several(_) => unreachable!(),
+            WriterStorage::Several(_) => unsafe {
+                assert_unchecked(false);
+                unreachable!()
+            },
         }
     }
 }
@@ -156,7 +163,10 @@ impl<
     {
         match &self.parts {
             WriterStorage::Sole(parts) => parts.is_on_buffer(),
-            WriterStorage::Several(_) => unreachable!(),
+            WriterStorage::Several(_) => unsafe {
+                assert_unchecked(false);
+                unreachable!()
+            },
         }
     }
 

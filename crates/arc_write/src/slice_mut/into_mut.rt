@@ -41,9 +41,10 @@ pub trait IntoMut: Sized {
     // The window's items, and where it stands.
     ghost seen: { Self → Window Self.Kind.Item Self.Metadata };
 
-    /// The same items, as their only writer under the layout `K`, where the window stands on a block
-    /// that may be written and that the layout holds, and that no other owner has, or where it has
-    /// none and stands on no block: at the same place, which is where `writer_move` says. A native block may be written, and a
+    /// The same items, as their only writer under the layout `K`, where the window stands on a
+    /// block that may be written and that the layout holds, and that no other owner has, or where
+    /// it has none and stands on no block. On a block it goes where `writer_move` says; an empty
+    /// window of a static slice stands on nothing afterwards. A native block may be written, and a
     /// vector; a caller's buffer that was made a window to be read may not, nor an `Arc`.
     ///
     /// # Errors
@@ -72,7 +73,7 @@ pub trait IntoMut: Sized {
             layout_move (layout_facts K.Layout) (seen self).place ≡ HandedBack
             → pass.new ≡ pass.old) };
 
-    /// The same items at the same place, as their only writer: `try_into_mut_as` with a new pass.
+    /// The same items, as their only writer: `try_into_mut_as` with a new pass.
     ///
     /// # Errors
     ///

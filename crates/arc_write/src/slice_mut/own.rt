@@ -11,6 +11,7 @@ use super::parts::WriterStorage;
 use arc_block::layout::LayoutMut;
 use arc_buffer::buffer::BufferMut;
 use arc_buffer::kinds::Slice;
+use arc_owners::hint::assert_unchecked;
 use arc_owners::mark::{Mark, Stepping};
 use arc_owners::owners::Pass;
 use std::alloc::Allocator;
@@ -82,7 +83,10 @@ impl<
     {
         match &self.parts {
             WriterStorage::Sole(parts) => parts.only(pass),
-            WriterStorage::Several(_) => unreachable!(),
+            WriterStorage::Several(_) => unsafe {
+                assert_unchecked(false);
+                unreachable!()
+            },
         }
     }
 }
@@ -104,7 +108,10 @@ impl<
     {
         match &self.parts {
             WriterStorage::Sole(parts) => parts.learn(pass, other),
-            WriterStorage::Several(_) => unreachable!(),
+            WriterStorage::Several(_) => unsafe {
+                assert_unchecked(false);
+                unreachable!()
+            },
         }
     }
 
@@ -139,7 +146,10 @@ impl<
     {
         match &self.parts {
             WriterStorage::Sole(parts) => parts.pass(),
-            WriterStorage::Several(_) => unreachable!(),
+            WriterStorage::Several(_) => unsafe {
+                assert_unchecked(false);
+                unreachable!()
+            },
         }
     }
 }

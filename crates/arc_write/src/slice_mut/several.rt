@@ -17,6 +17,7 @@ use super::parts::WriterStorage;
 use arc_block::layout::LayoutMut;
 use arc_buffer::buffer::BufferMut;
 use arc_buffer::kinds::{Shareable, Slice};
+use arc_owners::hint::assert_unchecked;
 use arc_owners::mark::{Mark, Stepping};
 use arc_owners::owners::Pass;
 use arc_writer_parts::shared::SharedParts;
@@ -81,7 +82,10 @@ impl<
         let ArcSliceMut { parts, of: _ } = self;
         match parts {
             WriterStorage::Several(parts) => parts,
-            WriterStorage::Sole(_) => unreachable!(),
+            WriterStorage::Sole(_) => unsafe {
+                assert_unchecked(false);
+                unreachable!()
+            },
         }
     }
 
@@ -101,7 +105,10 @@ impl<
     {
         match &self.parts {
             WriterStorage::Several(parts) => parts.known_place(),
-            WriterStorage::Sole(_) => unreachable!(),
+            WriterStorage::Sole(_) => unsafe {
+                assert_unchecked(false);
+                unreachable!()
+            },
         }
     }
 
@@ -111,7 +118,10 @@ impl<
     {
         match &self.parts {
             WriterStorage::Several(parts) => parts.is_on_vector(),
-            WriterStorage::Sole(_) => unreachable!(),
+            WriterStorage::Sole(_) => unsafe {
+                assert_unchecked(false);
+                unreachable!()
+            },
         }
     }
 
@@ -122,7 +132,10 @@ impl<
     {
         match &self.parts {
             WriterStorage::Several(parts) => parts.known_uncounted(),
-            WriterStorage::Sole(_) => unreachable!(),
+            WriterStorage::Sole(_) => unsafe {
+                assert_unchecked(false);
+                unreachable!()
+            },
         }
     }
 
@@ -132,7 +145,10 @@ impl<
     {
         match &self.parts {
             WriterStorage::Several(parts) => parts.known_kind(),
-            WriterStorage::Sole(_) => unreachable!(),
+            WriterStorage::Sole(_) => unsafe {
+                assert_unchecked(false);
+                unreachable!()
+            },
         }
     }
 
@@ -178,7 +194,10 @@ impl<
     {
         match &self.parts {
             WriterStorage::Several(parts) => parts.pass(),
-            WriterStorage::Sole(_) => unreachable!(),
+            WriterStorage::Sole(_) => unsafe {
+                assert_unchecked(false);
+                unreachable!()
+            },
         }
     }
 

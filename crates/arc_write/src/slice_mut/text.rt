@@ -13,6 +13,7 @@ use arc_block::layout::LayoutMut;
 use arc_buffer::buffer::BufferMut;
 use arc_buffer::kinds::Text;
 use arc_owners::error::{AllocError, TryReserveError};
+use arc_owners::hint::assert_unchecked;
 use arc_owners::mark::Mark;
 use arc_owners::owners::Pass;
 use arc_writer_parts::sole::SoleParts;
@@ -102,7 +103,10 @@ impl<L: LayoutMut, B: BufferMut<u8> + Drop, M: Drop, A: Allocator + Copy, H: Mar
     {
         match &mut self.parts {
             WriterStorage::Sole(parts) => parts.try_extend_from_slice_as(text.as_bytes(), pass),
-            WriterStorage::Several(_) => unreachable!(),
+            WriterStorage::Several(_) => unsafe {
+                assert_unchecked(false);
+                unreachable!()
+            },
         }
     }
 }

@@ -3,7 +3,6 @@ ghost use Rattle.std.specs.Prelude.{◌≡◌, ◌≤◌, true, IfOk, IfErr};
 ghost use Rattle.std.specs.Vec.{vec_capacity};
 ghost use Rattle.std.specs.declared.vec.Vec.{Vec};
 ghost use Rattle.arc_owners.specs.count.Calls.{IsPassOfNone, Leaves};
-ghost use Rattle.arc_block.specs.Block.{vector};
 ghost use Rattle.arc_block.specs.Place.{nowhere, at_owner};
 ghost use Rattle.arc_parts.specs.Window.{IsVecPart, IsBoxWhole};
 ghost use Rattle.arc_parts.specs.Writers.{MakesVecWriter};
@@ -167,8 +166,9 @@ impl<
         S: VecIn<A>,
         ensures made { IfOk result (λ window.
             WithNewPass {M = M} {H = H} H.real nowhere (λ first last. (inner : Vec S.Item A)
-            × S.Vec.wraps items inner × MakesVecWriter L.lone S.DROPS H.whole (S.list_in_vec items)
-            (vec_capacity inner) window first last)) }
+            × S.Vec.wraps items inner
+            × MakesVecWriter L.lone S.DROPS H.whole (S.list_in_vec items) (vec_capacity inner)
+            window first last)) }
         ensures refused { IfErr result (λ back. (inner : Vec S.Item A) × S.Vec.wraps items inner
             × S.Vec.wraps back inner × (1 ≤ vec_capacity inner)) }
     {

@@ -42,11 +42,11 @@ impl<S: Slice, B: BufferMut<S::Item> + Drop, M: Drop, A: Allocator + Copy, H: Ma
         let nothing = Self::on_nothing(self.alloc);
         match mem::replace(self, nothing).unsplit_as(other, pass) {
             Ok(joined) => {
-                *self = joined;
+                self.take_in(joined);
                 Ok(())
             }
             Err((parts, other)) => {
-                *self = parts;
+                self.take_in(parts);
                 Err(other)
             }
         }

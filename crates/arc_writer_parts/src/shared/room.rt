@@ -110,7 +110,7 @@ impl<S: Slice, B: BufferMut<S::Item> + Drop, M: Drop, A: Allocator + Copy, H: Ma
         self.known_kind();
         let nothing = Self::on_nothing(self.alloc);
         let (parts, made) = mem::replace(self, nothing).with_room_as(additional, pass);
-        *self = parts;
+        self.take_in(parts);
         made
     }
 
@@ -192,7 +192,7 @@ impl<S: Slice, B: BufferMut<S::Item> + Drop, M: Drop, A: Allocator + Copy, H: Ma
         self.known_kind();
         let nothing = Self::on_nothing(self.alloc);
         let (parts, found) = mem::replace(self, nothing).with_places_as(additional, pass);
-        *self = parts;
+        self.take_in(parts);
         found
     }
 

@@ -64,11 +64,11 @@ where
         let nothing = Self::on_nothing(self.alloc);
         match mem::replace(self, nothing).split_off_as(rt, at, pass) {
             Ok((front, back)) => {
-                *self = front;
+                self.take_in(front);
                 Ok(back)
             }
             Err((whole, e)) => {
-                *self = whole;
+                self.take_in(whole);
                 Err(e)
             }
         }
@@ -173,11 +173,11 @@ where
         let nothing = Self::on_nothing(self.alloc);
         match mem::replace(self, nothing).split_to_as(rt, at, pass) {
             Ok((back, front)) => {
-                *self = back;
+                self.take_in(back);
                 Ok(front)
             }
             Err((whole, e)) => {
-                *self = whole;
+                self.take_in(whole);
                 Err(e)
             }
         }

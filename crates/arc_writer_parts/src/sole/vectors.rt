@@ -41,8 +41,9 @@ impl<S: Slice, B: BufferMut<S::Item> + Drop, M: Drop, A: Allocator + Copy, H: Ma
         pass: &mut Pass<H>,
     ) -> Result<Self, Vec<S::Item, A>>
         requires pass { IsPassOfNone pass.old }
-        ensures made { IfOk result (λ parts. MakesWriterOver Counted vector S.DROPS H.whole items.items
-            (vec_capacity items) parts pass.old pass.new) }
+        ensures made { IfOk result (λ parts.
+            MakesWriterOver Counted vector S.DROPS H.whole items.items (vec_capacity items) parts
+            pass.old pass.new) }
         ensures refused { IfErr result (λ back. (back ≡ items) × (1 ≤ vec_capacity items)
             × (pass.new ≡ pass.old)) }
     {

@@ -1,6 +1,8 @@
 -- One copy more stands behind those that there are.
-use Rattle.std.proofs.Common.{◌≡◌, ℕ, ◌+◌, ◌-◌, ◌<◌, ◌≤◌, Bool, true, false, List, [], ◌∷◌, ◌++◌, length, get_or, set, take, replicate, ap, ◌∙◌, arith, append_assoc}
-use Rattle.std.proofs.lemmas.List.{take_more_set, replicate-append-replicate, get_or-set_same, get_or-set_other}
+use Rattle.std.proofs.Common.{◌≡◌, ℕ, ◌+◌, ◌-◌, ◌<◌, ◌≤◌, Bool, true, false, List, [], ◌∷◌, ◌++◌}
+use Rattle.std.proofs.Common.{length, get_or, set, take, replicate, ap, ◌∙◌, arith, append_assoc}
+use Rattle.std.proofs.lemmas.List.{take_more_set, replicate-append-replicate, get_or-set_same}
+use Rattle.std.proofs.lemmas.List.{get_or-set_other}
 use Rattle.std.proofs.lemmas.Bool.{cases_Bool, eqb-true, eqb-false}
 use Rattle.std.proofs.Common.{eqb, inl, inr}
 use Rattle.std.specs.Mem.Slots.Ownership.{Filled}
@@ -40,7 +42,8 @@ loop-i-preserved g c =
       },
       low,
       high,
-      (λ k z h. ap (λ fs. get_or fs k false) put.filled ∙ more_filled old.filled at.i marked so.3 k z h),
+      (λ k z h. ap (λ fs. get_or fs k false) put.filled ∙ more_filled old.filled at.i marked so.3 k
+          z h),
       ap (take (at.i + 1)) put.items
           ∙ more_copies old.items _ at.i c.args.from c.args.item so.1 within so.4,
     )

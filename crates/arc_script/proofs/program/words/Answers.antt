@@ -1,5 +1,6 @@
 -- One word more is read, until there is no argument more.
-use Rattle.std.proofs.Common.{◌≡◌, ℕ, ◌+◌, [], ◌∷◌, length, map, string_bytes, subst, sym, ap, ◌∙◌, arith}
+use Rattle.std.proofs.Common.{◌≡◌, ℕ, ◌+◌, [], ◌∷◌, length, map, string_bytes, subst, sym, ap, ◌∙◌}
+use Rattle.std.proofs.Common.{arith}
 use Rattle.std.proofs.lemmas.List.{map-append, length-map}
 use Rattle.arc_script.specs.Arguments.{Answer, IsWord, WordsFrom}
 use Rattle.arc_script.specs.declared.program.TheConstants.{WORD}
@@ -11,7 +12,8 @@ words-preserved g c =
     let words = c.words.words.items in
     let word = c.in-Some.word in
     let answers : ℕ → Answer → Type 0 = λ i. g.G.Arguments.answers c.args.given.now i WORD in
-    let is : IsWord (answers c.words.i) (string_bytes word) = rw c.in-Some.is at c.in_ok-word.ensures in
+    let is : IsWord (answers c.words.i) (string_bytes word) = rw c.in-Some.is at
+    c.in_ok-word.ensures in
     let behind : c.words.i ≡ 1 + length (map string_bytes words) =
     omega (arith, c.words.invariant.number, length-map words string_bytes, c.words.words.ok.0) in
     let push = c.in_ok-push.ensures in

@@ -15,12 +15,15 @@ pub returns-in-Some-Show : goal.returns-in-Some-Show
 returns-in-Some-Show g c =
     let table = c.args.table.now in
     let reply = line_reply (λ items. items.now) c.show_in_place.result in
-    let does : CarriesOutSaid g.L.NamedLayout.named table (option_map line_command c.args.said) (Some reply) table =
-    subst (λ said. CarriesOutSaid g.L.NamedLayout.named table (option_map line_command said) (Some reply) table)
+    let does : CarriesOutSaid g.L.NamedLayout.named table (option_map line_command c.args.said)
+    (Some reply) table =
+    subst (λ said. CarriesOutSaid g.L.NamedLayout.named table (option_map line_command said)
+    (Some reply) table)
     (sym (c.in-Some-Show.is ∙ ap (λ command. Some command) c.in-Some-Show.field-0-is))
     (subst (λ i. CarriesOut (script_setting g.L.NamedLayout.named) table (Show i) reply table)
     c.in-Some-Show.window-is
-    (subst (λ s. CarriesOut s table (Show c.in-Some-Show.window) reply table) g.met.L.NamedLayout.run_so
+    (subst (λ s. CarriesOut s table (Show c.in-Some-Show.window) reply table)
+    g.met.L.NamedLayout.run_so
     c.show_in_place.ensures.carried)) in
     let push = c.push_answer in
     record {

@@ -9,7 +9,8 @@ returns-clause-ok g c =
     let state = c.run-result.new.self.table in
     on_ok_then c.run-result.result c.run-result.ensures.ok
     (exchange_as (IsThrough g.L.NamedLayout.named state)
-    (ThenEnds g.L.NamedLayout.named (IsThrough g.L.NamedLayout.named) c.end.result.of_blocks.items) _ _ _ _
+    (ThenEnds g.L.NamedLayout.named (IsThrough g.L.NamedLayout.named) c.end.result.of_blocks.items)
+    _ _ _ _
     (λ input text ran. (state, ran, c.end.ensures.passes)))
 
 pub returns-clause-begun : goal.returns-clause-begun

@@ -9,7 +9,8 @@ pub returns-clause-ok : goal.returns-clause-ok
 returns-clause-ok g c =
     let ran = c.run_to_end-result in
     on_ok_then ran.result.0 ran.ensures.ok
-    (exchange_as (ThenEnds g.L.NamedLayout.named (IsThrough g.L.NamedLayout.named) ran.result.1.of_blocks.items)
+    (exchange_as (ThenEnds g.L.NamedLayout.named (IsThrough g.L.NamedLayout.named)
+    ran.result.1.of_blocks.items)
     (IsReplyText g.L.NamedLayout.named) _ _ _ _
     (λ input text h. through_text h.0 input text h.1))
 
@@ -18,7 +19,8 @@ returns-clause-begun g c =
     let ran = c.run_to_end-result in
     let passes = ran.result.1.of_blocks.items in
     if_err_then ran.result.0 ran.ensures.begun (λ fault.
-    exchange_as (ThenEnds g.L.NamedLayout.named (IsBrokenOff g.L.NamedLayout.named fault) passes) (BeginsReplyText g.L.NamedLayout.named) _ _ _ _
+    exchange_as (ThenEnds g.L.NamedLayout.named (IsBrokenOff g.L.NamedLayout.named fault) passes)
+    (BeginsReplyText g.L.NamedLayout.named) _ _ _ _
     (λ input text h. broken_text fault h.0 input text h.1))
 
 pub returns-clause-answered : goal.returns-clause-answered

@@ -8,7 +8,8 @@ invariant-loop-rest g l =
     let told = g.W.Sink.traffic in
     let held = g.W.Sink.contents in
     record {
-      front : (sent : List ℕ) × (l.bytes ≡ sent ++ l.rest) × ((told l.writer).bytes ≡ (told l.fn.writer).bytes ++ sent);
+      front : (sent : List ℕ) × (l.bytes ≡ sent ++ l.rest)
+          × ((told l.writer).bytes ≡ (told l.fn.writer).bytes ++ sent);
       clean : NoFault (told l.fn.writer) (told l.writer);
       taken : Takes (told l.fn.writer) (told l.writer) (held l.fn.writer) (held l.writer);
     }

@@ -22,8 +22,10 @@ returns-in-Ok-clause-made g c =
       said = (
         ap (λ b. if b then Some (row_on (g.S.Commands.items_in c.args.items) passes) else None)
             (sym c.ANY.ensures ∙ c.if-not-ANY.false)
-            ∙ ap Some (sym (c.in-Ok.ensures.row ∙ ap (λ xs. row_on xs c.reserve_for.new.self.of_blocks.items) c.vec_of.ensures.list
-            ∙ ap (λ ps. row_on (g.S.Commands.items_in c.args.items) ps) c.reserve_for.ensures.items)),
+            ∙ ap Some (sym (c.in-Ok.ensures.row
+            ∙ ap (λ xs. row_on xs c.reserve_for.new.self.of_blocks.items) c.vec_of.ensures.list
+            ∙ ap (λ ps. row_on (g.S.Commands.items_in c.args.items) ps)
+            c.reserve_for.ensures.items)),
         refl,
         subst (λ ps. Founds (stand_of (Some slot)) ps c.vector.new.passes.of_blocks.items)
             c.reserve_for.ensures.items c.in-Ok.ensures.stand,

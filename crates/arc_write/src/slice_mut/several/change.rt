@@ -71,8 +71,8 @@ impl<
     ///
     /// # Errors
     ///
-    /// The window, exactly where it stands on a block that the layout doesn't hold; the pass is then
-    /// as before.
+    /// The window, exactly where it stands on a block that the layout doesn't hold; the pass is
+    /// then as before.
     #[tactic(auto, using(crate::proofs::Moves::held_moves, crate::proofs::Moves::back_refused))]
     pub fn try_with_layout_as<K: LayoutMut>(
         self,
@@ -112,7 +112,8 @@ impl<
     ///
     /// Those of `try_with_layout_as`.
     pub fn try_with_layout<K: LayoutMut>(self) -> Result<ArcSliceMut<S, K, 0, B, M, A, H>, Self>
-        ensures moved { IfOk result (λ window. WithNewPass {H = H} H.real self.place (λ first last.
+        ensures moved { IfOk result (λ window.
+            WithNewPass {H = H} H.real self.place (λ first last.
             Moves (writer_move (layout_facts K.Layout) self.place) S.DROPS H.whole self window
             first last)) }
         ensures items { IfOk result (λ window. window.items ≡ self.items) }

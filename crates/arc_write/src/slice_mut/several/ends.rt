@@ -15,6 +15,7 @@ use crate::slice_mut::parts::WriterStorage;
 use arc_block::layout::{Layout, LayoutMut};
 use arc_buffer::buffer::BufferMut;
 use arc_buffer::kinds::Slice;
+use arc_owners::hint::assert_unchecked;
 use arc_owners::mark::{Mark, Stepping};
 use arc_owners::owners::Pass;
 use arc_read::slice::ArcSlice;
@@ -133,7 +134,10 @@ impl<
     {
         match &self.parts {
             WriterStorage::Several(parts) => parts.learn(pass, other),
-            WriterStorage::Sole(_) => unreachable!(),
+            WriterStorage::Sole(_) => unsafe {
+                assert_unchecked(false);
+                unreachable!()
+            },
         }
     }
 

@@ -13,6 +13,7 @@ use arc_block::layout::LayoutMut;
 use arc_buffer::buffer::BufferMut;
 use arc_buffer::kinds::Slice;
 use arc_owners::error::TryReserveError;
+use arc_owners::hint::assert_unchecked;
 use arc_owners::mark::{Mark, Stepping};
 use arc_owners::owners::Pass;
 use std::alloc::Allocator;
@@ -62,7 +63,10 @@ impl<
     {
         match &mut self.parts {
             WriterStorage::Several(parts) => parts.try_reserve_as(additional, pass),
-            WriterStorage::Sole(_) => unreachable!(),
+            WriterStorage::Sole(_) => unsafe {
+                assert_unchecked(false);
+                unreachable!()
+            },
         }
     }
 
@@ -81,7 +85,10 @@ impl<
     {
         match &mut self.parts {
             WriterStorage::Several(parts) => parts.try_reclaim_as(additional, pass),
-            WriterStorage::Sole(_) => unreachable!(),
+            WriterStorage::Sole(_) => unsafe {
+                assert_unchecked(false);
+                unreachable!()
+            },
         }
     }
 }

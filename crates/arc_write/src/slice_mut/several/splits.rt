@@ -14,6 +14,7 @@ use arc_block::layout::LayoutMut;
 use arc_buffer::buffer::BufferMut;
 use arc_buffer::kinds::{Concatenable, Subsliceable};
 use arc_owners::error::{AllocError, OwnerError};
+use arc_owners::hint::assert_unchecked;
 use arc_owners::mark::{Mark, Stepping};
 use arc_owners::owners::Pass;
 use std::alloc::Allocator;
@@ -67,7 +68,10 @@ where
                 Ok(back) => Ok(Self::from_shared_parts(back)),
                 Err(e) => Err(e),
             },
-            WriterStorage::Sole(_) => unreachable!(),
+            WriterStorage::Sole(_) => unsafe {
+                assert_unchecked(false);
+                unreachable!()
+            },
         }
     }
 
@@ -104,7 +108,10 @@ where
                 Ok(front) => Ok(Self::from_shared_parts(front)),
                 Err(e) => Err(e),
             },
-            WriterStorage::Sole(_) => unreachable!(),
+            WriterStorage::Sole(_) => unsafe {
+                assert_unchecked(false);
+                unreachable!()
+            },
         }
     }
 
@@ -131,7 +138,10 @@ where
     {
         match &mut self.parts {
             WriterStorage::Several(parts) => parts.try_leave_vector_as(pass),
-            WriterStorage::Sole(_) => unreachable!(),
+            WriterStorage::Sole(_) => unsafe {
+                assert_unchecked(false);
+                unreachable!()
+            },
         }
     }
 }
@@ -174,7 +184,10 @@ where
                 Ok(()) => Ok(()),
                 Err(other) => Err(Self::from_shared_parts(other)),
             },
-            WriterStorage::Sole(_) => unreachable!(),
+            WriterStorage::Sole(_) => unsafe {
+                assert_unchecked(false);
+                unreachable!()
+            },
         }
     }
 }

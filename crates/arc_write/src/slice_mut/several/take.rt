@@ -15,6 +15,7 @@ use crate::slice_mut::parts::WriterStorage;
 use arc_block::layout::LayoutMut;
 use arc_buffer::buffer::{BorrowMetadata, BufferMut};
 use arc_buffer::kinds::{Slice, VecIn, Wraps};
+use arc_owners::hint::assert_unchecked;
 use arc_owners::mark::{Mark, Stepping};
 use arc_owners::owners::Pass;
 use std::alloc::Allocator;
@@ -240,7 +241,10 @@ impl<
     {
         match &self.parts {
             WriterStorage::Several(parts) => parts.metadata(),
-            WriterStorage::Sole(_) => unreachable!(),
+            WriterStorage::Sole(_) => unsafe {
+                assert_unchecked(false);
+                unreachable!()
+            },
         }
     }
 
@@ -254,7 +258,10 @@ impl<
     {
         match &self.parts {
             WriterStorage::Several(parts) => parts.borrowed_metadata(),
-            WriterStorage::Sole(_) => unreachable!(),
+            WriterStorage::Sole(_) => unsafe {
+                assert_unchecked(false);
+                unreachable!()
+            },
         }
     }
 }

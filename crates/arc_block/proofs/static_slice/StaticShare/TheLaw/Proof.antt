@@ -12,6 +12,7 @@ use Rattle.arc_owners.proofs.LentSlices.{kept_laws, kept_lends}
 use Rattle.arc_block.proofs.static_slice.StaticShare.TheLaw.Statement.{statement}
 
 pub shares : (T : RattleType) (L : Laws T) → statement T L
-shares T L = of_Lends (C.struct T) (C.the_codes T.Denot T.coded (marker.the_row RawPtr).coded) (C.the_heap T) (C.the_lent T) (λ d p. kept_laws T L.shr_laws d.ptr d.items [])
+shares T L = of_Lends (C.struct T) (C.the_codes T.Denot T.coded (marker.the_row RawPtr).coded)
+    (C.the_heap T) (C.the_lent T) (λ d p. kept_laws T L.shr_laws d.ptr d.items [])
     (copy_shared (marker.the_field RawPtr) (field_copy (marker.the_type RawPtr) tt), tt)
     (λ M 𝓤 𝓛 d p. kept_lends T L.shr_laws d.ptr d.items [] 𝓛 (C.the_row T).lives)

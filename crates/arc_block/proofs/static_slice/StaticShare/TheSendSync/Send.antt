@@ -5,4 +5,9 @@ use Rattle.arc_owners.proofs.LentSlices.{lent_keyless}
 use Rattle.arc_block.specs.contracts.static_slice.StaticShare.{the_row}
 
 pub send : (T : RattleType) → IsSync T → IsSend (the_row T)
-send T y = record { owned = λ d vs. ((λ vss. (tt, ((λ uss. (tt, tt)), tt))), lent_keyless T y d.ptr d.items []); leaving = λ k f vs. tt }
+send T y = record {
+  owned =
+      λ d vs. ((λ vss. (tt, ((λ uss. (tt, tt)), tt))), lent_keyless T y d.ptr d.items []);
+  leaving =
+      λ k f vs. tt;
+}

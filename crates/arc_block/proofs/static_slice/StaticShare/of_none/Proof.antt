@@ -5,7 +5,8 @@ use mir.Val.{Val, vptr, vstruct, vcons, vnil, of_list}
 use mir.MapTy.{inst_fn}
 use base.Logic.{SProp, emp}
 use base.Fml.{Lft, ftrue, fsep, feq, flft}
-use types.Kit.{‵, raw, ◌⊛◌, ◌$◌, ◌∵◌, !, qed, by, move, keep, split, fsplit, fjoin, fpack, feq_i, use0, use1}
+use types.Kit.{‵, raw, ◌⊛◌, ◌$◌, ◌∵◌, !, qed, by, move, keep, split, fsplit, fjoin, fpack, feq_i}
+use types.Kit.{use0, use1}
 use types.Part.{agg, sub, whole}
 use types.Run.{addr, from, fld, hop, stop, no_more, and_then, returns, enter}
 use types.ByLocal.{alloc_all, pass_all, free_all, look_at, look_in_at, get, sets}
@@ -32,26 +33,52 @@ use Rattle.arc_block.proofs.static_slice.StaticShare.of_none.Code as code
 
 pub of_none_spec : {M : Type 1} → statement M
 of_none_spec 𝓤 𝓛 𝓜 𝓡 wired T L =
-    let H = 𝓛.H in let 𝓣 = tables 𝓤 H 𝓜 𝓡 𝓡.env in let R : RattleType = param 0 T in let En = f.ended T in let c = f.clauses T 𝓛 𝓜.mem 𝓡.returns in
-    let inst = layouts (a_type ∷ []) (T, tt) in let fn = inst_fn inst code.function in let Row : RattleType = StaticShare.the_row R in
-    let hs : Stays En.signature.params En.kept = (stay_dropped (SliceRefOf (0 ∷ []) tt (plain (λ _. R)) (λ _. tt)) yes, tt) in
-    proved 𝓛 En hs c 𝓜 𝓡 (Goes-dropped 𝓛 2 (SliceRefOf (0 ∷ []) tt (plain (λ _. R)) (λ _. tt)) yes (λ κs x w. refl), tt) (f.Key.name inst) fn (code.unfolded 𝓤 H 𝓜 𝓡 wired (T, tt))
-    (λ κs. (shr_slice_vals, tt)) (λ κs. (shr_slice_Tells (named 0) κs.0 R, tt)) (λ κs qs bounds a gh are.
-    let xs = a.0.now in let b = a.0.ref_ptr.0 in let o = a.0.ref_ptr.1 in let at : Ptr = block_ptr b o in let fits = are.0.0.1.0 in let κ : Lft = κs.0 in let Asked : Type 0 = xs ≡ [] in
-    let y : (walk_of 𝓛 En hs c).Ghost = ((κs, qs, bounds, a, (slice_val (b, o) (length xs) ∷ [], tt)), gh) in let Post : Val → SProp 𝓤 = (walk_of 𝓛 En hs c).post y in
-    let made : Row.Denot = record { mark = record {}; ptr = at; items = [] } in let u : Val = vstruct (vcons (vptr b o) (vcons token vnil)) in let Rs : List RattleType = RawPtr ∷ Row ∷ [] in
-    qed 𝓛 ((‵ (fsep (flft κs.0 qs.0) (fsep (flft κs.1.0 qs.1.0) ftrue)) ⊛ ‵ (owns (types_at En.signature.params κs) a y.0.4)) ∷ raw (fact 𝓤 (κs.1.0 ⊑ T.lives)) ∷ raw (fact 𝓤 Asked) ∷ []) ∵
+    let H = 𝓛.H in let 𝓣 = tables 𝓤 H 𝓜 𝓡 𝓡.env in let R : RattleType = param 0 T in
+    let En = f.ended T in let c = f.clauses T 𝓛 𝓜.mem 𝓡.returns in
+    let inst = layouts (a_type ∷ []) (T, tt) in let fn = inst_fn inst code.function in
+    let Row : RattleType = StaticShare.the_row R in
+    let hs : Stays En.signature.params En.kept =
+    (stay_dropped (SliceRefOf (0 ∷ []) tt (plain (λ _. R)) (λ _. tt)) yes, tt) in
+    proved 𝓛 En hs c 𝓜 𝓡 (
+      Goes-dropped 𝓛 2 (SliceRefOf (0 ∷ []) tt (plain (λ _. R)) (λ _. tt)) yes
+          (λ κs x w. refl),
+      tt,
+    ) (f.Key.name inst) fn (code.unfolded 𝓤 H 𝓜 𝓡 wired (T, tt))
+    (λ κs. (shr_slice_vals, tt)) (λ κs. (shr_slice_Tells (named 0) κs.0 R, tt))
+    (λ κs qs bounds a gh are.
+    let xs = a.0.now in let b = a.0.ref_ptr.0 in let o = a.0.ref_ptr.1 in
+    let at : Ptr = block_ptr b o in let fits = are.0.0.1.0 in let κ : Lft = κs.0 in
+    let Asked : Type 0 = xs ≡ [] in
+    let y : (walk_of 𝓛 En hs c).Ghost =
+    ((κs, qs, bounds, a, (slice_val (b, o) (length xs) ∷ [], tt)), gh) in
+    let Post : Val → SProp 𝓤 = (walk_of 𝓛 En hs c).post y in
+    let made : Row.Denot = record { mark = record {}; ptr = at; items = [] } in
+    let u : Val = vstruct (vcons (vptr b o) (vcons token vnil)) in
+    let Rs : List RattleType = RawPtr ∷ Row ∷ [] in
+    qed 𝓛 ((‵ (fsep (flft κs.0 qs.0) (fsep (flft κs.1.0 qs.1.0) ftrue)) ⊛ ‵
+    (owns (types_at En.signature.params κs) a y.0.4)) ∷ raw (fact 𝓤 (κs.1.0 ⊑ T.lives)) ∷ raw
+    (fact 𝓤 Asked) ∷ []) ∵
     move ! (2 ∷ []) $ heard ! Asked (λ asked. keep ! (0 ∷ []) $ split ! $
-    move ! (1 ∷ []) $ fsplit ! $ fsplit ! $ fsplit ! $ keep ! (2 ∷ 1 ∷ 4 ∷ []) $ unhide ! $ move ! (1 ∷ []) $ nothing ! $ fjoin ! $ fjoin ! $
+    move ! (1 ∷ []) $ fsplit ! $ fsplit ! $ fsplit ! $ keep ! (2 ∷ 1 ∷ 4 ∷ []) $ unhide ! $
+    move ! (1 ∷ []) $ nothing ! $ fjoin ! $ fjoin ! $
     -- [the items, lent for good; the tokens]
     use1 𝓛 (‵ (slice_lent R at [] [])) (none_lent R at xs κ 𝓛 asked) $
     use1 𝓛 (‵ (Row.own_val made (token ∷ []))) (share_made R 𝓛 made) $
-    enter ! 𝓣.C 𝓣.Λ fn (slice_val (b, o) (length xs) ∷ []) Post $ alloc_all ! (λ l. pass_all ! refl ((tt, (tt, (record { fits = fits }, tt))), tt) $
-    sets ! (addr ! (from ! (fld ! refl (hop ! (look_in_at ! 1 (sub ! 0 refl (whole !))) (stop !))))) refl (tt, tt) $
-    sets ! (agg ! (no_more !)) refl (tt, tt) $ sets ! (agg ! (and_then ! (get ! refl) (no_more !))) refl (tt, (tt, tt)) $
-    sets ! (agg ! (and_then ! (get ! refl) (and_then ! (get ! refl) (no_more !)))) refl (tt, (tt, ((tt, tt), tt))) $
-    nothing ! $ move ! (1 ∷ 0 ∷ []) $ fjoin ! $ feq_i ! (List Val) (vptr b o ∷ []) (vptr b o ∷ []) refl $ fjoin ! $ feq_i ! (List Val) (u ∷ []) (u ∷ []) refl $ fjoin ! $
-    fpack ! (Valss Rs) (λ uss. fsep (feq (List Val) (u ∷ []) (vstruct (of_list (uss.0 ++ (uss.1.0 ++ []))) ∷ [])) (owns Rs (at, (made, tt)) uss)) (vptr b o ∷ [], (token ∷ [], tt)) $
-    let none : List R.Denot = [] in let Told : Type 0 = (at ≡ at) × (none ≡ none) in use0 𝓛 (raw (fact 𝓤 Told)) (fact_i 𝓤 Told (emp 𝓤) (refl, refl)) $ nothing ! $ nothing ! $ fjoin ! $
+    enter ! 𝓣.C 𝓣.Λ fn (slice_val (b, o) (length xs) ∷ []) Post $
+    alloc_all ! (λ l. pass_all ! refl ((tt, (tt, (record { fits = fits }, tt))), tt) $
+    sets ! (addr ! (from ! (fld ! refl (hop ! (look_in_at ! 1 (sub ! 0 refl (whole !))) (stop !)))))
+    refl (tt, tt) $
+    sets ! (agg ! (no_more !)) refl (tt, tt) $ sets ! (agg ! (and_then ! (get ! refl) (no_more !)))
+    refl (tt, (tt, tt)) $
+    sets ! (agg ! (and_then ! (get ! refl) (and_then ! (get ! refl) (no_more !)))) refl
+    (tt, (tt, ((tt, tt), tt))) $
+    nothing ! $ move ! (1 ∷ 0 ∷ []) $ fjoin ! $ feq_i ! (List Val) (vptr b o ∷ []) (vptr b o ∷ [])
+    refl $ fjoin ! $ feq_i ! (List Val) (u ∷ []) (u ∷ []) refl $ fjoin ! $
+    fpack ! (Valss Rs)
+    (λ uss. fsep (feq (List Val) (u ∷ []) (vstruct (of_list (uss.0 ++ (uss.1.0 ++ []))) ∷ []))
+    (owns Rs (at, (made, tt)) uss)) (vptr b o ∷ [], (token ∷ [], tt)) $
+    let none : List R.Denot = [] in let Told : Type 0 = (at ≡ at) × (none ≡ none) in
+    use0 𝓛 (raw (fact 𝓤 Told)) (fact_i 𝓤 Told (emp 𝓤) (refl, refl)) $ nothing ! $ nothing ! $
+    fjoin ! $
     returns ! (look_at ! 0 refl) $ free_all ! refl $ keep ! (3 ∷ 0 ∷ 2 ∷ 1 ∷ []) $
     by ! (leaves 𝓛 En hs c y u (at, made) (tt, tt) (tt, tt)))))

@@ -7,7 +7,8 @@ use mir.MapTy.{inst_fn}
 use base.Logic.{SProp, ent, emp, id⊢}
 use base.Fml.{ftrue, fsep, flft}
 use prog.Wp.{WpFn}
-use types.Kit.{‵, raw, ◌⊛◌, ◌$◌, ◌∵◌, !, qed, by, move, keep, drop, split, fsplit, fjoin, fpick, feq_l, feq_i, suffices, use2, rewrite}
+use types.Kit.{‵, raw, ◌⊛◌, ◌$◌, ◌∵◌, !, qed, by, move, keep, drop, split, fsplit, fjoin, fpick}
+use types.Kit.{feq_l, feq_i, suffices, use2, rewrite}
 use types.Run.{stop, fld, of_opd, returns, enter}
 use types.ByLocal.{alloc_all, pass_all, free_all, look_at, get, get_in, sets}
 use types.Part.{sub, whole}
@@ -38,27 +39,71 @@ use Rattle.arc_memory.proofs.emptied.Emptied.filled.Code as code
 
 pub filled_spec : {M : Type 1} → statement M
 filled_spec 𝓤 𝓛 𝓜 𝓡 wired T A L LA g d da allocator glued =
-    let H = 𝓛.H in let 𝓣 = tables 𝓤 H 𝓜 𝓡 𝓡.env in let E : El = record { row = T; laws = L; al = record { row = A; laws = LA; g = g; d = d; drops = da } } in
-    let En = f.ended T A g d da in let c = f.clauses T A g d da 𝓛 𝓜.mem 𝓡.returns in let Pl : RattleType = Places.the_row (R E) in
-    let inst = bounded (a_type ∷ a_type ∷ []) (T, (A, tt)) (dcons d (dcons da dnil)) in let fn = inst_fn inst code.function in
-    let hs : Stays En.signature.params En.kept = (stay_dropped (plain (λ _. Row E)) no, (stay_dropped (plain (λ _. Pl)) no, tt)) in
-    proved_at 𝓛 En hs c 𝓜 𝓡 (Goes-blank 𝓛 2 (plain (λ _. Row E)) no (λ κs x w. tt), (Goes-blank 𝓛 2 (plain (λ _. Pl)) no (λ κs x w. tt), tt)) (f.Key.name inst) fn (code.unfolded 𝓤 H 𝓜 𝓡 wired (T, (A, tt)) d da) (λ y are.
-    let κs = y.0.0 in let qs = y.0.1 in let e : (Row E).Denot = y.0.3.0 in let own : Pl.Denot = y.0.3.1.0 in let vss = y.0.4 in let Post : Val → SProp 𝓤 = (walk_of 𝓛 En hs c).post y in let Run : List Val → SProp 𝓤 = λ ws. WpFn 𝓤 H 𝓣.C 𝓣.Λ fn ws Post in
-    let xs : List (el_x E) = own.items in let Fits : Type 0 = (own.base ≡ e.base) × (own.whole ≡ e.count) × (own.start ≡ 0) × (own.count ≡ e.count) in
-    qed 𝓛 ((‵ (fsep (flft κs.0 qs.0) (fsep (flft κs.1.0 qs.1.0) ftrue)) ⊛ ‵ (owns (types_at En.signature.params κs) y.0.3 vss)) ∷ (raw (fact 𝓤 (κs.0 ⊑ T.lives)) ⊛ raw (fact 𝓤 (κs.1.0 ⊑ A.lives)) ⊛ raw (fact 𝓤 Fits) ⊛ raw (fact 𝓤 (length xs ≡ e.len))) ∷ []) ∵
-    move ! (1 ∷ []) $ split ! $ drop ! $ split ! $ drop ! $ split ! $ heard ! Fits (λ fits. heard ! (length xs ≡ e.len) (λ long. split ! $ move ! (1 ∷ []) $ fsplit ! $ fsplit ! $ drop ! $
-    fpick ! (λ i. let v : el_d E = i.vec in fsplit ! $ feq_l ! (λ same. move ! (1 ∷ []) $ fsplit ! $ fsplit ! $ drop ! $
+    let H = 𝓛.H in let 𝓣 = tables 𝓤 H 𝓜 𝓡 𝓡.env in
+    let E : El = record {
+      row = T;
+      laws = L;
+      al = record {
+        row = A;
+        laws = LA;
+        g = g;
+        d = d;
+        drops = da;
+      };
+    } in
+    let En = f.ended T A g d da in let c = f.clauses T A g d da 𝓛 𝓜.mem 𝓡.returns in
+    let Pl : RattleType = Places.the_row (R E) in
+    let inst = bounded (a_type ∷ a_type ∷ []) (T, (A, tt)) (dcons d (dcons da dnil)) in
+    let fn = inst_fn inst code.function in
+    let hs : Stays En.signature.params En.kept =
+    (stay_dropped (plain (λ _. Row E)) no, (stay_dropped (plain (λ _. Pl)) no, tt)) in
+    proved_at 𝓛 En hs c 𝓜 𝓡 (
+      Goes-blank 𝓛 2 (plain (λ _. Row E)) no (λ κs x w. tt),
+      (Goes-blank 𝓛 2 (plain (λ _. Pl)) no (λ κs x w. tt), tt),
+    ) (f.Key.name inst) fn
+    (code.unfolded 𝓤 H 𝓜 𝓡 wired (T, (A, tt)) d da) (λ y are.
+    let κs = y.0.0 in let qs = y.0.1 in let e : (Row E).Denot = y.0.3.0 in
+    let own : Pl.Denot = y.0.3.1.0 in let vss = y.0.4 in
+    let Post : Val → SProp 𝓤 = (walk_of 𝓛 En hs c).post y in
+    let Run : List Val → SProp 𝓤 = λ ws. WpFn 𝓤 H 𝓣.C 𝓣.Λ fn ws Post in
+    let xs : List (el_x E) = own.items in let Fits : Type 0 = (own.base ≡ e.base)
+    × (own.whole ≡ e.count) × (own.start ≡ 0) × (own.count ≡ e.count) in
+    qed 𝓛 ((‵ (fsep (flft κs.0 qs.0) (fsep (flft κs.1.0 qs.1.0) ftrue)) ⊛ ‵
+    (owns (types_at En.signature.params κs) y.0.3 vss)) ∷ (raw (fact 𝓤 (κs.0 ⊑ T.lives)) ⊛ raw
+    (fact 𝓤 (κs.1.0 ⊑ A.lives)) ⊛ raw (fact 𝓤 Fits) ⊛ raw (fact 𝓤 (length xs ≡ e.len))) ∷ []) ∵
+    move ! (1 ∷ []) $ split ! $ drop ! $ split ! $ drop ! $ split ! $
+    heard ! Fits (λ fits. heard ! (length xs ≡ e.len) (λ long. split ! $ move ! (1 ∷ []) $
+    fsplit ! $ fsplit ! $ drop ! $
+    fpick ! (λ i. let v : el_d E = i.vec in
+    fsplit ! $ feq_l ! (λ same. move ! (1 ∷ []) $ fsplit ! $ fsplit ! $ drop ! $
     -- [what lies in the places; no more parameters; the vector that waits; the tokens]
-    rewrite ! 0 (λ (k : Ptr × (ℕ × (ℕ × ℕ))). ‵ (places_own (R E) k.0 k.1.0 k.1.1.0 k.1.1.1 xs)) (λ j. (fits.0 j, (fits.1 j, (fits.2 j, fits.3 j)))) refl $
-    feq_i ! ℕ (length xs) e.len long $ fjoin ! $ move ! (2 ∷ 0 ∷ []) $ use2 𝓛 (‵ (refills E v vss.0 xs)) (refilled E 𝓛 e v vss.0 xs) $
-    let now : el_d E = with_items v xs in let same_len : v.len ≡ e.len = ap (λ x. x.len) same in let items : now.items ≡ xs = with_items_is v xs (long ∙ sym same_len) in
-    fpick ! (λ uss. fsplit ! $ feq_l ! (λ whole_is. fsplit ! $ vec_had E ! now uss.0 (λ b o hv at_b is fl fc fit fa. vec_made E ! now b o v.len v.cap now.items (at_b, refl, refl, refl) fl fc fit $
+    rewrite ! 0 (λ (k : Ptr × (ℕ × (ℕ × ℕ))). ‵ (places_own (R E) k.0 k.1.0 k.1.1.0 k.1.1.1 xs))
+    (λ j. (fits.0 j, (fits.1 j, (fits.2 j, fits.3 j)))) refl $
+    feq_i ! ℕ (length xs) e.len long $ fjoin ! $ move ! (2 ∷ 0 ∷ []) $
+    use2 𝓛 (‵ (refills E v vss.0 xs)) (refilled E 𝓛 e v vss.0 xs) $
+    let now : el_d E = with_items v xs in let same_len : v.len ≡ e.len = ap (λ x. x.len) same in
+    let items : now.items ≡ xs = with_items_is v xs (long ∙ sym same_len) in
+    fpick ! (λ uss. fsplit ! $
+    feq_l ! (λ whole_is. fsplit ! $
+    vec_had E ! now uss.0 (λ b o hv at_b is fl fc fit fa. vec_made E ! now b o v.len v.cap
+    now.items (at_b, refl, refl, refl) fl fc fit $
     -- [the vector; no more fields; no more parameters; the tokens]
-    let u : Val = vec_val E hv b o v.len v.cap in let typed = vec_typed E hv b o v.len v.cap fa fl fc in
-    let e₀ : vss.0 ≡ one E u ∷ [] = whole_is ∙ ap (λ (us : List Val). vstruct (of_list (us ++ [])) ∷ []) is in let e₁ : vss.1.0 ≡ marker ∷ [] = token_told (R E) vss.1.0 are.1.0.0 in
-    suffices ! (Run (one E u ∷ marker ∷ [])) (subst (λ (us : List Val). ent 𝓤 (Run (one E u ∷ marker ∷ [])) (Run us)) (sym (λ j. e₀ j ++ (e₁ j ++ []))) (id⊢ 𝓤 (Run (one E u ∷ marker ∷ [])))) $
-    enter ! 𝓣.C 𝓣.Λ fn (one E u ∷ marker ∷ []) Post $ alloc_all ! (λ l. pass_all ! refl (as_fields (layout (Vr E) ∷ []) (u ∷ []) (typed, tt), ((tt, (tt, tt)), tt)) $
-    sets ! (of_opd ! (get_in ! (fld ! refl (stop !)) (sub ! 0 refl (whole !)))) refl typed $ sets ! (of_opd ! (get ! refl)) refl typed $
+    let u : Val = vec_val E hv b o v.len v.cap in
+    let typed = vec_typed E hv b o v.len v.cap fa fl fc in
+    let e₀ : vss.0 ≡ one E u ∷ [] = whole_is
+    ∙ ap (λ (us : List Val). vstruct (of_list (us ++ [])) ∷ []) is in
+    let e₁ : vss.1.0 ≡ marker ∷ [] = token_told (R E) vss.1.0 are.1.0.0 in
+    suffices ! (Run (one E u ∷ marker ∷ []))
+    (subst (λ (us : List Val). ent 𝓤 (Run (one E u ∷ marker ∷ [])) (Run us))
+    (sym (λ j. e₀ j ++ (e₁ j ++ []))) (id⊢ 𝓤 (Run (one E u ∷ marker ∷ [])))) $
+    enter ! 𝓣.C 𝓣.Λ fn (one E u ∷ marker ∷ []) Post $
+    alloc_all ! (λ l. pass_all ! refl (
+      as_fields (layout (Vr E) ∷ []) (u ∷ []) (typed, tt),
+      ((tt, (tt, tt)), tt),
+    ) $
+    sets ! (of_opd ! (get_in ! (fld ! refl (stop !)) (sub ! 0 refl (whole !)))) refl typed $
+    sets ! (of_opd ! (get ! refl)) refl typed $
     nothing ! $ nothing ! $ fjoin ! $ nothing ! $ fjoin ! $
     returns ! (look_at ! 0 refl) $ free_all ! refl $ keep ! (4 ∷ 0 ∷ 1 ∷ []) $
-    by ! (ends 𝓛 En hs c y u now (tt, (tt, tt)) (tt, (tt, tt)) (told 𝓤 items (fact_i 𝓤 _ (emp 𝓤) same) 𝓛)))))))))))
+    by ! (ends 𝓛 En hs c y u now (tt, (tt, tt)) (tt, (tt, tt))
+    (told 𝓤 items (fact_i 𝓤 _ (emp 𝓤) same) 𝓛)))))))))))

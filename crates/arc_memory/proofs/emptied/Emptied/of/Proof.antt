@@ -1,12 +1,14 @@
 -- `of` parts a vector from its items: they stay where they lie, and the vector waits for them.
-use Rattle.std.proofs.Common.{◌≡◌, ◌*◌, ◌^◌, List, [], ◌∷◌, ◌++◌, length, refl, sym, ap, ◌∙◌, subst, arith}
+use Rattle.std.proofs.Common.{◌≡◌, ◌*◌, ◌^◌, List, [], ◌∷◌, ◌++◌, length, refl, sym, ap, ◌∙◌, subst}
+use Rattle.std.proofs.Common.{arith}
 use mir.Syntax.{a_type, dcons, dnil}
 use mir.Val.{Val, vstruct, vcons, vnil, of_list}
 use mir.MapTy.{inst_fn}
 use base.Logic.{SProp, ent, emp, id⊢}
 use base.Fml.{ftrue, fsep, feq, flft}
 use prog.Wp.{WpFn}
-use types.Kit.{‵, raw, ◌⊛◌, ◌$◌, ◌∵◌, !, qed, by, move, keep, split, fsplit, fjoin, fpack, suffices, use0, use1, use2, rewrite, feq_i, flt_i}
+use types.Kit.{‵, raw, ◌⊛◌, ◌$◌, ◌∵◌, !, qed, by, move, keep, split, fsplit, fjoin, fpack, suffices}
+use types.Kit.{use0, use1, use2, rewrite, feq_i, flt_i}
 use types.Run.{of_opd, no_more, and_then, returns, enter}
 use types.ByLocal.{alloc_all, pass_all, free_all, look_at, get, sets}
 use types.Part.{agg}
@@ -39,34 +41,78 @@ use Rattle.arc_memory.proofs.emptied.Emptied.of.Code as code
 
 pub of_spec : {M : Type 1} → statement M
 of_spec 𝓤 𝓛 𝓜 𝓡 wired T A L LA g d da allocator glued =
-    let H = 𝓛.H in let 𝓣 = tables 𝓤 H 𝓜 𝓡 𝓡.env in let E : El = record { row = T; laws = L; al = record { row = A; laws = LA; g = g; d = d; drops = da } } in
+    let H = 𝓛.H in let 𝓣 = tables 𝓤 H 𝓜 𝓡 𝓡.env in
+    let E : El = record {
+      row = T;
+      laws = L;
+      al = record {
+        row = A;
+        laws = LA;
+        g = g;
+        d = d;
+        drops = da;
+      };
+    } in
     let En = f.ended T A g d da in let c = f.clauses T A g d da 𝓛 𝓜.mem 𝓡.returns in
-    let inst = bounded (a_type ∷ a_type ∷ []) (T, (A, tt)) (dcons d (dcons da dnil)) in let fn = inst_fn inst code.function in
+    let inst = bounded (a_type ∷ a_type ∷ []) (T, (A, tt)) (dcons d (dcons da dnil)) in
+    let fn = inst_fn inst code.function in
     let hs : Stays En.signature.params En.kept = (stay_dropped (plain (λ _. Vr E)) no, tt) in
-    proved_at 𝓛 En hs c 𝓜 𝓡 (Goes-blank 𝓛 2 (plain (λ _. Vr E)) no (λ κs x w. tt), tt) (f.Key.name inst) fn (code.unfolded 𝓤 H 𝓜 𝓡 wired (T, (A, tt)) d da) (λ y are.
-    let κs = y.0.0 in let qs = y.0.1 in let was : el_d E = y.0.3.0 in let vss = y.0.4 in let Post : Val → SProp 𝓤 = (walk_of 𝓛 En hs c).post y in let Run : List Val → SProp 𝓤 = λ ws. WpFn 𝓤 H 𝓣.C 𝓣.Λ fn ws Post in
+    proved_at 𝓛 En hs c 𝓜 𝓡 (Goes-blank 𝓛 2 (plain (λ _. Vr E)) no (λ κs x w. tt), tt)
+    (f.Key.name inst) fn (code.unfolded 𝓤 H 𝓜 𝓡 wired (T, (A, tt)) d da) (λ y are.
+    let κs = y.0.0 in let qs = y.0.1 in let was : el_d E = y.0.3.0 in let vss = y.0.4 in
+    let Post : Val → SProp 𝓤 = (walk_of 𝓛 En hs c).post y in
+    let Run : List Val → SProp 𝓤 = λ ws. WpFn 𝓤 H 𝓣.C 𝓣.Λ fn ws Post in
     let xs = was.items in let n = length xs in
-    qed 𝓛 ((‵ (fsep (flft κs.0 qs.0) (fsep (flft κs.1.0 qs.1.0) ftrue)) ⊛ ‵ (owns (types_at En.signature.params κs) y.0.3 vss)) ∷ raw ((c κs y.0.3).requires y.1) ∷ []) ∵ keep ! (0 ∷ []) $ split ! $ move ! (1 ∷ []) $ fsplit ! $
+    qed 𝓛 ((‵ (fsep (flft κs.0 qs.0) (fsep (flft κs.1.0 qs.1.0) ftrue)) ⊛ ‵
+    (owns (types_at En.signature.params κs) y.0.3 vss)) ∷ raw ((c κs y.0.3).requires y.1) ∷ [])
+    ∵ keep ! (0 ∷ []) $ split ! $ move ! (1 ∷ []) $ fsplit ! $
     vec_had E ! was vss.0 (λ b o hv at_b is fl fc fit fa.
     -- [its block; its allocator; no more parameters; the tokens]
-    let u : Val = vec_val E hv b o was.len was.cap in let typed = vec_typed E hv b o was.len was.cap fa fl fc in
-    let first : place_at (R E) was.ptr 0 ≡ block_ptr b o = ap (λ (p : Ptr). place_at (R E) p 0) at_b ∙ first_place E b o in
-    suffices ! (Run (u ∷ [])) (subst (λ (us : List Val). ent 𝓤 (Run (u ∷ [])) (Run (us ++ []))) (sym is) (id⊢ 𝓤 (Run (u ∷ [])))) $
+    let u : Val = vec_val E hv b o was.len was.cap in
+    let typed = vec_typed E hv b o was.len was.cap fa fl fc in
+    let first : place_at (R E) was.ptr 0 ≡ block_ptr b o = ap (λ (p : Ptr). place_at (R E) p 0) at_b
+    ∙ first_place E b o in
+    suffices ! (Run (u ∷ [])) (subst (λ (us : List Val). ent 𝓤 (Run (u ∷ [])) (Run (us ++ [])))
+    (sym is) (id⊢ 𝓤 (Run (u ∷ [])))) $
     enter ! 𝓣.C 𝓣.Λ fn (u ∷ []) Post $ alloc_all ! (λ l. pass_all ! refl (typed, tt) $
-    use1 𝓛 (‵ (side_by_side (R E) (block_ptr b o) was.cap xs) ⊛ ‵ (right E was b o)) (block_apart E 𝓛 (token E.al was.alloc) b o was.len was.cap xs was.ok.0 was.ok.1) $ split ! $
-    rewrite ! 0 (λ (p : Ptr). ‵ (side_by_side (R E) p was.cap xs)) (sym first) refl $ flt_i ! (was.cap * type_size (R E)) (2 ^ 63) fit $ fjoin ! $
-    use0 𝓛 (‵ ((Token (R E)).own_val (record {}, tt) (marker ∷ []))) (token_made (R E) 𝓛) $ fjoin ! $ move ! (1 ∷ 2 ∷ []) $
+    use1 𝓛 (‵ (side_by_side (R E) (block_ptr b o) was.cap xs) ⊛ ‵ (right E was b o))
+    (block_apart E 𝓛 (token E.al was.alloc) b o was.len was.cap xs was.ok.0 was.ok.1) $
+    split ! $
+    rewrite ! 0 (λ (p : Ptr). ‵ (side_by_side (R E) p was.cap xs)) (sym first) refl $
+    flt_i ! (was.cap * type_size (R E)) (2 ^ 63) fit $ fjoin ! $
+    use0 𝓛 (‵ ((Token (R E)).own_val (record {}, tt) (marker ∷ []))) (token_made (R E) 𝓛) $
+    fjoin ! $ move ! (1 ∷ 2 ∷ []) $
     let e = extent_of was in let boxed = as_fields (layout (Vr E) ∷ []) (u ∷ []) (typed, tt) in
-    use2 𝓛 (‵ (Emptied.the_own (R E) (P E) g e (one E u ∷ []))) (parted E 𝓛 was b o hv at_b fl fc fit) $
+    use2 𝓛 (‵ (Emptied.the_own (R E) (P E) g e (one E u ∷ [])))
+    (parted E 𝓛 was b o hv at_b fl fc fit) $
     nothing ! $ fpack ! (Typed (Row E).mir (one E u ∷ [])) (λ _. ftrue) (boxed, tt) $ fjoin ! $
     -- [the vector without its items; the places; no more parameters; the tokens]
-    sets ! (agg ! (no_more !)) refl (tt, tt) $ sets ! (of_opd ! (get ! refl)) refl typed $ sets ! (agg ! (and_then ! (get ! refl) (no_more !))) refl boxed $
+    sets ! (agg ! (no_more !)) refl (tt, tt) $ sets ! (of_opd ! (get ! refl)) refl typed $
+    sets ! (agg ! (and_then ! (get ! refl) (no_more !))) refl boxed $
     sets ! (agg ! (and_then ! (get ! refl) (no_more !))) refl (tt, (tt, tt)) $
-    sets ! (agg ! (and_then ! (get ! refl) (and_then ! (get ! refl) (no_more !)))) refl (as_fields (layout (Row E) ∷ layout (Places.the_row (R E)) ∷ []) (one E u ∷ marker ∷ []) (boxed, ((tt, (tt, tt)), tt))) $
-    let now : (Places.the_row (R E)).Denot = record { marker = record {}; base = was.ptr; whole = was.cap; start = 0; count = was.cap; items = xs; inside = (omega arith, omega (arith, was.ok.0, was.ok.1), was.small) } in
-    let w : Val = vstruct (vcons (one E u) (vcons marker vnil)) in let Rs : List RattleType = Row E ∷ Places.the_row (R E) ∷ [] in
-    nothing ! $ move ! (2 ∷ 0 ∷ []) $ fjoin ! $ move ! (1 ∷ 0 ∷ []) $ fjoin ! $ feq_i ! (List Val) (w ∷ []) (w ∷ []) refl $ fjoin ! $
-    fpack ! (Valss Rs) (λ uss. fsep (feq (List Val) (w ∷ []) (vstruct (of_list (uss.0 ++ (uss.1.0 ++ []))) ∷ [])) (owns Rs (e, (now, tt)) uss)) (one E u ∷ [], (marker ∷ [], tt)) $
+    sets ! (agg ! (and_then ! (get ! refl) (and_then ! (get ! refl) (no_more !)))) refl
+    (as_fields (layout (Row E) ∷ layout (Places.the_row (R E)) ∷ []) (one E u ∷ marker ∷ [])
+    (boxed, ((tt, (tt, tt)), tt))) $
+    let now : (Places.the_row (R E)).Denot =
+    record {
+      marker = record {};
+      base = was.ptr;
+      whole = was.cap;
+      start = 0;
+      count =
+          was.cap;
+      items = xs;
+      inside = (omega arith, omega (arith, was.ok.0, was.ok.1), was.small);
+    }
+    in
+    let w : Val = vstruct (vcons (one E u) (vcons marker vnil)) in
+    let Rs : List RattleType = Row E ∷ Places.the_row (R E) ∷ [] in
+    nothing ! $ move ! (2 ∷ 0 ∷ []) $ fjoin ! $ move ! (1 ∷ 0 ∷ []) $ fjoin ! $
+    feq_i ! (List Val) (w ∷ []) (w ∷ []) refl $ fjoin ! $
+    fpack ! (Valss Rs)
+    (λ uss. fsep (feq (List Val) (w ∷ []) (vstruct (of_list (uss.0 ++ (uss.1.0 ++ []))) ∷ []))
+    (owns Rs (e, (now, tt)) uss)) (one E u ∷ [], (marker ∷ [], tt)) $
     nothing ! $ nothing ! $ fjoin ! $
     returns ! (look_at ! 0 refl) $ free_all ! refl $ keep ! (3 ∷ 0 ∷ 1 ∷ []) $
-    by ! (ends 𝓛 En hs c y w (e, now) ((tt, (tt, (tt, (tt, tt)))), tt) (tt, tt) (told 𝓤 refl (told 𝓤 refl (fact_i 𝓤 _ (emp 𝓤) (refl, refl, refl, refl)) 𝓛) 𝓛)))))
+    by ! (ends 𝓛 En hs c y w (e, now) ((tt, (tt, (tt, (tt, tt)))), tt) (tt, tt)
+    (told 𝓤 refl (told 𝓤 refl (fact_i 𝓤 _ (emp 𝓤) (refl, refl, refl, refl)) 𝓛) 𝓛)))))

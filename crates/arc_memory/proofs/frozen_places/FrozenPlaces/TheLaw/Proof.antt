@@ -12,5 +12,8 @@ use Rattle.arc_memory.specs.contracts.frozen_places.FrozenPlaces as C
 use Rattle.arc_memory.proofs.frozen_places.FrozenPlaces.TheLaw.Statement.{statement}
 
 pub shares : (T : RattleType) (L : Laws T) → statement T L
-shares T L = of_Lends (C.struct T) (C.the_codes T.Denot T.coded (marker.the_row T).coded) (C.the_heap T) (C.the_lent T) (λ d p. owned_shr T L d.memory d.start d.items) (copy_shared (marker.the_field T) (field_copy (marker.the_type T) tt), tt)
-    (λ M 𝓤 𝓛 d p. lends_twice 𝓛 (frozen_owns T d.memory d.start d.items) (owned_twice T L d.memory d.start d.items 𝓛) (C.the_row T).lives)
+shares T L = of_Lends (C.struct T) (C.the_codes T.Denot T.coded (marker.the_row T).coded)
+    (C.the_heap T) (C.the_lent T) (λ d p. owned_shr T L d.memory d.start d.items)
+    (copy_shared (marker.the_field T) (field_copy (marker.the_type T) tt), tt)
+    (λ M 𝓤 𝓛 d p. lends_twice 𝓛 (frozen_owns T d.memory d.start d.items)
+    (owned_twice T L d.memory d.start d.items 𝓛) (C.the_row T).lives)

@@ -16,5 +16,8 @@ use Rattle.arc_memory.proofs.head_size.HeadSize.TheLaw.Statement.{statement}
 
 pub shares : (X : RattleType) (L : Laws X) → statement X L
 shares X L = let is : ℕ × ℕ → Fml = λ s. feq (ℕ × ℕ) s (head_size X) in
-    of_Lends (C.struct X) (C.the_codes X.Denot X.coded (marker.the_row X).coded) (C.the_heap X) (C.the_lent X) (λ d p. said_shr_laws (is d.size) tt) (copy_shared (marker.the_field X) (field_copy (marker.the_type X) tt), tt)
-    (λ M 𝓤 𝓛 d p. lends_twice 𝓛 (is d.size) (contraction 𝓛 (said (is d.size)) (said_shr_laws (is d.size) tt) []) (C.the_row X).lives)
+    of_Lends (C.struct X) (C.the_codes X.Denot X.coded (marker.the_row X).coded) (C.the_heap X)
+    (C.the_lent X) (λ d p. said_shr_laws (is d.size) tt)
+    (copy_shared (marker.the_field X) (field_copy (marker.the_type X) tt), tt)
+    (λ M 𝓤 𝓛 d p. lends_twice 𝓛 (is d.size)
+    (contraction 𝓛 (said (is d.size)) (said_shr_laws (is d.size) tt) []) (C.the_row X).lives)

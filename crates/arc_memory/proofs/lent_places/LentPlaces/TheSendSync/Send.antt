@@ -4,4 +4,8 @@ use Rattle.arc_memory.proofs.Keyless.{part}
 use Rattle.arc_memory.specs.contracts.lent_places.LentPlaces.{the_row}
 
 pub send : (T : RattleType) → IsSend T → IsSend (the_row T)
-send T s = record { owned = λ d vs. ((λ vss. (tt, ((λ uss. (tt, tt)), tt))), part T s d.memory d.start d.count d.items); leaving = λ k e vs. tt }
+send T s = record {
+  owned =
+      λ d vs. ((λ vss. (tt, ((λ uss. (tt, tt)), tt))), part T s d.memory d.start d.count d.items);
+  leaving = λ k e vs. tt;
+}

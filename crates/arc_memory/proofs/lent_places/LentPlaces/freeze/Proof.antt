@@ -1,11 +1,13 @@
 -- `freeze` shares the item of each place, by a share of the lifetime that is borrowed and a token
 -- of the items' own lifetimes, and settles its name. It touches no memory.
-use Rattle.std.proofs.Common.{◌≡◌, ℕ, ◌+◌, ◌*◌, ◌≤◌, List, [], ◌∷◌, ◌++◌, length, refl, sym, subst, arith}
+use Rattle.std.proofs.Common.{◌≡◌, ℕ, ◌+◌, ◌*◌, ◌≤◌, List, [], ◌∷◌, ◌++◌, length, refl, sym, subst}
+use Rattle.std.proofs.Common.{arith}
 use lib.ListN.{drop as drop_from}
 use mir.Val.{Val, vptr}
 use base.Logic.{SProp, ent, emp, id⊢}
 use base.Fml.{GName, Lft, Share, ftrue, fsep, flft, fhide, fshr_bor}
-use types.Kit.{‵, raw, ◌⊛◌, later, ◌$◌, ◌∵◌, !, qed, by, move, keep, drop, split, split3, fsplit, fjoin, feq_l, suffices, use1, use3, await, rewrite}
+use types.Kit.{‵, raw, ◌⊛◌, later, ◌$◌, ◌∵◌, !, qed, by, move, keep, drop, split, split3, fsplit}
+use types.Kit.{fjoin, feq_l, suffices, use1, use3, await, rewrite}
 use types.Tokens.{shr_bor-open, obor_close}
 use types.Within.{tokens_halve}
 use types.Run.{no_more, and_then, returns, enter}
@@ -46,37 +48,78 @@ use Rattle.arc_memory.proofs.lent_places.LentPlaces.freeze.Code as code
 
 pub freeze_spec : {M : Type 1} → statement M
 freeze_spec 𝓤 𝓛 𝓜 𝓡 wired T L =
-    let H = 𝓛.H in let 𝓣 = tables 𝓤 H 𝓜 𝓡 𝓡.env in let E : El = record { row = T; laws = L; al = no_al } in let s = sz E in
-    let En = f.ended T in let c = f.clauses T 𝓛 𝓜.mem 𝓡.returns in let inst = layouts (a_type ∷ []) (T, tt) in let fn = inst_fn inst code.function in
-    let Tok : RattleType = LifetimeToken.the_row in let Lt : RattleType = LentPlaces.the_row (R E) in let Fr : RattleType = FrozenPlaces.the_row (R E) in
-    let hs : Stays En.signature.params En.kept = (stay_dropped (plain (λ _. Lt)) no, (stay_dropped (RefOf (0 ∷ []) tt (plain (λ _. Tok)) (λ _. tt)) yes, tt)) in
-    proved_at 𝓛 En hs c 𝓜 𝓡 (Goes-blank 𝓛 2 (plain (λ _. Lt)) no (λ κs x w. tt), (Goes-dropped 𝓛 2 (RefOf (0 ∷ []) tt (plain (λ _. Tok)) (λ _. tt)) yes (λ κs x w. refl), tt)) (f.Key.name inst) fn (code.unfolded 𝓤 H 𝓜 𝓡 wired (T, tt)) (λ y are.
-    let κs = y.0.0 in let qs = y.0.1 in let me : Lt.Denot = y.0.3.0 in let by_token : Tok.Denot = y.0.3.1.0.now in let b₁ = y.0.3.1.0.ref_ptr.0 in let o₁ = y.0.3.1.0.ref_ptr.1 in let vss = y.0.4 in
-    let m : LentMemory = me.memory in let a : ℕ = m.lifetime in let α : Lft = a ∷ [] in let κ : Lft = κs.0 in let τ : Lft = κs.1.0 in let p : Share = qs.1.0 in
-    let xs : List (el_x E) = me.items in let Post : Val → SProp 𝓤 = (walk_of 𝓛 En hs c).post y in let Run : List Val → SProp 𝓤 = λ ws. WpFn 𝓤 H 𝓣.C 𝓣.Λ fn ws Post in
+    let H = 𝓛.H in let 𝓣 = tables 𝓤 H 𝓜 𝓡 𝓡.env in
+    let E : El = record { row = T; laws = L; al = no_al } in let s = sz E in
+    let En = f.ended T in let c = f.clauses T 𝓛 𝓜.mem 𝓡.returns in
+    let inst = layouts (a_type ∷ []) (T, tt) in let fn = inst_fn inst code.function in
+    let Tok : RattleType = LifetimeToken.the_row in
+    let Lt : RattleType = LentPlaces.the_row (R E) in
+    let Fr : RattleType = FrozenPlaces.the_row (R E) in
+    let hs : Stays En.signature.params En.kept = (
+      stay_dropped (plain (λ _. Lt)) no,
+      (stay_dropped (RefOf (0 ∷ []) tt (plain (λ _. Tok)) (λ _. tt)) yes, tt),
+    ) in
+    proved_at 𝓛 En hs c 𝓜 𝓡 (
+      Goes-blank 𝓛 2 (plain (λ _. Lt)) no (λ κs x w. tt),
+      (
+        Goes-dropped 𝓛 2 (RefOf (0 ∷ []) tt (plain (λ _. Tok)) (λ _. tt)) yes (λ κs x w. refl),
+        tt,
+      ),
+    ) (f.Key.name inst) fn (code.unfolded 𝓤 H 𝓜 𝓡 wired (T, tt)) (λ y are.
+    let κs = y.0.0 in let qs = y.0.1 in let me : Lt.Denot = y.0.3.0 in
+    let by_token : Tok.Denot = y.0.3.1.0.now in let b₁ = y.0.3.1.0.ref_ptr.0 in
+    let o₁ = y.0.3.1.0.ref_ptr.1 in let vss = y.0.4 in
+    let m : LentMemory = me.memory in let a : ℕ = m.lifetime in let α : Lft = a ∷ [] in
+    let κ : Lft = κs.0 in let τ : Lft = κs.1.0 in let p : Share = qs.1.0 in
+    let xs : List (el_x E) = me.items in let Post : Val → SProp 𝓤 = (walk_of 𝓛 En hs c).post y in
+    let Run : List Val → SProp 𝓤 = λ ws. WpFn 𝓤 H 𝓣.C 𝓣.Λ fn ws Post in
     let Full : Type 0 = length xs ≡ me.count in let Lasting : Type 0 = by_token.lifetime ≡ a in
-    qed 𝓛 ((‵ (fsep (flft κ qs.0) (fsep (flft τ p) ftrue)) ⊛ ‵ (owns (types_at En.signature.params κs) y.0.3 vss)) ∷ (raw (fact 𝓤 (τ ⊑ T.lives)) ⊛ raw (fact 𝓤 Full) ⊛ raw (fact 𝓤 Lasting)) ∷ []) ∵
-    move ! (1 ∷ []) $ split ! $ heard ! (τ ⊑ T.lives) (λ inc. split ! $ heard ! Full (λ full. heard ! Lasting (λ lasting. split ! $ fsplit ! $ move ! (1 ∷ []) $ fsplit ! $ move ! (3 ∷ []) $ fsplit ! $ fsplit ! $ drop ! $
-    there_out E ! m me.start (borrowed (R E) a (names_from (R E) m me.start) (contents me.count xs)) (λ b o at_b small. move ! (1 ∷ []) $ fsplit ! $ fsplit ! $ feq_l ! (λ e₁.
-    use1 𝓛 (‵ (hidden_shr (Token unit) κ (by_token.marker, tt) b₁ o₁) ⊛ ‵ (fhide (fshr_bor κ (λ q. flft (by_token.lifetime ∷ []) q))))
-    (lent_out 𝓛 LifetimeToken.struct (LifetimeToken.the_codes (marker.the_row unit).coded) LifetimeToken.the_heap LifetimeToken.the_lent κ by_token b₁ o₁) $ split ! $ drop ! $ unhide ! $
+    qed 𝓛 ((‵ (fsep (flft κ qs.0) (fsep (flft τ p) ftrue)) ⊛ ‵
+    (owns (types_at En.signature.params κs) y.0.3 vss)) ∷ (raw (fact 𝓤 (τ ⊑ T.lives)) ⊛ raw
+    (fact 𝓤 Full) ⊛ raw (fact 𝓤 Lasting)) ∷ []) ∵
+    move ! (1 ∷ []) $ split ! $
+    heard ! (τ ⊑ T.lives) (λ inc. split ! $
+    heard ! Full (λ full. heard ! Lasting (λ lasting. split ! $ fsplit ! $ move ! (1 ∷ []) $
+    fsplit ! $ move ! (3 ∷ []) $ fsplit ! $ fsplit ! $ drop ! $
+    there_out E ! m me.start (borrowed (R E) a (names_from (R E) m me.start) (contents me.count xs))
+    (λ b o at_b small. move ! (1 ∷ []) $ fsplit ! $ fsplit ! $ feq_l ! (λ e₁.
+    use1 𝓛 (‵ (hidden_shr (Token unit) κ (by_token.marker, tt) b₁ o₁) ⊛ ‵
+    (fhide (fshr_bor κ (λ q. flft (by_token.lifetime ∷ []) q))))
+    (lent_out 𝓛 LifetimeToken.struct (LifetimeToken.the_codes (marker.the_row unit).coded)
+    LifetimeToken.the_heap LifetimeToken.the_lent κ by_token b₁ o₁) $ split ! $ drop ! $
+    unhide ! $
     -- [what is lent of the share; no more parameters; the borrows; the token of T; no more tokens;
     -- the token of the borrow]
     let gs : List GName = drop_from me.start m.names in let from : ℕ = o + me.start * s in
-    rewrite ! 0 (λ (k : ℕ). ‵ (fshr_bor κ (λ q. flft (k ∷ []) q))) lasting refl $ rewrite ! 2 (λ (n : ℕ). ‵ (Borrows E 𝓛 b a gs (contents n xs) from)) (sym full) refl $
-    let e₀ : vss.0 ≡ token ∷ [] = token_told (R E) vss.0 are.0.0 in let ws : List Val = token ∷ vptr b₁ o₁ ∷ [] in
-    suffices ! (Run ws) (subst (λ (us : List Val). ent 𝓤 (Run ws) (Run us)) (sym (λ j. e₀ j ++ (e₁ j ++ []))) (id⊢ 𝓤 (Run ws))) $
-    enter ! 𝓣.C 𝓣.Λ fn ws Post $ alloc_all ! (λ l. pass_all ! refl ((tt, (tt, tt)), ((tt, tt), tt)) $
+    rewrite ! 0 (λ (k : ℕ). ‵ (fshr_bor κ (λ q. flft (k ∷ []) q))) lasting refl $
+    rewrite ! 2 (λ (n : ℕ). ‵ (Borrows E 𝓛 b a gs (contents n xs) from)) (sym full) refl $
+    let e₀ : vss.0 ≡ token ∷ [] = token_told (R E) vss.0 are.0.0 in
+    let ws : List Val = token ∷ vptr b₁ o₁ ∷ [] in
+    suffices ! (Run ws) (subst (λ (us : List Val). ent 𝓤 (Run ws) (Run us))
+    (sym (λ j. e₀ j ++ (e₁ j ++ []))) (id⊢ 𝓤 (Run ws))) $
+    enter ! 𝓣.C 𝓣.Λ fn ws Post $
+    alloc_all ! (λ l. pass_all ! refl ((tt, (tt, tt)), ((tt, tt), tt)) $
     move ! (0 ∷ 5 ∷ []) $ shr_bor-open ! tt (tokens_halve 𝓛 α) (λ q.
     -- [the open borrow of the share; the share; no more parameters; the borrows; the token of T; no
     -- more tokens]
-    move ! (3 ∷ 1 ∷ 4 ∷ []) $ use3 𝓛 (later (‵ (frozen (R E) a gs xs b from) ⊛ ‵ (flft α q) ⊛ ‵ (flft τ p))) (freezes E 𝓛 b a q τ p inc gs xs from) $ await ! tt $ split3 ! $
+    move ! (3 ∷ 1 ∷ 4 ∷ []) $
+    use3 𝓛 (later (‵ (frozen (R E) a gs xs b from) ⊛ ‵ (flft α q) ⊛ ‵ (flft τ p)))
+    (freezes E 𝓛 b a q τ p inc gs xs from) $ await ! tt $ split3 ! $
     move ! (3 ∷ 1 ∷ []) $ obor_close ! tt $ drop ! $ move ! (1 ∷ []) $
     let low : me.start + length xs ≤ length m.names = omega (arith, full, me.inside.0) in
-    let range : Fr.Denot = record { marker = record {}; memory = m; start = me.start; items = xs; inside = (low, me.inside.1, me.inside.3) } in
+    let range : Fr.Denot = record {
+      marker = record {};
+      memory = m;
+      start = me.start;
+      items = xs;
+      inside = (low, me.inside.1, me.inside.3);
+    } in
     there_in E ! m me.start (frozen (R E) a gs xs) b o at_b small $ marked (R E) ! $
     -- [the range; the token of the borrow; the token of T; no more parameters; no more tokens]
-    sets ! (agg ! (no_more !)) refl (tt, tt) $ sets ! (agg ! (and_then ! (get ! refl) (no_more !))) refl (tt, (tt, tt)) $
-    move ! (2 ∷ 3 ∷ []) $ fjoin ! $ move ! (2 ∷ 0 ∷ []) $ fjoin ! $ nothing ! $ nothing ! $ fjoin ! $ nothing ! $ fjoin ! $
+    sets ! (agg ! (no_more !)) refl (tt, tt) $ sets ! (agg ! (and_then ! (get ! refl) (no_more !)))
+    refl (tt, (tt, tt)) $
+    move ! (2 ∷ 3 ∷ []) $ fjoin ! $ move ! (2 ∷ 0 ∷ []) $ fjoin ! $ nothing ! $ nothing ! $
+    fjoin ! $ nothing ! $ fjoin ! $
     returns ! (look_at ! 0 refl) $ free_all ! refl $ keep ! (1 ∷ 0 ∷ 2 ∷ []) $
-    by ! (ends 𝓛 En hs c y token range (tt, (tt, tt)) (tt, (tt, tt)) (fact_i 𝓤 _ (emp 𝓤) (refl, refl, refl)))))))))))
+    by ! (ends 𝓛 En hs c y token range (tt, (tt, tt)) (tt, (tt, tt))
+    (fact_i 𝓤 _ (emp 𝓤) (refl, refl, refl)))))))))))

@@ -1,6 +1,7 @@
--- `lend_behind` borrows each of the places, and lets the borrows of the first ones go. It touches no
--- memory.
-use Rattle.std.proofs.Common.{◌≡◌, ℕ, ◌+◌, ◌*◌, List, [], ◌∷◌, ◌++◌, length, take, refl, sym, ap, ◌∙◌, subst, arith, length-append, drop-drop}
+-- `lend_behind` borrows each of the places, and lets the borrows of the first ones go. It touches
+-- no memory.
+use Rattle.std.proofs.Common.{◌≡◌, ℕ, ◌+◌, ◌*◌, List, [], ◌∷◌, ◌++◌, length, take, refl, sym, ap}
+use Rattle.std.proofs.Common.{◌∙◌, subst, arith, length-append, drop-drop}
 use lib.ListN.{drop as drop_from}
 use lib.Seq.{drop-append_seam}
 use mir.Syntax.{a_type}
@@ -9,7 +10,8 @@ use mir.MapTy.{inst_fn}
 use base.Logic.{SProp, ent, emp, id⊢}
 use base.Fml.{GName, ftrue, fsep, feq, fex, flft}
 use prog.Wp.{WpFn}
-use types.Kit.{‵, raw, ◌⊛◌, later, ◌$◌, ◌∵◌, !, qed, by, move, keep, drop, split, fsplit, fsplit3, fjoin, fpick, fpack, feq_l, feq_i, suffices, use1, use2, await, rewrite}
+use types.Kit.{‵, raw, ◌⊛◌, later, ◌$◌, ◌∵◌, !, qed, by, move, keep, drop, split, fsplit, fsplit3}
+use types.Kit.{fjoin, fpick, fpack, feq_l, feq_i, suffices, use1, use2, await, rewrite}
 use types.Run.{no_more, and_then, returns, enter}
 use types.ByLocal.{alloc_all, pass_all, free_all, look_at, get, sets}
 use types.Part.{agg}
@@ -46,49 +48,138 @@ use Rattle.arc_memory.proofs.lent_places.LentPlaces.lend_behind.Code as code
 
 pub lend_behind_spec : {M : Type 1} → statement M
 lend_behind_spec 𝓤 𝓛 𝓜 𝓡 wired T L =
-    let H = 𝓛.H in let 𝓣 = tables 𝓤 H 𝓜 𝓡 𝓡.env in let E : El = record { row = T; laws = L; al = no_al } in let s = sz E in
-    let En = f.ended T in let c = f.clauses T 𝓛 𝓜.mem 𝓡.returns in let inst = layouts (a_type ∷ []) (T, tt) in let fn = inst_fn inst code.function in
-    let Pl : RattleType = Row E in let Tok : RattleType = LifetimeToken.the_row in let Lt : RattleType = LentPlaces.the_row (R E) in let In : RattleType = PlacesInheritance.the_row (R E) in
-    let hs : Stays En.signature.params En.kept = (stay_dropped (plain (λ _. Pl)) no, (stay_dropped (plain (λ _. Pl)) no, (stay_dropped (RefOf (0 ∷ []) tt (plain (λ _. Tok)) (λ _. tt)) yes, tt))) in
-    proved_at 𝓛 En hs c 𝓜 𝓡 (Goes-blank 𝓛 2 (plain (λ _. Pl)) no (λ κs x w. tt), (Goes-blank 𝓛 2 (plain (λ _. Pl)) no (λ κs x w. tt), (Goes-dropped 𝓛 2 (RefOf (0 ∷ []) tt (plain (λ _. Tok)) (λ _. tt)) yes (λ κs x w. refl), tt))) (f.Key.name inst) fn (code.unfolded 𝓤 H 𝓜 𝓡 wired (T, tt)) (λ y are.
-    let κs = y.0.0 in let qs = y.0.1 in let vss = y.0.4 in let bare : Pl.Denot = y.0.3.0 in let was : Pl.Denot = y.0.3.1.0 in let by_token = y.0.3.1.1.0.now in let b₁ = y.0.3.1.1.0.ref_ptr.0 in let o₁ = y.0.3.1.1.0.ref_ptr.1 in
-    let a : ℕ = by_token.lifetime in let n : ℕ = bare.count in let xs : List (el_x E) = was.items in let us = contents n bare.items in let ys = contents was.count xs in
-    let Post : Val → SProp 𝓤 = (walk_of 𝓛 En hs c).post y in let Run : List Val → SProp 𝓤 = λ ws. WpFn 𝓤 H 𝓣.C 𝓣.Λ fn ws Post in
-    let Next : Type 0 = IsPart bare was × (was.start ≡ bare.start + n) in let Empty : Type 0 = bare.items ≡ [] in
-    qed 𝓛 ((‵ (fsep (flft κs.0 qs.0) (fsep (flft κs.1.0 qs.1.0) ftrue)) ⊛ ‵ (owns (types_at En.signature.params κs) y.0.3 vss)) ∷ (raw (fact 𝓤 (κs.1.0 ⊑ T.lives)) ⊛ raw (fact 𝓤 Next) ⊛ raw (fact 𝓤 Empty)) ∷ []) ∵
-    move ! (1 ∷ []) $ split ! $ drop ! $ split ! $ heard ! Next (λ next. drop ! $ split ! $ move ! (1 ∷ []) $ fsplit ! $ move ! (1 ∷ []) $ fsplit ! $ move ! (1 ∷ []) $ fsplit ! $ fsplit ! $ feq_l ! (λ e₂. drop ! $ drop ! $
-    places_out E ! was vss.1.0 (λ b₂ o₂ at_b₂ small. move ! (1 ∷ []) $ places_out E ! bare vss.0 (λ b o at_b _.
+    let H = 𝓛.H in let 𝓣 = tables 𝓤 H 𝓜 𝓡 𝓡.env in
+    let E : El = record { row = T; laws = L; al = no_al } in let s = sz E in
+    let En = f.ended T in let c = f.clauses T 𝓛 𝓜.mem 𝓡.returns in
+    let inst = layouts (a_type ∷ []) (T, tt) in let fn = inst_fn inst code.function in
+    let Pl : RattleType = Row E in let Tok : RattleType = LifetimeToken.the_row in
+    let Lt : RattleType = LentPlaces.the_row (R E) in
+    let In : RattleType = PlacesInheritance.the_row (R E) in
+    let hs : Stays En.signature.params En.kept = (
+      stay_dropped (plain (λ _. Pl)) no,
+      (
+        stay_dropped (plain (λ _. Pl)) no,
+        (stay_dropped (RefOf (0 ∷ []) tt (plain (λ _. Tok)) (λ _. tt)) yes, tt),
+      ),
+    ) in
+    proved_at 𝓛 En hs c 𝓜 𝓡 (
+      Goes-blank 𝓛 2 (plain (λ _. Pl)) no (λ κs x w. tt),
+      (
+        Goes-blank 𝓛 2 (plain (λ _. Pl)) no (λ κs x w. tt),
+        (
+          Goes-dropped 𝓛 2 (RefOf (0 ∷ []) tt (plain (λ _. Tok)) (λ _. tt)) yes (λ κs x w. refl),
+          tt,
+        ),
+      ),
+    ) (f.Key.name inst) fn (code.unfolded 𝓤 H 𝓜 𝓡 wired (T, tt)) (λ y are.
+    let κs = y.0.0 in let qs = y.0.1 in let vss = y.0.4 in let bare : Pl.Denot = y.0.3.0 in
+    let was : Pl.Denot = y.0.3.1.0 in let by_token = y.0.3.1.1.0.now in
+    let b₁ = y.0.3.1.1.0.ref_ptr.0 in let o₁ = y.0.3.1.1.0.ref_ptr.1 in
+    let a : ℕ = by_token.lifetime in let n : ℕ = bare.count in let xs : List (el_x E) = was.items in
+    let us = contents n bare.items in let ys = contents was.count xs in
+    let Post : Val → SProp 𝓤 = (walk_of 𝓛 En hs c).post y in
+    let Run : List Val → SProp 𝓤 = λ ws. WpFn 𝓤 H 𝓣.C 𝓣.Λ fn ws Post in
+    let Next : Type 0 = IsPart bare was × (was.start ≡ bare.start + n) in
+    let Empty : Type 0 = bare.items ≡ [] in
+    qed 𝓛 ((‵ (fsep (flft κs.0 qs.0) (fsep (flft κs.1.0 qs.1.0) ftrue)) ⊛ ‵
+    (owns (types_at En.signature.params κs) y.0.3 vss)) ∷ (raw (fact 𝓤 (κs.1.0 ⊑ T.lives)) ⊛ raw
+    (fact 𝓤 Next) ⊛ raw (fact 𝓤 Empty)) ∷ []) ∵
+    move ! (1 ∷ []) $ split ! $ drop ! $ split ! $ heard ! Next (λ next. drop ! $ split ! $
+    move ! (1 ∷ []) $ fsplit ! $ move ! (1 ∷ []) $ fsplit ! $ move ! (1 ∷ []) $ fsplit ! $
+    fsplit ! $ feq_l ! (λ e₂. drop ! $ drop ! $
+    places_out E ! was vss.1.0 (λ b₂ o₂ at_b₂ small. move ! (1 ∷ []) $
+    places_out E ! bare vss.0 (λ b o at_b _.
     -- [what lies in the first places; and behind them; the tokens]
-    let from : ℕ = o + bare.start * s in let mid : ℕ = from + n * s in let base : block_ptr b₂ o₂ ≡ block_ptr b o = sym at_b₂ ∙ next.0.0 ∙ at_b in
-    let there : o + was.start * s ≡ mid = ap (λ (k : ℕ). o + k * s) next.1 ∙ further o bare.start n s in
-    rewrite ! 1 (λ (p : Ptr). ‵ (Side E 𝓛 (block_of p) (count_of p + was.start * s) was.count xs)) base refl $ rewrite ! 1 (λ (k : ℕ). ‵ (Side E 𝓛 b k was.count xs)) there refl $
-    use1 𝓛 (‵ (spots E 𝓛 b us from)) (spots_of E 𝓛 b n from bare.items bare.inside.1) $ move ! (1 ∷ []) $ use1 𝓛 (‵ (spots E 𝓛 b ys mid)) (spots_of E 𝓛 b was.count mid xs was.inside.1) $ move ! (1 ∷ 0 ∷ []) $
-    use2 𝓛 (‵ (spots E 𝓛 b (us ++ ys) from)) (spots_glue E 𝓛 b n from mid us ys (length-contents n bare.items) refl) $
-    let e₀ : vss.0 ≡ token ∷ [] = token_told (R E) vss.0 are.0.0 in let e₁ : vss.1.0 ≡ token ∷ [] = token_told (R E) vss.1.0 are.1.0.0 in let ws : List Val = token ∷ token ∷ vptr b₁ o₁ ∷ [] in
-    suffices ! (Run ws) (subst (λ (ks : List Val). ent 𝓤 (Run ws) (Run ks)) (sym (λ j. e₀ j ++ (e₁ j ++ (e₂ j ++ [])))) (id⊢ 𝓤 (Run ws))) $
-    enter ! 𝓣.C 𝓣.Λ fn ws Post $ alloc_all ! (λ l. pass_all ! refl ((tt, (tt, tt)), ((tt, (tt, tt)), ((tt, tt), tt))) $
-    use1 𝓛 (later (‵ (fex (List GName) (Lent E 𝓛 b a (us ++ ys) from)))) (lends E 𝓛 b a (us ++ ys) from) $ await ! tt $ fpick ! (λ gs. fsplit3 ! $ feq_l ! (λ e.
+    let from : ℕ = o + bare.start * s in let mid : ℕ = from + n * s in
+    let base : block_ptr b₂ o₂ ≡ block_ptr b o = sym at_b₂ ∙ next.0.0 ∙ at_b in
+    let there : o + was.start * s ≡ mid = ap (λ (k : ℕ). o + k * s) next.1
+    ∙ further o bare.start n s in
+    rewrite ! 1 (λ (p : Ptr). ‵ (Side E 𝓛 (block_of p) (count_of p + was.start * s) was.count xs))
+    base refl $ rewrite ! 1 (λ (k : ℕ). ‵ (Side E 𝓛 b k was.count xs)) there refl $
+    use1 𝓛 (‵ (spots E 𝓛 b us from)) (spots_of E 𝓛 b n from bare.items bare.inside.1) $
+    move ! (1 ∷ []) $
+    use1 𝓛 (‵ (spots E 𝓛 b ys mid)) (spots_of E 𝓛 b was.count mid xs was.inside.1) $
+    move ! (1 ∷ 0 ∷ []) $
+    use2 𝓛 (‵ (spots E 𝓛 b (us ++ ys) from))
+    (spots_glue E 𝓛 b n from mid us ys (length-contents n bare.items) refl) $
+    let e₀ : vss.0 ≡ token ∷ [] = token_told (R E) vss.0 are.0.0 in
+    let e₁ : vss.1.0 ≡ token ∷ [] = token_told (R E) vss.1.0 are.1.0.0 in
+    let ws : List Val = token ∷ token ∷ vptr b₁ o₁ ∷ [] in
+    suffices ! (Run ws) (subst (λ (ks : List Val). ent 𝓤 (Run ws) (Run ks))
+    (sym (λ j. e₀ j ++ (e₁ j ++ (e₂ j ++ [])))) (id⊢ 𝓤 (Run ws))) $
+    enter ! 𝓣.C 𝓣.Λ fn ws Post $
+    alloc_all ! (λ l. pass_all ! refl ((tt, (tt, tt)), ((tt, (tt, tt)), ((tt, tt), tt))) $
+    use1 𝓛 (later (‵ (fex (List GName) (Lent E 𝓛 b a (us ++ ys) from))))
+    (lends E 𝓛 b a (us ++ ys) from) $ await ! tt $ fpick ! (λ gs. fsplit3 ! $ feq_l ! (λ e.
     -- [the borrows; that they come back; the tokens]
-    let first : ℕ = bare.start in let names : List GName = padded first gs in let all : length gs ≡ n + was.count = omega (arith, e, length-append us ys, length-contents n bare.items, length-contents was.count xs) in
+    let first : ℕ = bare.start in let names : List GName = padded first gs in
+    let all : length gs ≡ n + was.count = omega (
+      arith,
+      e,
+      length-append us ys,
+      length-contents
+          n bare.items,
+      length-contents was.count xs,
+    ) in
     let long : length names ≡ first + (n + was.count) = omega (arith, padded_long first gs, all) in
-    let m : LentMemory = record { lifetime = a; names = names; base = was.base; whole = was.whole } in
-    let part : Lt.Denot = record { marker = record {}; memory = m; start = was.start; count = was.count; items = xs; inside = (omega (arith, long, next.1), omega (arith, long, next.1, was.inside.0), was.inside.1, was.inside.2) } in
-    let back : In.Denot = record { marker = record {}; memory = m; start = first; count = n + was.count; inside = (sym long, omega (arith, long, next.1, was.inside.0), was.inside.2) } in
+    let m : LentMemory = record { lifetime = a; names = names; base = was.base; whole = was.whole }
+    in
+    let part : Lt.Denot = record {
+      marker = record {};
+      memory = m;
+      start = was.start;
+      count = was.count;
+      items = xs;
+      inside = (
+        omega (arith, long, next.1),
+        omega (arith, long, next.1, was.inside.0),
+        was.inside.1,
+        was.inside.2,
+      );
+    } in
+    let back : In.Denot = record {
+      marker = record {};
+      memory = m;
+      start = first;
+      count = n + was.count;
+      inside =
+          (sym long, omega (arith, long, next.1, was.inside.0), was.inside.2);
+    } in
     let at_m : m.base ≡ block_ptr b o = next.0.0 ∙ at_b in
     let long_us : length us ≡ n = length-contents n bare.items in
-    let behind : drop_from n gs ≡ drop_from was.start names = ap (drop_from n) (sym (padded_off first gs)) ∙ drop-drop n first names ∙ ap (λ (k : ℕ). drop_from k names) (sym next.1) in
-    let others : drop_from n (us ++ ys) ≡ ys = ap (λ (k : ℕ). drop_from k (us ++ ys)) (sym long_us) ∙ drop-append_seam us ys in
-    use1 𝓛 (‵ (Borrows E 𝓛 b a gs (take n (us ++ ys)) from) ⊛ ‵ (Borrows E 𝓛 b a (drop_from n gs) (drop_from n (us ++ ys)) mid))
-    (borrowed_cut E 𝓛 b a n gs (us ++ ys) from mid (omega (arith, length-append us ys, long_us)) refl) $ split ! $ drop ! $
-    rewrite ! 0 (λ (k : List GName × List (Held (R E))). ‵ (Borrows E 𝓛 b a k.0 k.1 mid)) (λ i. (behind i, others i)) refl $ rewrite ! 0 (λ (k : ℕ). ‵ (Borrows E 𝓛 b a (drop_from was.start names) ys k)) (sym there) refl $
-    rewrite ! 1 (λ (ks : List GName). ‵ (Returns E 𝓛 b a ks from)) (sym (padded_off first gs)) refl $
-    there_in E ! m was.start (borrowed (R E) a (drop_from was.start names) ys) b o at_m small $ marked (R E) ! $ move ! (1 ∷ []) $
-    there_in E ! m first (returning (R E) a (drop_from first names)) b o at_m small $ marked (R E) ! $
-    sets ! (agg ! (no_more !)) refl (tt, tt) $ sets ! (agg ! (and_then ! (get ! refl) (no_more !))) refl (tt, (tt, tt)) $ sets ! (agg ! (no_more !)) refl (tt, tt) $ sets ! (agg ! (and_then ! (get ! refl) (no_more !))) refl (tt, (tt, tt)) $
-    sets ! (agg ! (and_then ! (get ! refl) (and_then ! (get ! refl) (no_more !)))) refl (tt, ((tt, tt), ((tt, tt), tt))) $
-    let w : Val = vstruct (vcons token (vcons token vnil)) in let Rs : List RattleType = Lt ∷ In ∷ [] in
-    nothing ! $ move ! (1 ∷ 0 ∷ []) $ fjoin ! $ move ! (1 ∷ 0 ∷ []) $ fjoin ! $ feq_i ! (List Val) (w ∷ []) (w ∷ []) refl $ fjoin ! $
-    fpack ! (Valss Rs) (λ uss. fsep (feq (List Val) (w ∷ []) (vstruct (of_list (uss.0 ++ (uss.1.0 ++ []))) ∷ [])) (owns Rs (part, (back, tt)) uss)) (token ∷ [], (token ∷ [], tt)) $
+    let behind : drop_from n gs ≡ drop_from was.start names = ap (drop_from n)
+    (sym (padded_off first gs)) ∙ drop-drop n first names ∙ ap (λ (k : ℕ). drop_from k names)
+    (sym next.1) in
+    let others : drop_from n (us ++ ys) ≡ ys = ap (λ (k : ℕ). drop_from k (us ++ ys)) (sym long_us)
+    ∙ drop-append_seam us ys in
+    use1 𝓛 (‵ (Borrows E 𝓛 b a gs (take n (us ++ ys)) from) ⊛ ‵
+    (Borrows E 𝓛 b a (drop_from n gs) (drop_from n (us ++ ys)) mid))
+    (borrowed_cut E 𝓛 b a n gs (us ++ ys) from mid (omega (arith, length-append us ys, long_us))
+    refl) $ split ! $ drop ! $
+    rewrite ! 0 (λ (k : List GName × List (Held (R E))). ‵ (Borrows E 𝓛 b a k.0 k.1 mid))
+    (λ i. (behind i, others i)) refl $
+    rewrite ! 0 (λ (k : ℕ). ‵ (Borrows E 𝓛 b a (drop_from was.start names) ys k)) (sym there)
+    refl $
+    rewrite ! 1 (λ (ks : List GName). ‵ (Returns E 𝓛 b a ks from)) (sym (padded_off first gs)) refl
+    $
+    there_in E ! m was.start (borrowed (R E) a (drop_from was.start names) ys) b o at_m small $
+    marked (R E) ! $ move ! (1 ∷ []) $
+    there_in E ! m first (returning (R E) a (drop_from first names)) b o at_m small $
+    marked (R E) ! $
+    sets ! (agg ! (no_more !)) refl (tt, tt) $ sets ! (agg ! (and_then ! (get ! refl) (no_more !)))
+    refl (tt, (tt, tt)) $ sets ! (agg ! (no_more !)) refl (tt, tt) $
+    sets ! (agg ! (and_then ! (get ! refl) (no_more !))) refl (tt, (tt, tt)) $
+    sets ! (agg ! (and_then ! (get ! refl) (and_then ! (get ! refl) (no_more !)))) refl
+    (tt, ((tt, tt), ((tt, tt), tt))) $
+    let w : Val = vstruct (vcons token (vcons token vnil)) in
+    let Rs : List RattleType = Lt ∷ In ∷ [] in
+    nothing ! $ move ! (1 ∷ 0 ∷ []) $ fjoin ! $ move ! (1 ∷ 0 ∷ []) $ fjoin ! $
+    feq_i ! (List Val) (w ∷ []) (w ∷ []) refl $ fjoin ! $
+    fpack ! (Valss Rs)
+    (λ uss. fsep (feq (List Val) (w ∷ []) (vstruct (of_list (uss.0 ++ (uss.1.0 ++ []))) ∷ []))
+    (owns Rs (part, (back, tt)) uss)) (token ∷ [], (token ∷ [], tt)) $
     nothing ! $ nothing ! $ fjoin ! $ nothing ! $ fjoin ! $ nothing ! $ fjoin ! $
     returns ! (look_at ! 0 refl) $ free_all ! refl $ keep ! (2 ∷ 0 ∷ 1 ∷ []) $
-    by ! (ends 𝓛 En hs c y w (part, back) (tt, (tt, (tt, tt))) (tt, (tt, (tt, tt))) (told 𝓤 refl (told 𝓤 (refl, refl) (told 𝓤 (refl, refl, refl) (fact_i 𝓤 _ (emp 𝓤) (refl, refl, refl)) 𝓛) 𝓛) 𝓛))))))))))
+    by ! (ends 𝓛 En hs c y w (part, back) (tt, (tt, (tt, tt))) (tt, (tt, (tt, tt)))
+    (told 𝓤 refl (told 𝓤 (refl, refl)
+    (told 𝓤 (refl, refl, refl) (fact_i 𝓤 _ (emp 𝓤) (refl, refl, refl)) 𝓛) 𝓛) 𝓛))))))))))

@@ -1,10 +1,12 @@
 -- `open` takes each place out of its borrow, by a share of the lifetime. It touches no memory.
-use Rattle.std.proofs.Common.{◌≡◌, ℕ, ◌+◌, ◌*◌, ◌≤◌, List, [], ◌∷◌, ◌++◌, length, refl, sym, subst, arith}
+use Rattle.std.proofs.Common.{◌≡◌, ℕ, ◌+◌, ◌*◌, ◌≤◌, List, [], ◌∷◌, ◌++◌, length, refl, sym, subst}
+use Rattle.std.proofs.Common.{arith}
 use lib.ListN.{drop as drop_from}
 use mir.Val.{Val, vstruct, vcons, vnil, of_list}
 use base.Logic.{SProp, ent, emp, id⊢}
 use base.Fml.{GName, ftrue, fsep, feq, flft}
-use types.Kit.{‵, raw, ◌⊛◌, later, ◌$◌, ◌∵◌, !, qed, by, move, keep, drop, split, fsplit, fjoin, fpack, feq_i, suffices, use1, use2, await, rewrite}
+use types.Kit.{‵, raw, ◌⊛◌, later, ◌$◌, ◌∵◌, !, qed, by, move, keep, drop, split, fsplit, fjoin}
+use types.Kit.{fpack, feq_i, suffices, use1, use2, await, rewrite}
 use types.Run.{no_more, and_then, returns, enter}
 use contract.Monad.{fact, fact_i}
 use denote.Builtin.{unit}
@@ -42,34 +44,81 @@ use Rattle.arc_memory.proofs.lent_places.LentPlaces.open.Code as code
 
 pub open_spec : {M : Type 1} → statement M
 open_spec 𝓤 𝓛 𝓜 𝓡 wired T L =
-    let H = 𝓛.H in let 𝓣 = tables 𝓤 H 𝓜 𝓡 𝓡.env in let E : El = record { row = T; laws = L; al = no_al } in let s = sz E in
-    let En = f.ended T in let c = f.clauses T 𝓛 𝓜.mem 𝓡.returns in let inst = layouts (a_type ∷ []) (T, tt) in let fn = inst_fn inst code.function in
-    let Pl : RattleType = Row E in let Tok : RattleType = LifetimeToken.the_row in let Lt : RattleType = LentPlaces.the_row (R E) in let Op : RattleType = OpenPlaces.the_row (R E) in
-    let hs : Stays En.signature.params En.kept = (stay_dropped (plain (λ _. Lt)) no, (stay_dropped (plain (λ _. Tok)) yes, tt)) in
-    proved_at 𝓛 En hs c 𝓜 𝓡 (Goes-blank 𝓛 1 (plain (λ _. Lt)) no (λ κs x w. tt), (Goes-blank 𝓛 1 (plain (λ _. Tok)) yes (λ κs x w. tt), tt)) (f.Key.name inst) fn (code.unfolded 𝓤 H 𝓜 𝓡 wired (T, tt)) (λ y are.
-    let κs = y.0.0 in let qs = y.0.1 in let me : Lt.Denot = y.0.3.0 in let stake : Tok.Denot = y.0.3.1.0 in let vss = y.0.4 in let m : LentMemory = me.memory in let a : ℕ = m.lifetime in let q = stake.share in
+    let H = 𝓛.H in let 𝓣 = tables 𝓤 H 𝓜 𝓡 𝓡.env in
+    let E : El = record { row = T; laws = L; al = no_al } in let s = sz E in
+    let En = f.ended T in let c = f.clauses T 𝓛 𝓜.mem 𝓡.returns in
+    let inst = layouts (a_type ∷ []) (T, tt) in let fn = inst_fn inst code.function in
+    let Pl : RattleType = Row E in let Tok : RattleType = LifetimeToken.the_row in
+    let Lt : RattleType = LentPlaces.the_row (R E) in
+    let Op : RattleType = OpenPlaces.the_row (R E) in
+    let hs : Stays En.signature.params En.kept =
+    (stay_dropped (plain (λ _. Lt)) no, (stay_dropped (plain (λ _. Tok)) yes, tt)) in
+    proved_at 𝓛 En hs c 𝓜 𝓡 (
+      Goes-blank 𝓛 1 (plain (λ _. Lt)) no (λ κs x w. tt),
+      (Goes-blank 𝓛 1 (plain (λ _. Tok)) yes (λ κs x w. tt), tt),
+    ) (f.Key.name inst) fn
+    (code.unfolded 𝓤 H 𝓜 𝓡 wired (T, tt)) (λ y are.
+    let κs = y.0.0 in let qs = y.0.1 in let me : Lt.Denot = y.0.3.0 in
+    let stake : Tok.Denot = y.0.3.1.0 in let vss = y.0.4 in let m : LentMemory = me.memory in
+    let a : ℕ = m.lifetime in let q = stake.share in
     let xs : List (el_x E) = me.items in let ys = contents me.count xs in
-    let Post : Val → SProp 𝓤 = (walk_of 𝓛 En hs c).post y in let Run : List Val → SProp 𝓤 = λ ws. WpFn 𝓤 H 𝓣.C 𝓣.Λ fn ws Post in let Asked : Type 0 = stake.lifetime ≡ a in
-    qed 𝓛 ((‵ (fsep (flft κs.0 qs.0) ftrue) ⊛ ‵ (owns (types_at En.signature.params κs) y.0.3 vss)) ∷ (raw (fact 𝓤 (κs.0 ⊑ T.lives)) ⊛ raw (fact 𝓤 Asked)) ∷ []) ∵
-    move ! (1 ∷ []) $ split ! $ drop ! $ heard ! Asked (λ asked. split ! $ move ! (1 ∷ []) $ fsplit ! $ move ! (1 ∷ []) $ fsplit ! $ fsplit ! $ drop ! $
+    let Post : Val → SProp 𝓤 = (walk_of 𝓛 En hs c).post y in
+    let Run : List Val → SProp 𝓤 = λ ws. WpFn 𝓤 H 𝓣.C 𝓣.Λ fn ws Post in
+    let Asked : Type 0 = stake.lifetime ≡ a in
+    qed 𝓛 ((‵ (fsep (flft κs.0 qs.0) ftrue) ⊛ ‵ (owns (types_at En.signature.params κs) y.0.3
+    vss)) ∷ (raw (fact 𝓤 (κs.0 ⊑ T.lives)) ⊛ raw (fact 𝓤 Asked)) ∷ []) ∵
+    move ! (1 ∷ []) $ split ! $ drop ! $ heard ! Asked (λ asked. split ! $ move ! (1 ∷ []) $
+    fsplit ! $ move ! (1 ∷ []) $ fsplit ! $ fsplit ! $ drop ! $
     rewrite ! 0 (λ (k : ℕ). ‵ (flft (k ∷ []) q)) asked refl $ move ! (2 ∷ []) $ fsplit ! $ drop ! $
     there_out E ! m me.start (borrowed (R E) a (names_from (R E) m me.start) ys) (λ b o at_b small.
     -- [the borrows; the share; no more parameters; the tokens]
-    let gs : List GName = drop_from me.start m.names in let from : ℕ = o + me.start * s in let low : me.start + me.count ≤ m.whole = omega (arith, me.inside.0, me.inside.1) in
-    let e₀ : vss.0 ≡ token ∷ [] = token_told (R E) vss.0 are.0.0 in let e₁ : vss.1.0 ≡ token ∷ [] = token_told unit vss.1.0 are.1.0.0 in let ws : List Val = token ∷ token ∷ [] in
-    suffices ! (Run ws) (subst (λ (us : List Val). ent 𝓤 (Run ws) (Run us)) (sym (λ j. e₀ j ++ (e₁ j ++ []))) (id⊢ 𝓤 (Run ws))) $
-    enter ! 𝓣.C 𝓣.Λ fn ws Post $ alloc_all ! (λ l. pass_all ! refl ((tt, (tt, tt)), ((tt, (tt, tt)), tt)) $
-    use2 𝓛 (later (‵ (spots E 𝓛 b ys from) ⊛ ‵ (Opened E 𝓛 b a q gs (length ys) from))) (opens_all E 𝓛 b a q gs ys from) $ await ! tt $ split ! $
+    let gs : List GName = drop_from me.start m.names in let from : ℕ = o + me.start * s in
+    let low : me.start + me.count ≤ m.whole = omega (arith, me.inside.0, me.inside.1) in
+    let e₀ : vss.0 ≡ token ∷ [] = token_told (R E) vss.0 are.0.0 in
+    let e₁ : vss.1.0 ≡ token ∷ [] = token_told unit vss.1.0 are.1.0.0 in
+    let ws : List Val = token ∷ token ∷ [] in
+    suffices ! (Run ws) (subst (λ (us : List Val). ent 𝓤 (Run ws) (Run us))
+    (sym (λ j. e₀ j ++ (e₁ j ++ []))) (id⊢ 𝓤 (Run ws))) $
+    enter ! 𝓣.C 𝓣.Λ fn ws Post $
+    alloc_all ! (λ l. pass_all ! refl ((tt, (tt, tt)), ((tt, (tt, tt)), tt)) $
+    use2 𝓛 (later (‵ (spots E 𝓛 b ys from) ⊛ ‵ (Opened E 𝓛 b a q gs (length ys) from)))
+    (opens_all E 𝓛 b a q gs ys from) $ await ! tt $ split ! $
     use1 𝓛 (‵ (Side E 𝓛 b from me.count xs)) (spots_as E 𝓛 b me.count from xs me.inside.2) $
-    let places : Pl.Denot = record { marker = record {}; base = m.base; whole = m.whole; start = me.start; count = me.count; items = xs; inside = (low, me.inside.2, me.inside.3) } in
-    let rest : Op.Denot = record { marker = record {}; memory = m; start = me.start; count = me.count; share = q; inside = (me.inside.0, me.inside.1, me.inside.3) } in
-    places_in E ! places b o at_b small $ move ! (1 ∷ []) $ rewrite ! 0 (λ (n : ℕ). ‵ (Opened E 𝓛 b a q gs n from)) (length-contents me.count xs) refl $
+    let places : Pl.Denot = record {
+      marker = record {};
+      base = m.base;
+      whole = m.whole;
+      start = me.start;
+      count = me.count;
+      items = xs;
+      inside =
+          (low, me.inside.2, me.inside.3);
+    } in
+    let rest : Op.Denot = record {
+      marker = record {};
+      memory = m;
+      start = me.start;
+      count = me.count;
+      share = q;
+      inside = (me.inside.0, me.inside.1, me.inside.3);
+    } in
+    places_in E ! places b o at_b small $ move ! (1 ∷ []) $
+    rewrite ! 0 (λ (n : ℕ). ‵ (Opened E 𝓛 b a q gs n from)) (length-contents me.count xs) refl $
     there_in E ! m me.start (opened (R E) a q gs me.count) b o at_b small $ marked (R E) ! $
-    sets ! (agg ! (no_more !)) refl (tt, tt) $ sets ! (agg ! (and_then ! (get ! refl) (no_more !))) refl (tt, (tt, tt)) $ sets ! (agg ! (no_more !)) refl (tt, tt) $ sets ! (agg ! (and_then ! (get ! refl) (no_more !))) refl (tt, (tt, tt)) $
-    sets ! (agg ! (and_then ! (get ! refl) (and_then ! (get ! refl) (no_more !)))) refl (tt, ((tt, tt), ((tt, tt), tt))) $
-    let w : Val = vstruct (vcons token (vcons token vnil)) in let Rs : List RattleType = Pl ∷ Op ∷ [] in
-    nothing ! $ move ! (1 ∷ 0 ∷ []) $ fjoin ! $ move ! (1 ∷ 0 ∷ []) $ fjoin ! $ feq_i ! (List Val) (w ∷ []) (w ∷ []) refl $ fjoin ! $
-    fpack ! (Valss Rs) (λ uss. fsep (feq (List Val) (w ∷ []) (vstruct (of_list (uss.0 ++ (uss.1.0 ++ []))) ∷ [])) (owns Rs (places, (rest, tt)) uss)) (token ∷ [], (token ∷ [], tt)) $
+    sets ! (agg ! (no_more !)) refl (tt, tt) $ sets ! (agg ! (and_then ! (get ! refl) (no_more !)))
+    refl (tt, (tt, tt)) $ sets ! (agg ! (no_more !)) refl (tt, tt) $
+    sets ! (agg ! (and_then ! (get ! refl) (no_more !))) refl (tt, (tt, tt)) $
+    sets ! (agg ! (and_then ! (get ! refl) (and_then ! (get ! refl) (no_more !)))) refl
+    (tt, ((tt, tt), ((tt, tt), tt))) $
+    let w : Val = vstruct (vcons token (vcons token vnil)) in
+    let Rs : List RattleType = Pl ∷ Op ∷ [] in
+    nothing ! $ move ! (1 ∷ 0 ∷ []) $ fjoin ! $ move ! (1 ∷ 0 ∷ []) $ fjoin ! $
+    feq_i ! (List Val) (w ∷ []) (w ∷ []) refl $ fjoin ! $
+    fpack ! (Valss Rs)
+    (λ uss. fsep (feq (List Val) (w ∷ []) (vstruct (of_list (uss.0 ++ (uss.1.0 ++ []))) ∷ []))
+    (owns Rs (places, (rest, tt)) uss)) (token ∷ [], (token ∷ [], tt)) $
     nothing ! $ nothing ! $ fjoin ! $ nothing ! $ fjoin ! $
     returns ! (look_at ! 0 refl) $ free_all ! refl $ keep ! (3 ∷ 0 ∷ 1 ∷ []) $
-    by ! (ends 𝓛 En hs c y w (places, rest) (tt, (tt, tt)) (tt, (tt, tt)) (told 𝓤 ((refl, refl), refl) (told 𝓤 (refl, refl, refl) (fact_i 𝓤 _ (emp 𝓤) (refl, refl, refl)) 𝓛) 𝓛))))))
+    by ! (ends 𝓛 En hs c y w (places, rest) (tt, (tt, tt)) (tt, (tt, tt))
+    (told 𝓤 ((refl, refl), refl)
+    (told 𝓤 (refl, refl, refl) (fact_i 𝓤 _ (emp 𝓤) (refl, refl, refl)) 𝓛) 𝓛))))))

@@ -1,10 +1,12 @@
 -- `split` parts the borrows. It touches no memory.
-use Rattle.std.proofs.Common.{◌≡◌, ℕ, ◌+◌, ◌-◌, ◌*◌, ◌≤◌, List, [], ◌∷◌, ◌++◌, length, take, refl, sym, subst, arith, w64, length-drop, length-take, drop-drop}
+use Rattle.std.proofs.Common.{◌≡◌, ℕ, ◌+◌, ◌-◌, ◌*◌, ◌≤◌, List, [], ◌∷◌, ◌++◌, length, take, refl}
+use Rattle.std.proofs.Common.{sym, subst, arith, w64, length-drop, length-take, drop-drop}
 use lib.ListN.{drop as drop_from}
 use mir.Val.{Val, vint, vstruct, vcons, vnil, of_list}
 use base.Logic.{SProp, ent, emp, id⊢}
 use base.Fml.{GName, ftrue, fsep, feq, flft}
-use types.Kit.{‵, raw, ◌⊛◌, ◌$◌, ◌∵◌, !, qed, by, move, keep, drop, split, fsplit, fjoin, fpack, feq_l, feq_i, flt_l, suffices, use1, rewrite}
+use types.Kit.{‵, raw, ◌⊛◌, ◌$◌, ◌∵◌, !, qed, by, move, keep, drop, split, fsplit, fjoin, fpack}
+use types.Kit.{feq_l, feq_i, flt_l, suffices, use1, rewrite}
 use types.Run.{no_more, and_then, returns, enter}
 use contract.Monad.{fact, fact_i}
 use denote.Builtin.{usize}
@@ -39,35 +41,87 @@ use Rattle.arc_memory.proofs.lent_places.LentPlaces.split.Code as code
 
 pub split_spec : {M : Type 1} → statement M
 split_spec 𝓤 𝓛 𝓜 𝓡 wired T L =
-    let H = 𝓛.H in let 𝓣 = tables 𝓤 H 𝓜 𝓡 𝓡.env in let E : El = record { row = T; laws = L; al = no_al } in let s = sz E in
-    let En = f.ended T in let c = f.clauses T 𝓛 𝓜.mem 𝓡.returns in let inst = layouts (a_type ∷ []) (T, tt) in let fn = inst_fn inst code.function in let Lt : RattleType = LentPlaces.the_row (R E) in
-    let hs : Stays En.signature.params En.kept = (stay_dropped (plain (λ _. Lt)) no, (stay_dropped (plain (λ _. usize)) yes, tt)) in
-    proved_at 𝓛 En hs c 𝓜 𝓡 (Goes-blank 𝓛 1 (plain (λ _. Lt)) no (λ κs x w. tt), (Goes-dropped 𝓛 1 (plain (λ _. usize)) yes (λ κs x w. refl), tt)) (f.Key.name inst) fn (code.unfolded 𝓤 H 𝓜 𝓡 wired (T, tt)) (λ y are.
-    let κs = y.0.0 in let qs = y.0.1 in let was : Lt.Denot = y.0.3.0 in let at : ℕ = y.0.3.1.0 in let vss = y.0.4 in let m : LentMemory = was.memory in let a : ℕ = m.lifetime in let xs : List (el_x E) = was.items in let ys = contents was.count xs in
+    let H = 𝓛.H in let 𝓣 = tables 𝓤 H 𝓜 𝓡 𝓡.env in
+    let E : El = record { row = T; laws = L; al = no_al } in let s = sz E in
+    let En = f.ended T in let c = f.clauses T 𝓛 𝓜.mem 𝓡.returns in
+    let inst = layouts (a_type ∷ []) (T, tt) in let fn = inst_fn inst code.function in
+    let Lt : RattleType = LentPlaces.the_row (R E) in
+    let hs : Stays En.signature.params En.kept =
+    (stay_dropped (plain (λ _. Lt)) no, (stay_dropped (plain (λ _. usize)) yes, tt)) in
+    proved_at 𝓛 En hs c 𝓜 𝓡 (
+      Goes-blank 𝓛 1 (plain (λ _. Lt)) no (λ κs x w. tt),
+      (Goes-dropped 𝓛 1 (plain (λ _. usize)) yes (λ κs x w. refl), tt),
+    ) (f.Key.name inst) fn
+    (code.unfolded 𝓤 H 𝓜 𝓡 wired (T, tt)) (λ y are.
+    let κs = y.0.0 in let qs = y.0.1 in let was : Lt.Denot = y.0.3.0 in let at : ℕ = y.0.3.1.0 in
+    let vss = y.0.4 in let m : LentMemory = was.memory in let a : ℕ = m.lifetime in
+    let xs : List (el_x E) = was.items in let ys = contents was.count xs in
     let n : ℕ = was.count - at in
-    let Post : Val → SProp 𝓤 = (walk_of 𝓛 En hs c).post y in let Run : List Val → SProp 𝓤 = λ ws. WpFn 𝓤 H 𝓣.C 𝓣.Λ fn ws Post in
-    qed 𝓛 ((‵ (fsep (flft κs.0 qs.0) ftrue) ⊛ ‵ (owns (types_at En.signature.params κs) y.0.3 vss)) ∷ (raw (fact 𝓤 (κs.0 ⊑ T.lives)) ⊛ raw (fact 𝓤 (at ≤ was.count))) ∷ []) ∵
-    move ! (1 ∷ []) $ split ! $ drop ! $ heard ! (at ≤ was.count) (λ asked. split ! $ move ! (1 ∷ []) $ fsplit ! $ move ! (1 ∷ []) $ fsplit ! $ fsplit ! $ feq_l ! (λ e₁. flt_l ! (λ fits. move ! (1 ∷ []) $ fsplit ! $ drop ! $
-    there_out E ! m was.start (borrowed (R E) a (names_from (R E) m was.start) ys) (λ b o at_b small.
+    let Post : Val → SProp 𝓤 = (walk_of 𝓛 En hs c).post y in
+    let Run : List Val → SProp 𝓤 = λ ws. WpFn 𝓤 H 𝓣.C 𝓣.Λ fn ws Post in
+    qed 𝓛 ((‵ (fsep (flft κs.0 qs.0) ftrue) ⊛ ‵ (owns (types_at En.signature.params κs) y.0.3
+    vss)) ∷ (raw (fact 𝓤 (κs.0 ⊑ T.lives)) ⊛ raw (fact 𝓤 (at ≤ was.count))) ∷ []) ∵
+    move ! (1 ∷ []) $ split ! $ drop ! $ heard ! (at ≤ was.count) (λ asked. split ! $
+    move ! (1 ∷ []) $ fsplit ! $ move ! (1 ∷ []) $ fsplit ! $ fsplit ! $
+    feq_l ! (λ e₁. flt_l ! (λ fits. move ! (1 ∷ []) $ fsplit ! $ drop ! $
+    there_out E ! m was.start (borrowed (R E) a (names_from (R E) m was.start) ys)
+    (λ b o at_b small.
     -- [the borrows; no more parameters; the tokens]
-    let gs : List GName = drop_from was.start m.names in let from : ℕ = o + was.start * s in let mid : ℕ = o + (was.start + at) * s in let cut : was.count ≡ at + n = omega (arith, asked) in
-    use1 𝓛 (‵ (Borrows E 𝓛 b a gs (take at ys) from) ⊛ ‵ (Borrows E 𝓛 b a (drop_from at gs) (drop_from at ys) mid))
-    (borrowed_cut E 𝓛 b a at gs ys from mid (omega (arith, length-contents was.count xs, asked)) (sym (further o was.start at s))) $ split ! $
-    rewrite ! 0 (λ (us : List (Held (R E))). ‵ (Borrows E 𝓛 b a gs us from)) (take-contents at was.count xs asked) refl $
-    rewrite ! 1 (λ (k : List GName × List (Held (R E))). ‵ (Borrows E 𝓛 b a k.0 k.1 mid)) (λ i. (drop-drop at was.start m.names i, drop-contents at was.count n xs cut i)) refl $
-    let lower : length (take at xs) ≤ at = omega (arith, length-take at xs) in let upper : length (drop_from at xs) ≤ n = omega (arith, length-drop at xs, was.inside.2) in
-    let front : Lt.Denot = record { marker = record {}; memory = m; start = was.start; count = at; items = take at xs; inside = (omega (arith, was.inside.0, asked), was.inside.1, lower, was.inside.3) } in
-    let back : Lt.Denot = record { marker = record {}; memory = m; start = was.start + at; count = n; items = drop_from at xs; inside = (omega (arith, was.inside.0, asked), was.inside.1, upper, was.inside.3) } in
-    there_in E ! m was.start (borrowed (R E) a gs (contents at (take at xs))) b o at_b small $ marked (R E) ! $ move ! (1 ∷ []) $
-    there_in E ! m (was.start + at) (borrowed (R E) a (drop_from (was.start + at) m.names) (contents n (drop_from at xs))) b o at_b small $ marked (R E) ! $
-    let e₀ : vss.0 ≡ token ∷ [] = token_told (R E) vss.0 are.0.0 in let ws : List Val = token ∷ vint w64 at ∷ [] in
-    suffices ! (Run ws) (subst (λ (us : List Val). ent 𝓤 (Run ws) (Run us)) (sym (λ j. e₀ j ++ (e₁ j ++ []))) (id⊢ 𝓤 (Run ws))) $
-    enter ! 𝓣.C 𝓣.Λ fn ws Post $ alloc_all ! (λ l. pass_all ! refl ((tt, (tt, tt)), ((tt, record { fits = fits }), tt)) $
-    sets ! (agg ! (no_more !)) refl (tt, tt) $ sets ! (agg ! (and_then ! (get ! refl) (no_more !))) refl (tt, (tt, tt)) $ sets ! (agg ! (no_more !)) refl (tt, tt) $ sets ! (agg ! (and_then ! (get ! refl) (no_more !))) refl (tt, (tt, tt)) $
-    sets ! (agg ! (and_then ! (get ! refl) (and_then ! (get ! refl) (no_more !)))) refl (tt, ((tt, tt), ((tt, tt), tt))) $
-    let w : Val = vstruct (vcons token (vcons token vnil)) in let Rs : List RattleType = Lt ∷ Lt ∷ [] in
-    nothing ! $ move ! (1 ∷ 0 ∷ []) $ fjoin ! $ move ! (1 ∷ 0 ∷ []) $ fjoin ! $ feq_i ! (List Val) (w ∷ []) (w ∷ []) refl $ fjoin ! $
-    fpack ! (Valss Rs) (λ uss. fsep (feq (List Val) (w ∷ []) (vstruct (of_list (uss.0 ++ (uss.1.0 ++ []))) ∷ [])) (owns Rs (front, (back, tt)) uss)) (token ∷ [], (token ∷ [], tt)) $
+    let gs : List GName = drop_from was.start m.names in let from : ℕ = o + was.start * s in
+    let mid : ℕ = o + (was.start + at) * s in
+    let cut : was.count ≡ at + n = omega (arith, asked) in
+    use1 𝓛 (‵ (Borrows E 𝓛 b a gs (take at ys) from) ⊛ ‵
+    (Borrows E 𝓛 b a (drop_from at gs) (drop_from at ys) mid))
+    (borrowed_cut E 𝓛 b a at gs ys from mid (omega (arith, length-contents was.count xs, asked))
+    (sym (further o was.start at s))) $ split ! $
+    rewrite ! 0 (λ (us : List (Held (R E))). ‵ (Borrows E 𝓛 b a gs us from))
+    (take-contents at was.count xs asked) refl $
+    rewrite ! 1 (λ (k : List GName × List (Held (R E))). ‵ (Borrows E 𝓛 b a k.0 k.1 mid))
+    (λ i. (drop-drop at was.start m.names i, drop-contents at was.count n xs cut i)) refl $
+    let lower : length (take at xs) ≤ at = omega (arith, length-take at xs) in
+    let upper : length (drop_from at xs) ≤ n = omega (arith, length-drop at xs, was.inside.2) in
+    let front : Lt.Denot = record {
+      marker = record {};
+      memory = m;
+      start = was.start;
+      count = at;
+      items = take at xs;
+      inside =
+          (omega (arith, was.inside.0, asked), was.inside.1, lower, was.inside.3);
+    } in
+    let back : Lt.Denot = record {
+      marker = record {};
+      memory = m;
+      start = was.start + at;
+      count = n;
+      items = drop_from at xs;
+      inside =
+          (omega (arith, was.inside.0, asked), was.inside.1, upper, was.inside.3);
+    } in
+    there_in E ! m was.start (borrowed (R E) a gs (contents at (take at xs))) b o at_b small $
+    marked (R E) ! $ move ! (1 ∷ []) $
+    there_in E ! m (was.start + at) (borrowed (R E) a (drop_from (was.start + at) m.names)
+    (contents n (drop_from at xs))) b o at_b small $ marked (R E) ! $
+    let e₀ : vss.0 ≡ token ∷ [] = token_told (R E) vss.0 are.0.0 in
+    let ws : List Val = token ∷ vint w64 at ∷ [] in
+    suffices ! (Run ws) (subst (λ (us : List Val). ent 𝓤 (Run ws) (Run us))
+    (sym (λ j. e₀ j ++ (e₁ j ++ []))) (id⊢ 𝓤 (Run ws))) $
+    enter ! 𝓣.C 𝓣.Λ fn ws Post $
+    alloc_all ! (λ l. pass_all ! refl ((tt, (tt, tt)), ((tt, record { fits = fits }), tt)) $
+    sets ! (agg ! (no_more !)) refl (tt, tt) $ sets ! (agg ! (and_then ! (get ! refl) (no_more !)))
+    refl (tt, (tt, tt)) $ sets ! (agg ! (no_more !)) refl (tt, tt) $
+    sets ! (agg ! (and_then ! (get ! refl) (no_more !))) refl (tt, (tt, tt)) $
+    sets ! (agg ! (and_then ! (get ! refl) (and_then ! (get ! refl) (no_more !)))) refl
+    (tt, ((tt, tt), ((tt, tt), tt))) $
+    let w : Val = vstruct (vcons token (vcons token vnil)) in
+    let Rs : List RattleType = Lt ∷ Lt ∷ [] in
+    nothing ! $ move ! (1 ∷ 0 ∷ []) $ fjoin ! $ move ! (1 ∷ 0 ∷ []) $ fjoin ! $
+    feq_i ! (List Val) (w ∷ []) (w ∷ []) refl $ fjoin ! $
+    fpack ! (Valss Rs)
+    (λ uss. fsep (feq (List Val) (w ∷ []) (vstruct (of_list (uss.0 ++ (uss.1.0 ++ []))) ∷ []))
+    (owns Rs (front, (back, tt)) uss)) (token ∷ [], (token ∷ [], tt)) $
     nothing ! $ nothing ! $ fjoin ! $ nothing ! $ fjoin ! $
     returns ! (look_at ! 0 refl) $ free_all ! refl $ keep ! (3 ∷ 0 ∷ 1 ∷ []) $
-    by ! (ends 𝓛 En hs c y w (front, back) (tt, (tt, tt)) (tt, (tt, tt)) (told 𝓤 (refl, refl) (told 𝓤 (refl, refl, refl) (fact_i 𝓤 _ (emp 𝓤) (refl, refl, refl)) 𝓛) 𝓛))))))))
+    by ! (ends 𝓛 En hs c y w (front, back) (tt, (tt, tt)) (tt, (tt, tt))
+    (told 𝓤 (refl, refl) (told 𝓤 (refl, refl, refl) (fact_i 𝓤 _ (emp 𝓤) (refl, refl, refl)) 𝓛)
+    𝓛))))))))

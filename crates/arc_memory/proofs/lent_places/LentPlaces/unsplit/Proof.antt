@@ -1,10 +1,12 @@
 -- `unsplit` puts the borrows of two parts together. It touches no memory.
-use Rattle.std.proofs.Common.{◌≡◌, ℕ, ◌+◌, ◌*◌, ◌≤◌, ◌⊎◌, List, [], ◌∷◌, ◌++◌, length, refl, sym, ap, ◌∙◌, subst, arith, length-append, drop-drop}
+use Rattle.std.proofs.Common.{◌≡◌, ℕ, ◌+◌, ◌*◌, ◌≤◌, ◌⊎◌, List, [], ◌∷◌, ◌++◌, length, refl, sym}
+use Rattle.std.proofs.Common.{ap, ◌∙◌, subst, arith, length-append, drop-drop}
 use lib.ListN.{drop as drop_from}
 use mir.Val.{Val}
 use base.Logic.{SProp, ent, emp, id⊢}
 use base.Fml.{GName, ftrue, fsep, flft}
-use types.Kit.{‵, raw, ◌⊛◌, ◌$◌, ◌∵◌, !, qed, by, move, keep, drop, split, fsplit, fjoin, suffices, use2, rewrite}
+use types.Kit.{‵, raw, ◌⊛◌, ◌$◌, ◌∵◌, !, qed, by, move, keep, drop, split, fsplit, fjoin, suffices}
+use types.Kit.{use2, rewrite}
 use types.Run.{stop, fld, of_opd, no_more, and_then, returns, enter}
 use types.ByLocal.{get_in}
 use types.Part.{sub, whole}
@@ -40,33 +42,77 @@ use Rattle.arc_memory.proofs.lent_places.LentPlaces.unsplit.Code as code
 
 pub unsplit_spec : {M : Type 1} → statement M
 unsplit_spec 𝓤 𝓛 𝓜 𝓡 wired T L =
-    let H = 𝓛.H in let 𝓣 = tables 𝓤 H 𝓜 𝓡 𝓡.env in let E : El = record { row = T; laws = L; al = no_al } in let s = sz E in
-    let En = f.ended T in let c = f.clauses T 𝓛 𝓜.mem 𝓡.returns in let inst = layouts (a_type ∷ []) (T, tt) in let fn = inst_fn inst code.function in let Lt : RattleType = LentPlaces.the_row (R E) in
-    let hs : Stays En.signature.params En.kept = (stay_dropped (plain (λ _. Lt)) no, (stay_dropped (plain (λ _. Lt)) no, tt)) in
-    proved_at 𝓛 En hs c 𝓜 𝓡 (Goes-blank 𝓛 1 (plain (λ _. Lt)) no (λ κs x w. tt), (Goes-blank 𝓛 1 (plain (λ _. Lt)) no (λ κs x w. tt), tt)) (f.Key.name inst) fn (code.unfolded 𝓤 H 𝓜 𝓡 wired (T, tt)) (λ y are.
-    let κs = y.0.0 in let qs = y.0.1 in let me : Lt.Denot = y.0.3.0 in let back : Lt.Denot = y.0.3.1.0 in let vss = y.0.4 in let m : LentMemory = me.memory in let a : ℕ = m.lifetime in
-    let Post : Val → SProp 𝓤 = (walk_of 𝓛 En hs c).post y in let Run : List Val → SProp 𝓤 = λ ws. WpFn 𝓤 H 𝓣.C 𝓣.Λ fn ws Post in
-    let Next : Type 0 = (back.memory ≡ m) × (back.start ≡ me.start + me.count) in let Full : Type 0 = (length me.items ≡ me.count) ⊎ (back.items ≡ []) in let ys = contents me.count me.items in let zs = contents back.count back.items in
-    qed 𝓛 ((‵ (fsep (flft κs.0 qs.0) ftrue) ⊛ ‵ (owns (types_at En.signature.params κs) y.0.3 vss)) ∷ (raw (fact 𝓤 (κs.0 ⊑ T.lives)) ⊛ raw (fact 𝓤 Next) ⊛ raw (fact 𝓤 Full)) ∷ []) ∵
-    move ! (1 ∷ []) $ split ! $ drop ! $ split ! $ heard ! Next (λ next. heard ! Full (λ full. split ! $ move ! (1 ∷ []) $ fsplit ! $ move ! (1 ∷ []) $ fsplit ! $ fsplit ! $ drop ! $
-    there_out E ! back.memory back.start (borrowed (R E) back.memory.lifetime (names_from (R E) back.memory back.start) zs) (λ b₂ o₂ at_b₂ _. move ! (2 ∷ []) $ fsplit ! $ drop ! $
+    let H = 𝓛.H in let 𝓣 = tables 𝓤 H 𝓜 𝓡 𝓡.env in
+    let E : El = record { row = T; laws = L; al = no_al } in let s = sz E in
+    let En = f.ended T in let c = f.clauses T 𝓛 𝓜.mem 𝓡.returns in
+    let inst = layouts (a_type ∷ []) (T, tt) in let fn = inst_fn inst code.function in
+    let Lt : RattleType = LentPlaces.the_row (R E) in
+    let hs : Stays En.signature.params En.kept =
+    (stay_dropped (plain (λ _. Lt)) no, (stay_dropped (plain (λ _. Lt)) no, tt)) in
+    proved_at 𝓛 En hs c 𝓜 𝓡 (
+      Goes-blank 𝓛 1 (plain (λ _. Lt)) no (λ κs x w. tt),
+      (Goes-blank 𝓛 1 (plain (λ _. Lt)) no (λ κs x w. tt), tt),
+    ) (f.Key.name inst) fn
+    (code.unfolded 𝓤 H 𝓜 𝓡 wired (T, tt)) (λ y are.
+    let κs = y.0.0 in let qs = y.0.1 in let me : Lt.Denot = y.0.3.0 in
+    let back : Lt.Denot = y.0.3.1.0 in let vss = y.0.4 in let m : LentMemory = me.memory in
+    let a : ℕ = m.lifetime in
+    let Post : Val → SProp 𝓤 = (walk_of 𝓛 En hs c).post y in
+    let Run : List Val → SProp 𝓤 = λ ws. WpFn 𝓤 H 𝓣.C 𝓣.Λ fn ws Post in
+    let Next : Type 0 = (back.memory ≡ m) × (back.start ≡ me.start + me.count) in
+    let Full : Type 0 = (length me.items ≡ me.count) ⊎ (back.items ≡ []) in
+    let ys = contents me.count me.items in let zs = contents back.count back.items in
+    qed 𝓛 ((‵ (fsep (flft κs.0 qs.0) ftrue) ⊛ ‵ (owns (types_at En.signature.params κs) y.0.3
+    vss)) ∷ (raw (fact 𝓤 (κs.0 ⊑ T.lives)) ⊛ raw (fact 𝓤 Next) ⊛ raw (fact 𝓤 Full)) ∷ []) ∵
+    move ! (1 ∷ []) $ split ! $ drop ! $ split ! $
+    heard ! Next (λ next. heard ! Full (λ full. split ! $ move ! (1 ∷ []) $ fsplit ! $
+    move ! (1 ∷ []) $ fsplit ! $ fsplit ! $ drop ! $
+    there_out E ! back.memory back.start
+    (borrowed (R E) back.memory.lifetime (names_from (R E) back.memory back.start) zs)
+    (λ b₂ o₂ at_b₂ _. move ! (2 ∷ []) $ fsplit ! $ drop ! $
     there_out E ! m me.start (borrowed (R E) a (names_from (R E) m me.start) ys) (λ b o at_b small.
     -- [the front's borrows; the back's; no more parameters; the tokens]
-    let gs : List GName = drop_from me.start m.names in let from : ℕ = o + me.start * s in let mid : ℕ = o + (me.start + me.count) * s in let total : ℕ = me.count + back.count in
-    let base : block_ptr b₂ o₂ ≡ block_ptr b o = sym at_b₂ ∙ ap (λ (k : LentMemory). k.base) next.0 ∙ at_b in
-    let behind : drop_from back.start back.memory.names ≡ drop_from me.count gs = (λ i. drop_from (next.1 i) (next.0 i).names) ∙ sym (drop-drop me.count me.start m.names) in
-    rewrite ! 1 (λ (p : Ptr). ‵ (Borrows E 𝓛 (block_of p) back.memory.lifetime (drop_from back.start back.memory.names) zs (count_of p + back.start * s))) base refl $
-    rewrite ! 1 (λ (k : ℕ × ℕ). ‵ (Borrows E 𝓛 b k.0 (drop_from back.start back.memory.names) zs (o + k.1 * s))) (λ i. ((next.0 i).lifetime, next.1 i)) refl $
+    let gs : List GName = drop_from me.start m.names in let from : ℕ = o + me.start * s in
+    let mid : ℕ = o + (me.start + me.count) * s in let total : ℕ = me.count + back.count in
+    let base : block_ptr b₂ o₂ ≡ block_ptr b o = sym at_b₂ ∙ ap (λ (k : LentMemory). k.base) next.0
+    ∙ at_b in
+    let behind : drop_from back.start back.memory.names ≡ drop_from me.count
+    gs = (λ i. drop_from (next.1 i) (next.0 i).names)
+    ∙ sym (drop-drop me.count me.start m.names) in
+    rewrite ! 1 (λ (p : Ptr). ‵ (Borrows E 𝓛 (block_of p) back.memory.lifetime
+    (drop_from back.start back.memory.names) zs (count_of p + back.start * s))) base refl $
+    rewrite ! 1 (λ (k : ℕ × ℕ). ‵ (Borrows E 𝓛 b k.0 (drop_from back.start back.memory.names) zs
+    (o + k.1 * s))) (λ i. ((next.0 i).lifetime, next.1 i)) refl $
     rewrite ! 1 (λ (ks : List GName). ‵ (Borrows E 𝓛 b a ks zs mid)) behind refl $
-    use2 𝓛 (‵ (Borrows E 𝓛 b a gs (ys ++ zs) from)) (borrowed_glue E 𝓛 b a me.count gs ys zs from mid (length-contents me.count me.items) (sym (further o me.start me.count s))) $
-    rewrite ! 0 (λ (us : List (Held (R E))). ‵ (Borrows E 𝓛 b a gs us from)) (sym (contents-append me.count back.count total me.items back.items full refl me.inside.2)) refl $
-    let names : length back.memory.names ≡ length m.names = ap (λ (k : LentMemory). length k.names) next.0 in let fewer : length (me.items ++ back.items) ≤ total = omega (arith, length-append me.items back.items, me.inside.2, back.inside.2) in
-    let now : Lt.Denot = record { marker = record {}; memory = m; start = me.start; count = total; items = me.items ++ back.items; inside = (omega (arith, back.inside.0, names, next.1), me.inside.1, fewer, me.inside.3) } in
-    there_in E ! m me.start (borrowed (R E) a gs (contents total (me.items ++ back.items))) b o at_b small $ marked (R E) ! $
-    let e₀ : vss.0 ≡ token ∷ [] = token_told (R E) vss.0 are.0.0 in let e₁ : vss.1.0 ≡ token ∷ [] = token_told (R E) vss.1.0 are.1.0.0 in let ws : List Val = token ∷ token ∷ [] in
-    suffices ! (Run ws) (subst (λ (us : List Val). ent 𝓤 (Run ws) (Run us)) (sym (λ j. e₀ j ++ (e₁ j ++ []))) (id⊢ 𝓤 (Run ws))) $
-    enter ! 𝓣.C 𝓣.Λ fn ws Post $ alloc_all ! (λ l. pass_all ! refl ((tt, (tt, tt)), ((tt, (tt, tt)), tt)) $
-    sets ! (of_opd ! (get_in ! (fld ! refl (stop !)) (sub ! 0 refl (whole !)))) refl (tt, tt) $ sets ! (agg ! (and_then ! (get ! refl) (no_more !))) refl (tt, (tt, tt)) $
+    use2 𝓛 (‵ (Borrows E 𝓛 b a gs (ys ++ zs) from)) (borrowed_glue E 𝓛 b a me.count gs ys zs from
+    mid (length-contents me.count me.items) (sym (further o me.start me.count s))) $
+    rewrite ! 0 (λ (us : List (Held (R E))). ‵ (Borrows E 𝓛 b a gs us from))
+    (sym (contents-append me.count back.count total me.items back.items full refl me.inside.2))
+    refl $
+    let names : length back.memory.names ≡ length m.names = ap (λ (k : LentMemory). length k.names)
+    next.0 in let fewer : length (me.items ++ back.items) ≤ total = omega
+    (arith, length-append me.items back.items, me.inside.2, back.inside.2) in
+    let now : Lt.Denot = record {
+      marker = record {};
+      memory = m;
+      start = me.start;
+      count = total;
+      items = me.items ++ back.items;
+      inside =
+          (omega (arith, back.inside.0, names, next.1), me.inside.1, fewer, me.inside.3);
+    } in
+    there_in E ! m me.start (borrowed (R E) a gs (contents total (me.items ++ back.items))) b o at_b
+    small $ marked (R E) ! $
+    let e₀ : vss.0 ≡ token ∷ [] = token_told (R E) vss.0 are.0.0 in
+    let e₁ : vss.1.0 ≡ token ∷ [] = token_told (R E) vss.1.0 are.1.0.0 in
+    let ws : List Val = token ∷ token ∷ [] in
+    suffices ! (Run ws) (subst (λ (us : List Val). ent 𝓤 (Run ws) (Run us))
+    (sym (λ j. e₀ j ++ (e₁ j ++ []))) (id⊢ 𝓤 (Run ws))) $
+    enter ! 𝓣.C 𝓣.Λ fn ws Post $
+    alloc_all ! (λ l. pass_all ! refl ((tt, (tt, tt)), ((tt, (tt, tt)), tt)) $
+    sets ! (of_opd ! (get_in ! (fld ! refl (stop !)) (sub ! 0 refl (whole !)))) refl (tt, tt) $
+    sets ! (agg ! (and_then ! (get ! refl) (no_more !))) refl (tt, (tt, tt)) $
     nothing ! $ nothing ! $ fjoin ! $ nothing ! $ fjoin ! $
     returns ! (look_at ! 0 refl) $ free_all ! refl $ keep ! (3 ∷ 0 ∷ 1 ∷ []) $
-    by ! (ends 𝓛 En hs c y token now (tt, (tt, tt)) (tt, (tt, tt)) (told 𝓤 (refl, refl) (fact_i 𝓤 _ (emp 𝓤) (refl, refl)) 𝓛))))))))
+    by ! (ends 𝓛 En hs c y token now (tt, (tt, tt)) (tt, (tt, tt))
+    (told 𝓤 (refl, refl) (fact_i 𝓤 _ (emp 𝓤) (refl, refl)) 𝓛))))))))

@@ -1,11 +1,13 @@
 -- `close` puts each place back into its borrow, with what lies there now, and the share of the
 -- lifetime comes out. It touches no memory.
-use Rattle.std.proofs.Common.{◌≡◌, ℕ, ◌+◌, ◌*◌, ◌≤◌, List, [], ◌∷◌, ◌++◌, length, refl, sym, ◌∙◌, subst, arith}
+use Rattle.std.proofs.Common.{◌≡◌, ℕ, ◌+◌, ◌*◌, ◌≤◌, List, [], ◌∷◌, ◌++◌, length, refl, sym, ◌∙◌}
+use Rattle.std.proofs.Common.{subst, arith}
 use lib.ListN.{drop as drop_from}
 use mir.Val.{Val, vstruct, vcons, vnil, of_list}
 use base.Logic.{SProp, ent, emp, id⊢}
 use base.Fml.{GName, ftrue, fsep, feq, flft}
-use types.Kit.{‵, raw, ◌⊛◌, later, ◌$◌, ◌∵◌, !, qed, by, move, keep, drop, split, fsplit, fjoin, fpack, feq_i, suffices, use1, use2, await, rewrite}
+use types.Kit.{‵, raw, ◌⊛◌, later, ◌$◌, ◌∵◌, !, qed, by, move, keep, drop, split, fsplit, fjoin}
+use types.Kit.{fpack, feq_i, suffices, use1, use2, await, rewrite}
 use types.Run.{no_more, and_then, returns, enter}
 use contract.Monad.{fact, fact_i}
 use denote.Builtin.{unit}
@@ -44,37 +46,78 @@ use Rattle.arc_memory.proofs.lent_places.OpenPlaces.close.Code as code
 
 pub close_spec : {M : Type 1} → statement M
 close_spec 𝓤 𝓛 𝓜 𝓡 wired T L =
-    let H = 𝓛.H in let 𝓣 = tables 𝓤 H 𝓜 𝓡 𝓡.env in let E : El = record { row = T; laws = L; al = no_al } in let s = sz E in
-    let En = f.ended T in let c = f.clauses T 𝓛 𝓜.mem 𝓡.returns in let inst = layouts (a_type ∷ []) (T, tt) in let fn = inst_fn inst code.function in
-    let Pl : RattleType = Row E in let Tok : RattleType = LifetimeToken.the_row in let Lt : RattleType = LentPlaces.the_row (R E) in let Op : RattleType = OpenPlaces.the_row (R E) in
-    let hs : Stays En.signature.params En.kept = (stay_dropped (plain (λ _. Op)) no, (stay_dropped (plain (λ _. Pl)) no, tt)) in
-    proved_at 𝓛 En hs c 𝓜 𝓡 (Goes-blank 𝓛 1 (plain (λ _. Op)) no (λ κs x w. tt), (Goes-blank 𝓛 1 (plain (λ _. Pl)) no (λ κs x w. tt), tt)) (f.Key.name inst) fn (code.unfolded 𝓤 H 𝓜 𝓡 wired (T, tt)) (λ y are.
-    let κs = y.0.0 in let qs = y.0.1 in let me : Op.Denot = y.0.3.0 in let new : Pl.Denot = y.0.3.1.0 in let vss = y.0.4 in let m : LentMemory = me.memory in let a : ℕ = m.lifetime in let q = me.share in
+    let H = 𝓛.H in let 𝓣 = tables 𝓤 H 𝓜 𝓡 𝓡.env in
+    let E : El = record { row = T; laws = L; al = no_al } in let s = sz E in
+    let En = f.ended T in let c = f.clauses T 𝓛 𝓜.mem 𝓡.returns in
+    let inst = layouts (a_type ∷ []) (T, tt) in let fn = inst_fn inst code.function in
+    let Pl : RattleType = Row E in let Tok : RattleType = LifetimeToken.the_row in
+    let Lt : RattleType = LentPlaces.the_row (R E) in
+    let Op : RattleType = OpenPlaces.the_row (R E) in
+    let hs : Stays En.signature.params En.kept =
+    (stay_dropped (plain (λ _. Op)) no, (stay_dropped (plain (λ _. Pl)) no, tt)) in
+    proved_at 𝓛 En hs c 𝓜 𝓡 (
+      Goes-blank 𝓛 1 (plain (λ _. Op)) no (λ κs x w. tt),
+      (Goes-blank 𝓛 1 (plain (λ _. Pl)) no (λ κs x w. tt), tt),
+    ) (f.Key.name inst) fn
+    (code.unfolded 𝓤 H 𝓜 𝓡 wired (T, tt)) (λ y are.
+    let κs = y.0.0 in let qs = y.0.1 in let me : Op.Denot = y.0.3.0 in
+    let new : Pl.Denot = y.0.3.1.0 in let vss = y.0.4 in let m : LentMemory = me.memory in
+    let a : ℕ = m.lifetime in let q = me.share in
     let xs : List (el_x E) = new.items in let ys = contents me.count xs in
-    let Post : Val → SProp 𝓤 = (walk_of 𝓛 En hs c).post y in let Run : List Val → SProp 𝓤 = λ ws. WpFn 𝓤 H 𝓣.C 𝓣.Λ fn ws Post in
-    let Within : Type 0 = (new.base ≡ m.base) × (new.whole ≡ m.whole) in let Same : Type 0 = (new.start ≡ me.start) × (new.count ≡ me.count) in
-    qed 𝓛 ((‵ (fsep (flft κs.0 qs.0) ftrue) ⊛ ‵ (owns (types_at En.signature.params κs) y.0.3 vss)) ∷ (raw (fact 𝓤 (κs.0 ⊑ T.lives)) ⊛ raw (fact 𝓤 Within) ⊛ raw (fact 𝓤 Same)) ∷ []) ∵
-    move ! (1 ∷ []) $ split ! $ drop ! $ split ! $ heard ! Within (λ within. heard ! Same (λ same. split ! $ move ! (1 ∷ []) $ fsplit ! $ move ! (1 ∷ []) $ fsplit ! $
+    let Post : Val → SProp 𝓤 = (walk_of 𝓛 En hs c).post y in
+    let Run : List Val → SProp 𝓤 = λ ws. WpFn 𝓤 H 𝓣.C 𝓣.Λ fn ws Post in
+    let Within : Type 0 = (new.base ≡ m.base) × (new.whole ≡ m.whole) in
+    let Same : Type 0 = (new.start ≡ me.start) × (new.count ≡ me.count) in
+    qed 𝓛 ((‵ (fsep (flft κs.0 qs.0) ftrue) ⊛ ‵ (owns (types_at En.signature.params κs) y.0.3
+    vss)) ∷ (raw (fact 𝓤 (κs.0 ⊑ T.lives)) ⊛ raw (fact 𝓤 Within) ⊛ raw (fact 𝓤 Same)) ∷ []) ∵
+    move ! (1 ∷ []) $ split ! $ drop ! $ split ! $
+    heard ! Within (λ within. heard ! Same (λ same. split ! $ move ! (1 ∷ []) $ fsplit ! $
+    move ! (1 ∷ []) $ fsplit ! $
     places_out E ! new vss.1.0 (λ b₂ o₂ at_b₂ _. move ! (2 ∷ []) $ fsplit ! $ drop ! $
-    there_out E ! m me.start (opened (R E) a q (names_from (R E) m me.start) me.count) (λ b o at_b small.
+    there_out E ! m me.start (opened (R E) a q (names_from (R E) m me.start) me.count)
+    (λ b o at_b small.
     -- [what is open; what lies side by side; no more parameters; the tokens]
-    let gs : List GName = drop_from me.start m.names in let from : ℕ = o + me.start * s in let fewer : length xs ≤ me.count = omega (arith, new.inside.1, same.1) in
+    let gs : List GName = drop_from me.start m.names in let from : ℕ = o + me.start * s in
+    let fewer : length xs ≤ me.count = omega (arith, new.inside.1, same.1) in
     let base : block_ptr b₂ o₂ ≡ block_ptr b o = sym at_b₂ ∙ within.0 ∙ at_b in
-    rewrite ! 1 (λ (k : Ptr × (ℕ × ℕ)). ‵ (Side E 𝓛 (block_of k.0) (count_of k.0 + k.1.0 * s) k.1.1 xs)) (λ i. (base i, (same.0 i, same.1 i))) refl $
-    rewrite ! 0 (λ (n : ℕ). ‵ (Opened E 𝓛 b a q gs n from)) (sym (length-contents me.count xs)) refl $ move ! (1 ∷ []) $
+    rewrite ! 1 (λ (k : Ptr × (ℕ × ℕ)). ‵ (Side E 𝓛 (block_of k.0) (count_of k.0 + k.1.0 * s) k.1.1
+    xs)) (λ i. (base i, (same.0 i, same.1 i))) refl $
+    rewrite ! 0 (λ (n : ℕ). ‵ (Opened E 𝓛 b a q gs n from)) (sym (length-contents me.count xs))
+    refl $ move ! (1 ∷ []) $
     use1 𝓛 (‵ (spots E 𝓛 b ys from)) (spots_of E 𝓛 b me.count from xs fewer) $
-    let e₀ : vss.0 ≡ token ∷ [] = token_told (R E) vss.0 are.0.0 in let e₁ : vss.1.0 ≡ token ∷ [] = token_told (R E) vss.1.0 are.1.0.0 in let ws : List Val = token ∷ token ∷ [] in
-    suffices ! (Run ws) (subst (λ (us : List Val). ent 𝓤 (Run ws) (Run us)) (sym (λ j. e₀ j ++ (e₁ j ++ []))) (id⊢ 𝓤 (Run ws))) $
-    enter ! 𝓣.C 𝓣.Λ fn ws Post $ alloc_all ! (λ l. pass_all ! refl ((tt, (tt, tt)), ((tt, (tt, tt)), tt)) $
-    use2 𝓛 (later (‵ (Borrows E 𝓛 b a gs ys from) ⊛ ‵ (flft (a ∷ []) q))) (closes_all E 𝓛 b a q gs ys from) $ await ! tt $ split ! $
-    let part : Lt.Denot = record { marker = record {}; memory = m; start = me.start; count = me.count; items = xs; inside = (me.inside.0, me.inside.1, fewer, me.inside.2) } in
+    let e₀ : vss.0 ≡ token ∷ [] = token_told (R E) vss.0 are.0.0 in
+    let e₁ : vss.1.0 ≡ token ∷ [] = token_told (R E) vss.1.0 are.1.0.0 in
+    let ws : List Val = token ∷ token ∷ [] in
+    suffices ! (Run ws) (subst (λ (us : List Val). ent 𝓤 (Run ws) (Run us))
+    (sym (λ j. e₀ j ++ (e₁ j ++ []))) (id⊢ 𝓤 (Run ws))) $
+    enter ! 𝓣.C 𝓣.Λ fn ws Post $
+    alloc_all ! (λ l. pass_all ! refl ((tt, (tt, tt)), ((tt, (tt, tt)), tt)) $
+    use2 𝓛 (later (‵ (Borrows E 𝓛 b a gs ys from) ⊛ ‵ (flft (a ∷ []) q)))
+    (closes_all E 𝓛 b a q gs ys from) $ await ! tt $ split ! $
+    let part : Lt.Denot = record {
+      marker = record {};
+      memory = m;
+      start = me.start;
+      count = me.count;
+      items = xs;
+      inside = (me.inside.0, me.inside.1, fewer, me.inside.2);
+    } in
     let stake : Tok.Denot = record { marker = record {}; lifetime = a; share = q } in
-    there_in E ! m me.start (borrowed (R E) a gs ys) b o at_b small $ marked (R E) ! $ move ! (1 ∷ []) $ marked unit ! $
-    sets ! (agg ! (no_more !)) refl (tt, tt) $ sets ! (agg ! (and_then ! (get ! refl) (no_more !))) refl (tt, (tt, tt)) $ sets ! (agg ! (no_more !)) refl (tt, tt) $ sets ! (agg ! (and_then ! (get ! refl) (no_more !))) refl (tt, (tt, tt)) $
-    sets ! (agg ! (and_then ! (get ! refl) (and_then ! (get ! refl) (no_more !)))) refl (tt, ((tt, tt), ((tt, tt), tt))) $
-    let w : Val = vstruct (vcons token (vcons token vnil)) in let Rs : List RattleType = Lt ∷ Tok ∷ [] in
-    nothing ! $ move ! (1 ∷ 0 ∷ []) $ fjoin ! $ move ! (1 ∷ 0 ∷ []) $ fjoin ! $ feq_i ! (List Val) (w ∷ []) (w ∷ []) refl $ fjoin ! $
-    fpack ! (Valss Rs) (λ uss. fsep (feq (List Val) (w ∷ []) (vstruct (of_list (uss.0 ++ (uss.1.0 ++ []))) ∷ [])) (owns Rs (part, (stake, tt)) uss)) (token ∷ [], (token ∷ [], tt)) $
+    there_in E ! m me.start (borrowed (R E) a gs ys) b o at_b small $ marked (R E) ! $
+    move ! (1 ∷ []) $ marked unit ! $
+    sets ! (agg ! (no_more !)) refl (tt, tt) $ sets ! (agg ! (and_then ! (get ! refl) (no_more !)))
+    refl (tt, (tt, tt)) $ sets ! (agg ! (no_more !)) refl (tt, tt) $
+    sets ! (agg ! (and_then ! (get ! refl) (no_more !))) refl (tt, (tt, tt)) $
+    sets ! (agg ! (and_then ! (get ! refl) (and_then ! (get ! refl) (no_more !)))) refl
+    (tt, ((tt, tt), ((tt, tt), tt))) $
+    let w : Val = vstruct (vcons token (vcons token vnil)) in
+    let Rs : List RattleType = Lt ∷ Tok ∷ [] in
+    nothing ! $ move ! (1 ∷ 0 ∷ []) $ fjoin ! $ move ! (1 ∷ 0 ∷ []) $ fjoin ! $
+    feq_i ! (List Val) (w ∷ []) (w ∷ []) refl $ fjoin ! $
+    fpack ! (Valss Rs)
+    (λ uss. fsep (feq (List Val) (w ∷ []) (vstruct (of_list (uss.0 ++ (uss.1.0 ++ []))) ∷ []))
+    (owns Rs (part, (stake, tt)) uss)) (token ∷ [], (token ∷ [], tt)) $
     nothing ! $ nothing ! $ fjoin ! $ nothing ! $ fjoin ! $
     returns ! (look_at ! 0 refl) $ free_all ! refl $ keep ! (3 ∷ 0 ∷ 1 ∷ []) $
-    by ! (ends 𝓛 En hs c y w (part, stake) (tt, (tt, tt)) (tt, (tt, tt)) (told 𝓤 (refl, refl, refl, refl) (fact_i 𝓤 _ (emp 𝓤) (refl, refl)) 𝓛))))))))
+    by ! (ends 𝓛 En hs c y w (part, stake) (tt, (tt, tt)) (tt, (tt, tt))
+    (told 𝓤 (refl, refl, refl, refl) (fact_i 𝓤 _ (emp 𝓤) (refl, refl)) 𝓛))))))))

@@ -4,4 +4,9 @@ use Rattle.arc_memory.proofs.Keyless.{inheritance}
 use Rattle.arc_memory.specs.contracts.lent_places.PlacesInheritance.{the_row}
 
 pub send : (T : RattleType) → IsSend T → IsSend (the_row T)
-send T s = record { owned = λ d vs. ((λ vss. (tt, ((λ uss. (tt, tt)), tt))), inheritance T s d.memory d.start); leaving = λ k e vs. tt }
+send T s = record {
+  owned =
+      λ d vs. ((λ vss. (tt, ((λ uss. (tt, tt)), tt))), inheritance T s d.memory d.start);
+  leaving =
+      λ k e vs. tt;
+}

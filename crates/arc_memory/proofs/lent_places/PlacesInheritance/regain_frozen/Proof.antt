@@ -1,6 +1,7 @@
 -- `regain_frozen` takes each place back, of which a frozen range's names say what lies in it. It
 -- touches no memory.
-use Rattle.std.proofs.Common.{◌≡◌, ℕ, ◌+◌, ◌-◌, ◌≤◌, List, [], ◌∷◌, ◌++◌, length, refl, sym, ap, ◌∙◌, subst, arith, length-drop, drop-drop}
+use Rattle.std.proofs.Common.{◌≡◌, ℕ, ◌+◌, ◌-◌, ◌≤◌, List, [], ◌∷◌, ◌++◌, length, refl, sym, ap}
+use Rattle.std.proofs.Common.{◌∙◌, subst, arith, length-drop, drop-drop}
 use lib.ListN.{drop as drop_from}
 use mir.Syntax.{a_type}
 use mir.Val.{Val, vptr}
@@ -8,7 +9,8 @@ use mir.MapTy.{inst_fn}
 use base.Logic.{SProp, ent, emp, id⊢}
 use base.Fml.{GName, ftrue, fsep, flft, fdead, fhide}
 use prog.Wp.{WpFn}
-use types.Kit.{‵, raw, ◌⊛◌, later, ◌$◌, ◌∵◌, !, qed, by, move, keep, drop, split, split3, fsplit, fjoin, feq_l, suffices, use1, use3, await, rewrite}
+use types.Kit.{‵, raw, ◌⊛◌, later, ◌$◌, ◌∵◌, !, qed, by, move, keep, drop, split, split3, fsplit}
+use types.Kit.{fjoin, feq_l, suffices, use1, use3, await, rewrite}
 use types.Run.{no_more, and_then, returns, enter}
 use types.ByLocal.{alloc_all, pass_all, free_all, look_at, get, sets}
 use types.Part.{agg}
@@ -31,7 +33,8 @@ use Rattle.std.proofs.raw_atomic.Walks.{proved_at}
 use Rattle.std_alloc.proofs.VecSteps.El.{El, R, el_x, sz, no_al}
 use Rattle.logbook.proofs.Fields.{token, Token, token_told, ends}
 use Rattle.arc_owners.proofs.Markers.{told}
-use Rattle.arc_memory.specs.LentMemory.{LentMemory, contents, settles, each_name, frozen, frozen_owns, returning, names_from}
+use Rattle.arc_memory.specs.LentMemory.{LentMemory, contents, settles, each_name, frozen}
+use Rattle.arc_memory.specs.LentMemory.{frozen_owns, returning, names_from}
 use Rattle.arc_memory.proofs.Held.{Row}
 use Rattle.arc_memory.proofs.LentHeld.{there_out}
 use Rattle.arc_memory.proofs.Names.{settles_agrees}
@@ -45,40 +48,111 @@ use Rattle.arc_memory.proofs.lent_places.PlacesInheritance.regain_frozen.Code as
 
 pub regain_frozen_spec : {M : Type 1} → statement M
 regain_frozen_spec 𝓤 𝓛 𝓜 𝓡 wired T L =
-    let H = 𝓛.H in let 𝓣 = tables 𝓤 H 𝓜 𝓡 𝓡.env in let E : El = record { row = T; laws = L; al = no_al } in let s = sz E in
-    let En = f.ended T in let c = f.clauses T 𝓛 𝓜.mem 𝓡.returns in let inst = layouts (a_type ∷ []) (T, tt) in let fn = inst_fn inst code.function in
-    let Pl : RattleType = Row E in let Dead : RattleType = EndedLifetime.the_row in let Fr : RattleType = FrozenPlaces.the_row (R E) in let In : RattleType = PlacesInheritance.the_row (R E) in
-    let hs : Stays En.signature.params En.kept = (stay_dropped (plain (λ _. In)) no, (stay_dropped (plain (λ _. Dead)) yes, (stay_dropped (RefOf (0 ∷ []) tt (plain (λ _. Fr)) (λ _. tt)) yes, tt))) in
-    proved_at 𝓛 En hs c 𝓜 𝓡 (Goes-blank 𝓛 2 (plain (λ _. In)) no (λ κs x w. tt), (Goes-blank 𝓛 2 (plain (λ _. Dead)) yes (λ κs x w. tt), (Goes-dropped 𝓛 2 (RefOf (0 ∷ []) tt (plain (λ _. Fr)) (λ _. tt)) yes (λ κs x w. refl), tt))) (f.Key.name inst) fn (code.unfolded 𝓤 H 𝓜 𝓡 wired (T, tt)) (λ y are.
-    let κs = y.0.0 in let qs = y.0.1 in let vss = y.0.4 in let me : In.Denot = y.0.3.0 in let ended : Dead.Denot = y.0.3.1.0 in let range : Fr.Denot = y.0.3.1.1.0.now in let b₁ = y.0.3.1.1.0.ref_ptr.0 in let o₁ = y.0.3.1.1.0.ref_ptr.1 in
-    let m : LentMemory = me.memory in let xs : List (el_x E) = range.items in let count : ℕ = length xs in let ys = contents count xs in
-    let Post : Val → SProp 𝓤 = (walk_of 𝓛 En hs c).post y in let Run : List Val → SProp 𝓤 = λ ws. WpFn 𝓤 H 𝓣.C 𝓣.Λ fn ws Post in
-    let Over : Type 0 = ended.lifetime ≡ m.lifetime in let Within : Type 0 = (range.memory ≡ m) × (me.start ≤ range.start) in
-    qed 𝓛 ((‵ (fsep (flft κs.0 qs.0) (fsep (flft κs.1.0 qs.1.0) ftrue)) ⊛ ‵ (owns (types_at En.signature.params κs) y.0.3 vss)) ∷ (raw (fact 𝓤 (κs.1.0 ⊑ T.lives)) ⊛ raw (fact 𝓤 Over) ⊛ raw (fact 𝓤 Within)) ∷ []) ∵
-    move ! (1 ∷ []) $ split ! $ drop ! $ split ! $ heard ! Over (λ over. heard ! Within (λ own. split ! $ move ! (1 ∷ []) $ fsplit ! $ fsplit ! $ drop ! $
-    there_out E ! m me.start (returning (R E) m.lifetime (names_from (R E) m me.start)) (λ b o at_b small. move ! (1 ∷ []) $ fsplit ! $ fsplit ! $ drop ! $ move ! (1 ∷ []) $ fsplit ! $ fsplit ! $ feq_l ! (λ e₂.
-    use1 𝓛 (‵ (hidden_shr (Token (R E)) κs.0 (range.marker, tt) b₁ o₁) ⊛ ‵ (fhide (frozen_owns (R E) range.memory range.start xs)))
-    (lent_out 𝓛 (FrozenPlaces.struct (R E)) (FrozenPlaces.the_codes (R E).Denot (R E).coded (marker.the_row (R E)).coded) (FrozenPlaces.the_heap (R E)) (FrozenPlaces.the_lent (R E)) κs.0 range b₁ o₁) $ split ! $ drop ! $ unhide ! $
-    there_out E ! range.memory range.start (frozen (R E) range.memory.lifetime (names_from (R E) range.memory range.start) xs) (λ b₂ o₂ at_b₂ small₂. fsplit ! $ drop ! $
+    let H = 𝓛.H in let 𝓣 = tables 𝓤 H 𝓜 𝓡 𝓡.env in
+    let E : El = record { row = T; laws = L; al = no_al } in let s = sz E in
+    let En = f.ended T in let c = f.clauses T 𝓛 𝓜.mem 𝓡.returns in
+    let inst = layouts (a_type ∷ []) (T, tt) in let fn = inst_fn inst code.function in
+    let Pl : RattleType = Row E in let Dead : RattleType = EndedLifetime.the_row in
+    let Fr : RattleType = FrozenPlaces.the_row (R E) in
+    let In : RattleType = PlacesInheritance.the_row (R E) in
+    let hs : Stays En.signature.params En.kept = (
+      stay_dropped (plain (λ _. In)) no,
+      (
+        stay_dropped (plain (λ _. Dead)) yes,
+        (stay_dropped (RefOf (0 ∷ []) tt (plain (λ _. Fr)) (λ _. tt)) yes, tt),
+      ),
+    ) in
+    proved_at 𝓛 En hs c 𝓜 𝓡 (
+      Goes-blank 𝓛 2 (plain (λ _. In)) no (λ κs x w. tt),
+      (
+        Goes-blank 𝓛 2 (plain (λ _. Dead)) yes (λ κs x w. tt),
+        (
+          Goes-dropped 𝓛 2 (RefOf (0 ∷ []) tt (plain (λ _. Fr)) (λ _. tt)) yes (λ κs x w. refl),
+          tt,
+        ),
+      ),
+    ) (f.Key.name inst) fn (code.unfolded 𝓤 H 𝓜 𝓡 wired (T, tt)) (λ y are.
+    let κs = y.0.0 in let qs = y.0.1 in let vss = y.0.4 in let me : In.Denot = y.0.3.0 in
+    let ended : Dead.Denot = y.0.3.1.0 in let range : Fr.Denot = y.0.3.1.1.0.now in
+    let b₁ = y.0.3.1.1.0.ref_ptr.0 in let o₁ = y.0.3.1.1.0.ref_ptr.1 in
+    let m : LentMemory = me.memory in let xs : List (el_x E) = range.items in
+    let count : ℕ = length xs in let ys = contents count xs in
+    let Post : Val → SProp 𝓤 = (walk_of 𝓛 En hs c).post y in
+    let Run : List Val → SProp 𝓤 = λ ws. WpFn 𝓤 H 𝓣.C 𝓣.Λ fn ws Post in
+    let Over : Type 0 = ended.lifetime ≡ m.lifetime in let Within : Type 0 = (range.memory ≡ m)
+    × (me.start ≤ range.start) in
+    qed 𝓛 ((‵ (fsep (flft κs.0 qs.0) (fsep (flft κs.1.0 qs.1.0) ftrue)) ⊛ ‵
+    (owns (types_at En.signature.params κs) y.0.3 vss)) ∷ (raw (fact 𝓤 (κs.1.0 ⊑ T.lives)) ⊛ raw
+    (fact 𝓤 Over) ⊛ raw (fact 𝓤 Within)) ∷ []) ∵
+    move ! (1 ∷ []) $ split ! $ drop ! $ split ! $
+    heard ! Over (λ over. heard ! Within (λ own. split ! $ move ! (1 ∷ []) $ fsplit ! $
+    fsplit ! $ drop ! $
+    there_out E ! m me.start (returning (R E) m.lifetime (names_from (R E) m me.start))
+    (λ b o at_b small. move ! (1 ∷ []) $ fsplit ! $ fsplit ! $ drop ! $ move ! (1 ∷ []) $
+    fsplit ! $ fsplit ! $ feq_l ! (λ e₂.
+    use1 𝓛 (‵ (hidden_shr (Token (R E)) κs.0 (range.marker, tt) b₁ o₁) ⊛ ‵
+    (fhide (frozen_owns (R E) range.memory range.start xs)))
+    (lent_out 𝓛 (FrozenPlaces.struct (R E)) (FrozenPlaces.the_codes (R E).Denot (R E).coded
+    (marker.the_row (R E)).coded) (FrozenPlaces.the_heap (R E)) (FrozenPlaces.the_lent (R E))
+    κs.0 range b₁ o₁) $ split ! $ drop ! $ unhide ! $
+    there_out E ! range.memory range.start
+    (frozen (R E) range.memory.lifetime (names_from (R E) range.memory range.start) xs)
+    (λ b₂ o₂ at_b₂ small₂. fsplit ! $ drop ! $
     -- [the range's names; no more parameters; that the lifetime has ended; what comes back; the
     -- tokens]
-    let k : ℕ = range.start - me.start in let reach : range.start ≡ me.start + k = omega (arith, own.1) in let gs : List GName = drop_from me.start m.names in
-    let behind : drop_from range.start range.memory.names ≡ drop_from k gs = ap (λ (i : LentMemory). drop_from range.start i.names) own.0 ∙ ap (λ (j : ℕ). drop_from j m.names) reach ∙ sym (drop-drop k me.start m.names) in
-    let same_many : length range.memory.names ≡ length m.names = ap (λ (i : LentMemory). length i.names) own.0 in let many : length gs ≡ me.count = omega (arith, length-drop me.start m.names, me.inside.0) in
-    let n : ℕ = me.count - (k + count) in let all : k + count + n ≡ length gs = omega (arith, range.inside.0, same_many, many, me.inside.0, reach) in let fits : range.start + count + n ≤ m.whole = omega (arith, all, many, reach, me.inside.0, me.inside.1) in
-    rewrite ! 0 (λ (ks : List GName). ‵ (each_name (R E) (settles (R E)) ks ys)) behind refl $ move ! (1 ∷ []) $ drop ! $ move ! (1 ∷ []) $ rewrite ! 0 (λ (a : ℕ). ‵ (fdead (a ∷ []))) over refl $
+    let k : ℕ = range.start - me.start in
+    let reach : range.start ≡ me.start + k = omega (arith, own.1) in
+    let gs : List GName = drop_from me.start m.names in
+    let behind : drop_from range.start range.memory.names ≡ drop_from k gs = ap
+    (λ (i : LentMemory). drop_from range.start i.names) own.0
+    ∙ ap (λ (j : ℕ). drop_from j m.names) reach ∙ sym (drop-drop k me.start m.names) in
+    let same_many : length range.memory.names ≡ length m.names = ap
+    (λ (i : LentMemory). length i.names) own.0 in
+    let many : length gs ≡ me.count = omega (arith, length-drop me.start m.names, me.inside.0)
+    in
+    let n : ℕ = me.count - (k + count) in
+    let all : k + count + n ≡ length gs = omega (
+      arith,
+      range.inside.0,
+      same_many,
+      many,
+      me.inside.0,
+      reach,
+    ) in
+    let fits : range.start + count + n ≤ m.whole = omega
+    (arith, all, many, reach, me.inside.0, me.inside.1) in
+    rewrite ! 0 (λ (ks : List GName). ‵ (each_name (R E) (settles (R E)) ks ys)) behind refl $
+    move ! (1 ∷ []) $ drop ! $ move ! (1 ∷ []) $ rewrite ! 0 (λ (a : ℕ). ‵ (fdead (a ∷ [])))
+    over refl $
     -- [that the lifetime has ended; what the range's names say; what comes back; the tokens]
-    let e₀ : vss.0 ≡ token ∷ [] = token_told (R E) vss.0 are.0.0 in let e₁ : vss.1.0 ≡ token ∷ [] = token_told unit vss.1.0 are.1.0.0 in
+    let e₀ : vss.0 ≡ token ∷ [] = token_told (R E) vss.0 are.0.0 in
+    let e₁ : vss.1.0 ≡ token ∷ [] = token_told unit vss.1.0 are.1.0.0 in
     let ws : List Val = token ∷ token ∷ vptr b₁ o₁ ∷ [] in
-    suffices ! (Run ws) (subst (λ (us : List Val). ent 𝓤 (Run ws) (Run us)) (sym (λ j. e₀ j ++ (e₁ j ++ (e₂ j ++ [])))) (id⊢ 𝓤 (Run ws))) $
-    enter ! 𝓣.C 𝓣.Λ fn ws Post $ alloc_all ! (λ l. pass_all ! refl ((tt, (tt, tt)), ((tt, (tt, tt)), ((tt, tt), tt))) $
-    use3 𝓛 (later (‵ (Before E 𝓛 b o me.start range.start count n xs) ⊛ ‵ (Own E 𝓛 b o me.start range.start count n xs) ⊛ ‵ (Behind E 𝓛 b o me.start range.start count n xs)))
-    (comes_back E 𝓛 b o me.start range.start count n xs m.lifetime gs (settles (R E)) (settles_agrees (R E) 𝓛) own.1 all (omega arith)) $ await ! tt $ split3 ! $ runs_in E m me.start range.start count n xs own.1 fits (omega arith) me.inside.2 ! b o at_b small $
+    suffices ! (Run ws) (subst (λ (us : List Val). ent 𝓤 (Run ws) (Run us))
+    (sym (λ j. e₀ j ++ (e₁ j ++ (e₂ j ++ [])))) (id⊢ 𝓤 (Run ws))) $
+    enter ! 𝓣.C 𝓣.Λ fn ws Post $
+    alloc_all ! (λ l. pass_all ! refl ((tt, (tt, tt)), ((tt, (tt, tt)), ((tt, tt), tt))) $
+    use3 𝓛 (later (‵ (Before E 𝓛 b o me.start range.start count n xs) ⊛ ‵
+    (Own E 𝓛 b o me.start range.start count n xs) ⊛ ‵ (Behind E 𝓛 b o me.start range.start count
+    n xs)))
+    (comes_back E 𝓛 b o me.start range.start count n xs m.lifetime gs (settles (R E))
+    (settles_agrees (R E) 𝓛) own.1 all (omega arith)) $ await ! tt $ split3 ! $
+    runs_in E m me.start range.start count n xs own.1 fits (omega arith) me.inside.2 ! b o at_b
+    small $
     -- [the three runs; the tokens]
-    sets ! (agg ! (no_more !)) refl (tt, tt) $ sets ! (agg ! (and_then ! (get ! refl) (no_more !))) refl (tt, (tt, tt)) $ sets ! (agg ! (no_more !)) refl (tt, tt) $ sets ! (agg ! (and_then ! (get ! refl) (no_more !))) refl (tt, (tt, tt)) $
-    sets ! (agg ! (no_more !)) refl (tt, tt) $ sets ! (agg ! (and_then ! (get ! refl) (no_more !))) refl (tt, (tt, tt)) $
-    sets ! (agg ! (and_then ! (get ! refl) (and_then ! (get ! refl) (and_then ! (get ! refl) (no_more !))))) refl (tt, ((tt, tt), ((tt, tt), ((tt, tt), tt)))) $
+    sets ! (agg ! (no_more !)) refl (tt, tt) $ sets ! (agg ! (and_then ! (get ! refl) (no_more !)))
+    refl (tt, (tt, tt)) $ sets ! (agg ! (no_more !)) refl (tt, tt) $
+    sets ! (agg ! (and_then ! (get ! refl) (no_more !))) refl (tt, (tt, tt)) $
+    sets ! (agg ! (no_more !)) refl (tt, tt) $ sets ! (agg ! (and_then ! (get ! refl) (no_more !)))
+    refl (tt, (tt, tt)) $
+    sets ! (agg ! (and_then ! (get ! refl)
+    (and_then ! (get ! refl) (and_then ! (get ! refl) (no_more !))))) refl
+    (tt, ((tt, tt), ((tt, tt), ((tt, tt), tt)))) $
     nothing ! $ nothing ! $ fjoin ! $ nothing ! $ fjoin ! $ nothing ! $ fjoin ! $
     returns ! (look_at ! 0 refl) $ free_all ! refl $ keep ! (2 ∷ 0 ∷ 1 ∷ []) $
     let sum : range.start + count + n ≡ me.start + me.count = omega (arith, all, many, reach) in
-    by ! (ends 𝓛 En hs c y (w E m me.start range.start count n xs own.1 fits (omega arith) me.inside.2) (runs E m me.start range.start count n xs own.1 fits (omega arith) me.inside.2) (tt, (tt, (tt, tt))) (tt, (tt, (tt, tt))) (told 𝓤 ((refl, refl), (refl, refl), (refl, refl)) (told 𝓤 (refl, refl, refl) (told 𝓤 (refl, refl, refl) (fact_i 𝓤 _ (emp 𝓤) (refl, sum, refl)) 𝓛) 𝓛) 𝓛)))))))))
+    by ! (ends 𝓛 En hs c y (w E m me.start range.start count n xs own.1 fits (omega arith)
+    me.inside.2) (runs E m me.start range.start count n xs own.1 fits (omega arith) me.inside.2)
+    (tt, (tt, (tt, tt))) (tt, (tt, (tt, tt))) (told 𝓤 ((refl, refl), (refl, refl), (refl, refl))
+    (told 𝓤 (refl, refl, refl) (told 𝓤 (refl, refl, refl) (fact_i 𝓤 _ (emp 𝓤) (refl, sum, refl))
+    𝓛) 𝓛) 𝓛)))))))))

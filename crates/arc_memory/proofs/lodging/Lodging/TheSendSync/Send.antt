@@ -3,4 +3,8 @@ use denote.Param.Send.{IsSend}
 use Rattle.arc_memory.specs.contracts.lodging.Lodging.{the_row}
 
 pub send : (T : RattleType) → IsSend (the_row T)
-send T = record { owned = λ d vs. ((λ vss. (tt, ((λ uss. (tt, tt)), tt))), (tt, tt)); leaving = λ k e vs. tt }
+send T = record {
+  owned = λ d vs. ((λ vss. (tt, ((λ uss. (tt, tt)), tt))), (tt, tt));
+  leaving =
+      λ k e vs. tt;
+}

@@ -10,7 +10,8 @@ use prog.Wp.{WpFn}
 use contract.BorrowLft.{◌⊑◌}
 use contract.Monad.{fact, fact_i}
 use contract.Running.{tables}
-use types.Kit.{‵, raw, ◌⊛◌, ◌$◌, ◌∵◌, !, qed, by, move, keep, drop, split, fsplit, fjoin, fpick, feq_l, suffices, use0, use1, use3, rewrite}
+use types.Kit.{‵, raw, ◌⊛◌, ◌$◌, ◌∵◌, !, qed, by, move, keep, drop, split, fsplit, fjoin, fpick}
+use types.Kit.{feq_l, suffices, use0, use1, use3, rewrite}
 use types.Run.{stop, fld, of_opd, no_more, and_then, returns, enter}
 use types.ByLocal.{alloc_all, pass_all, free_all, look_at, get, get_in, sets}
 use types.Part.{agg, sub, whole}
@@ -31,7 +32,8 @@ use Rattle.logbook.proofs.Fields.{token, token_told, ends}
 use Rattle.arc_owners.proofs.Markers.{told}
 use Rattle.arc_owners.specs.contracts.memory.header_room.HeaderRoom as Room
 use Rattle.arc_memory.specs.Memory.{places_own, side_by_side}
-use Rattle.arc_memory.specs.Pieces.{units_of, head_size, in_units, piece_bytes, behind, frees_piece, piece_right}
+use Rattle.arc_memory.specs.Pieces.{units_of, head_size, in_units, piece_bytes, behind, frees_piece}
+use Rattle.arc_memory.specs.Pieces.{piece_right}
 use Rattle.arc_memory.specs.contracts.head_size.HeadSize as HeadSize
 use Rattle.arc_memory.specs.contracts.header_block.HeaderBlock as Block
 use Rattle.arc_memory.specs.contracts.places.Places as Places
@@ -47,41 +49,107 @@ use Rattle.arc_memory.proofs.piece_right.PieceRight.whole.Code as code
 
 pub whole_spec : {M : Type 1} → statement M
 whole_spec 𝓤 𝓛 𝓜 𝓡 wired T A X LT LA LX g d da met md =
-    let H = 𝓛.H in let 𝓣 = tables 𝓤 H 𝓜 𝓡 𝓡.env in let En = f.ended T A X g d da in let c = f.clauses T A X g d da 𝓛 𝓜.mem 𝓡.returns in
-    let inst = bounded (a_type ∷ a_type ∷ a_type ∷ []) (T, (A, (X, tt))) (dcons d (dcons da dnil)) in let fn = inst_fn inst code.function in
-    let E : El = record { row = T; laws = LT; al = record { row = A; laws = LA; g = g; d = d; drops = da } } in
-    let T' : RattleType = R E in let A' : RattleType = param 1 A in let X' : RattleType = param 2 X in let Both : RattleType = Tuple (T' ∷ A' ∷ []) in
-    let Left : RattleType = Right.the_row T' A' g in let Rm : RattleType = Room.the_row X' in let Hd : RattleType = HeadSize.the_row X' in let Pl : RattleType = Places.the_row T' in let Row : RattleType = Block.the_row A' g in
-    let hs : Stays En.signature.params En.kept = (stay_dropped (plain (λ _. Left)) no, (stay_dropped (plain (λ _. Rm)) no, (stay_dropped (plain (λ _. Hd)) no, (stay_dropped (plain (λ _. Pl)) no, tt)))) in
-    proved_at 𝓛 En hs c 𝓜 𝓡 (Goes-blank 𝓛 3 (plain (λ _. Left)) no (λ κs x w. tt), (Goes-blank 𝓛 3 (plain (λ _. Rm)) no (λ κs x w. tt), (Goes-blank 𝓛 3 (plain (λ _. Hd)) no (λ κs x w. tt), (Goes-blank 𝓛 3 (plain (λ _. Pl)) no (λ κs x w. tt), tt)))) (f.Key.name inst) fn (code.unfolded 𝓤 H 𝓜 𝓡 wired (T, (A, (X, tt))) d da) (λ y are.
-    let κs = y.0.0 in let qs = y.0.1 in let left : Left.Denot = y.0.3.0 in let room : Rm.Denot = y.0.3.1.0 in let hd : Hd.Denot = y.0.3.1.1.0 in let own : Pl.Denot = y.0.3.1.1.1.0 in let vss = y.0.4 in
-    let Post : Val → SProp 𝓤 = (walk_of 𝓛 En hs c).post y in let Run : List Val → SProp 𝓤 = λ ws. WpFn 𝓤 H 𝓣.C 𝓣.Λ fn ws Post in
-    let holds : Ty → Ptr → Fml = g.dealloc_token left.alloc in let n : ℕ = left.count in let σ : Ty = layout X' in
-    let Met : Type 0 = (room.at ≡ left.place) × (hd.size ≡ left.head) in let All : Type 0 = (own.base ≡ behind left.head left.place) × (own.start ≡ 0) × (own.count ≡ n) × (own.items ≡ []) in
-    qed 𝓛 ((raw (alive 𝓛 En.signature κs qs) ⊛ ‵ (owns (types_at En.signature.params κs) y.0.3 vss)) ∷ (raw (fact 𝓤 (κs.0 ⊑ T.lives)) ⊛ raw (fact 𝓤 (κs.1.0 ⊑ A.lives)) ⊛ raw (fact 𝓤 (κs.1.1.0 ⊑ X.lives)) ⊛ raw (fact 𝓤 Met) ⊛ raw (fact 𝓤 All)) ∷ []) ∵
-    move ! (1 ∷ []) $ split ! $ drop ! $ split ! $ drop ! $ split ! $ drop ! $ split ! $ heard ! Met (λ is. heard ! All (λ all. split ! $ move ! (1 ∷ []) $
-    fsplit ! $ fsplit ! $ drop ! $ use1 𝓛 (‵ (piece_right T' holds left.head n left.place)) (id⊢ 𝓤 _) $ move ! (1 ∷ []) $
-    fsplit ! $ fsplit ! $ drop ! $ use1 𝓛 (‵ (room_for (bare σ) room.at)) (id⊢ 𝓤 _) $ move ! (1 ∷ []) $
+    let H = 𝓛.H in let 𝓣 = tables 𝓤 H 𝓜 𝓡 𝓡.env in let En = f.ended T A X g d da in
+    let c = f.clauses T A X g d da 𝓛 𝓜.mem 𝓡.returns in
+    let inst = bounded (a_type ∷ a_type ∷ a_type ∷ []) (T, (A, (X, tt))) (dcons d (dcons da dnil))
+    in let fn = inst_fn inst code.function in
+    let E : El = record {
+      row = T;
+      laws = LT;
+      al =
+          record { row = A; laws = LA; g = g; d = d; drops = da };
+    } in
+    let T' : RattleType = R E in let A' : RattleType = param 1 A in
+    let X' : RattleType = param 2 X in let Both : RattleType = Tuple (T' ∷ A' ∷ []) in
+    let Left : RattleType = Right.the_row T' A' g in let Rm : RattleType = Room.the_row X' in
+    let Hd : RattleType = HeadSize.the_row X' in let Pl : RattleType = Places.the_row T' in
+    let Row : RattleType = Block.the_row A' g in
+    let hs : Stays En.signature.params En.kept = (
+      stay_dropped (plain (λ _. Left)) no,
+      (
+        stay_dropped (plain (λ _. Rm)) no,
+        (stay_dropped (plain (λ _. Hd)) no, (stay_dropped (plain (λ _. Pl)) no, tt)),
+      ),
+    ) in
+    proved_at 𝓛 En hs c 𝓜 𝓡 (
+      Goes-blank 𝓛 3 (plain (λ _. Left)) no (λ κs x w. tt),
+      (
+        Goes-blank 𝓛 3 (plain (λ _. Rm)) no (λ κs x w. tt),
+        (
+          Goes-blank 𝓛 3 (plain (λ _. Hd)) no (λ κs x w. tt),
+          (Goes-blank 𝓛 3 (plain (λ _. Pl)) no (λ κs x w. tt), tt),
+        ),
+      ),
+    ) (f.Key.name inst) fn
+    (code.unfolded 𝓤 H 𝓜 𝓡 wired (T, (A, (X, tt))) d da) (λ y are.
+    let κs = y.0.0 in let qs = y.0.1 in let left : Left.Denot = y.0.3.0 in
+    let room : Rm.Denot = y.0.3.1.0 in let hd : Hd.Denot = y.0.3.1.1.0 in
+    let own : Pl.Denot = y.0.3.1.1.1.0 in let vss = y.0.4 in
+    let Post : Val → SProp 𝓤 = (walk_of 𝓛 En hs c).post y in
+    let Run : List Val → SProp 𝓤 = λ ws. WpFn 𝓤 H 𝓣.C 𝓣.Λ fn ws Post in
+    let holds : Ty → Ptr → Fml = g.dealloc_token left.alloc in let n : ℕ = left.count in
+    let σ : Ty = layout X' in
+    let Met : Type 0 = (room.at ≡ left.place) × (hd.size ≡ left.head) in
+    let All : Type 0 = (own.base ≡ behind left.head left.place) × (own.start ≡ 0)
+    × (own.count ≡ n) × (own.items ≡ []) in
+    qed 𝓛 ((raw (alive 𝓛 En.signature κs qs) ⊛ ‵ (owns (types_at En.signature.params κs) y.0.3
+    vss)) ∷ (raw (fact 𝓤 (κs.0 ⊑ T.lives)) ⊛ raw (fact 𝓤 (κs.1.0 ⊑ A.lives)) ⊛ raw
+    (fact 𝓤 (κs.1.1.0 ⊑ X.lives)) ⊛ raw (fact 𝓤 Met) ⊛ raw (fact 𝓤 All)) ∷ []) ∵
+    move ! (1 ∷ []) $ split ! $ drop ! $ split ! $ drop ! $ split ! $ drop ! $ split ! $
+    heard ! Met (λ is. heard ! All (λ all. split ! $ move ! (1 ∷ []) $
+    fsplit ! $ fsplit ! $ drop ! $ use1 𝓛 (‵ (piece_right T' holds left.head n left.place))
+    (id⊢ 𝓤 _) $ move ! (1 ∷ []) $
+    fsplit ! $ fsplit ! $ drop ! $ use1 𝓛 (‵ (room_for (bare σ) room.at)) (id⊢ 𝓤 _) $
+    move ! (1 ∷ []) $
     fsplit ! $ fsplit ! $ drop ! $ feq_l ! (λ sized. fsplit ! $ fsplit ! $ drop ! $
     -- [the places; no more parameters; the header's room; the right; the tokens]
-    move ! (2 ∷ 0 ∷ 3 ∷ 4 ∷ []) $ in_a_block ! room.at (λ q. room_for (bare σ) q) (id⊢ 𝓤 _) (λ b o at_b. let p : Ptr = block_ptr b o in
-    let head : left.head ≡ head_size X' = sym is.1 ∙ sized in let place : left.place ≡ p = sym is.0 ∙ at_b in let at : ℕ = o + in_units (head_size X').0 in
+    move ! (2 ∷ 0 ∷ 3 ∷ 4 ∷ []) $ in_a_block ! room.at (λ q. room_for (bare σ) q) (id⊢ 𝓤 _)
+    (λ b o at_b. let p : Ptr = block_ptr b o in
+    let head : left.head ≡ head_size X' = sym is.1 ∙ sized in let place : left.place ≡ p = sym is.0
+    ∙ at_b in let at : ℕ = o + in_units (head_size X').0 in
     let first : own.base ≡ block_ptr b at = all.0 ∙ (λ i. behind (head i) (place i)) in
-    move ! (1 ∷ []) $ rewrite ! 0 (λ (k : Ptr × (ℕ × (ℕ × List T'.Denot))). ‵ (places_own T' k.0 own.whole k.1.0 k.1.1.0 k.1.1.1)) (λ i. (first i, (all.1 i, (all.2 i, all.3 i)))) refl $
-    fsplit ! $ drop ! $ rewrite ! 0 (λ (q : Ptr). ‵ (side_by_side T' q n [])) (first_place E b at) refl $ use1 𝓛 (‵ (Side E 𝓛 b at n [])) (id⊢ 𝓤 _) $
-    move ! (2 ∷ []) $ fpick ! (λ small. rewrite ! 0 (λ (k : (ℕ × ℕ) × Ptr). ‵ (frees_piece T' holds k.0 n k.1)) (λ i. (head i, place i)) refl $ move ! (2 ∷ 1 ∷ 0 ∷ []) $
-    use3 𝓛 (‵ (owned_block holds (units_of (piece_bytes T' (head_size X') n)) p)) (Pieces.whole E 𝓛 X' n b o holds) $
-    rewrite ! 0 (λ (k : ℕ × ℕ). ‵ (owned_block holds (units_of (piece_bytes T' k n)) p)) (sym head) refl $
+    move ! (1 ∷ []) $
+    rewrite ! 0 (λ (k : Ptr × (ℕ × (ℕ × List T'.Denot))).
+    ‵ (places_own T' k.0 own.whole k.1.0 k.1.1.0 k.1.1.1))
+    (λ i. (first i, (all.1 i, (all.2 i, all.3 i)))) refl $
+    fsplit ! $ drop ! $ rewrite ! 0 (λ (q : Ptr). ‵ (side_by_side T' q n [])) (first_place E b at)
+    refl $ use1 𝓛 (‵ (Side E 𝓛 b at n [])) (id⊢ 𝓤 _) $
+    move ! (2 ∷ []) $
+    fpick ! (λ small. rewrite ! 0 (λ (k : (ℕ × ℕ) × Ptr). ‵ (frees_piece T' holds k.0 n k.1))
+    (λ i. (head i, place i)) refl $ move ! (2 ∷ 1 ∷ 0 ∷ []) $
+    use3 𝓛 (‵ (owned_block holds (units_of (piece_bytes T' (head_size X') n)) p))
+    (Pieces.whole E 𝓛 X' n b o holds) $
+    rewrite ! 0 (λ (k : ℕ × ℕ). ‵ (owned_block holds (units_of (piece_bytes T' k n)) p)) (sym head)
+    refl $
     -- [the block; no more parameters; the tokens]
-    let e₀ : vss.0 ≡ token ∷ [] = token_told Both vss.0 are.0.0 in let e₁ : vss.1.0 ≡ room_val p ∷ [] = room_told room.at vss.1.0 are.1.0.0 ∙ ap (λ (q : Ptr). room_val q ∷ []) at_b in
-    let e₂ : vss.1.1.0 ≡ token ∷ [] = token_told X' vss.1.1.0 are.1.1.0.0 in let e₃ : vss.1.1.1.0 ≡ token ∷ [] = token_told T' vss.1.1.1.0 are.1.1.1.0.0 in
+    let e₀ : vss.0 ≡ token ∷ [] = token_told Both vss.0 are.0.0 in
+    let e₁ : vss.1.0 ≡ room_val p ∷ [] = room_told room.at vss.1.0 are.1.0.0
+    ∙ ap (λ (q : Ptr). room_val q ∷ []) at_b in
+    let e₂ : vss.1.1.0 ≡ token ∷ [] = token_told X' vss.1.1.0 are.1.1.0.0 in
+    let e₃ : vss.1.1.1.0 ≡ token ∷ [] = token_told T' vss.1.1.1.0 are.1.1.1.0.0 in
     let ws : List Val = token ∷ room_val p ∷ token ∷ token ∷ [] in
-    suffices ! (Run ws) (subst (λ (us : List Val). ent 𝓤 (Run ws) (Run us)) (sym (λ j. e₀ j ++ (e₁ j ++ (e₂ j ++ (e₃ j ++ []))))) (id⊢ 𝓤 (Run ws))) $
-    enter ! 𝓣.C 𝓣.Λ fn ws Post $ alloc_all ! (λ l. pass_all ! refl ((tt, (tt, tt)), ((tt, (tt, tt)), ((tt, (tt, tt)), ((tt, (tt, tt)), tt)))) $
-    sets ! (of_opd ! (get_in ! (fld ! refl (stop !)) (sub ! 0 refl (whole !)))) refl (tt, tt) $ sets ! (of_opd ! (get ! refl)) refl (tt, tt) $
-    sets ! (agg ! (no_more !)) refl (tt, tt) $ sets ! (agg ! (and_then ! (get ! refl) (and_then ! (get ! refl) (no_more !)))) refl (tt, (tt, (tt, tt))) $
-    let now : Row.Denot = record { ptr = p; marker = record {}; alloc = left.alloc; bytes = piece_bytes T' left.head n; fits = (omega arith, small) } in let w : Val = block_val p in
-    use0 𝓛 (‵ (block_own A' p (w ∷ []))) (block_made A' p 𝓛) $ fjoin ! $ use1 𝓛 (‵ (Row.own_val now (w ∷ []))) (id⊢ 𝓤 _) $
-    nothing ! $ nothing ! $ fjoin ! $ nothing ! $ fjoin ! $ nothing ! $ fjoin ! $ nothing ! $ fjoin ! $
+    suffices ! (Run ws) (subst (λ (us : List Val). ent 𝓤 (Run ws) (Run us))
+    (sym (λ j. e₀ j ++ (e₁ j ++ (e₂ j ++ (e₃ j ++ []))))) (id⊢ 𝓤 (Run ws))) $
+    enter ! 𝓣.C 𝓣.Λ fn ws Post $
+    alloc_all ! (λ l. pass_all ! refl
+    ((tt, (tt, tt)), ((tt, (tt, tt)), ((tt, (tt, tt)), ((tt, (tt, tt)), tt)))) $
+    sets ! (of_opd ! (get_in ! (fld ! refl (stop !)) (sub ! 0 refl (whole !)))) refl (tt, tt) $
+    sets ! (of_opd ! (get ! refl)) refl (tt, tt) $
+    sets ! (agg ! (no_more !)) refl (tt, tt) $
+    sets ! (agg ! (and_then ! (get ! refl) (and_then ! (get ! refl) (no_more !)))) refl
+    (tt, (tt, (tt, tt))) $
+    let now : Row.Denot = record {
+      ptr = p;
+      marker = record {};
+      alloc = left.alloc;
+      bytes = piece_bytes T' left.head n;
+      fits = (omega arith, small);
+    } in
+    let w : Val = block_val p in
+    use0 𝓛 (‵ (block_own A' p (w ∷ []))) (block_made A' p 𝓛) $ fjoin ! $
+    use1 𝓛 (‵ (Row.own_val now (w ∷ []))) (id⊢ 𝓤 _) $
+    nothing ! $ nothing ! $ fjoin ! $ nothing ! $ fjoin ! $ nothing ! $ fjoin ! $ nothing ! $
+    fjoin ! $
     returns ! (look_at ! 0 refl) $ free_all ! refl $ keep ! (2 ∷ 0 ∷ 1 ∷ []) $
-    by ! (ends 𝓛 En hs c y w now (tt, (tt, (tt, (tt, tt)))) (tt, (tt, (tt, (tt, tt)))) (told 𝓤 (refl, refl) (fact_i 𝓤 _ (emp 𝓤) head) 𝓛)))))))))
+    by ! (ends 𝓛 En hs c y w now (tt, (tt, (tt, (tt, tt)))) (tt, (tt, (tt, (tt, tt))))
+    (told 𝓤 (refl, refl) (fact_i 𝓤 _ (emp 𝓤) head) 𝓛)))))))))

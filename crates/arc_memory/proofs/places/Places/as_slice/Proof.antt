@@ -1,12 +1,14 @@
 -- `as_slice` shows a range of the items: a `&` to the places has a `&` to each of them.
-use Rattle.std.proofs.Common.{◌≡◌, ℕ, ◌+◌, ◌-◌, ◌*◌, ◌^◌, ◌<◌, ◌≤◌, List, [], ◌∷◌, length, refl, sym, ap, ◌∙◌, subst, arith, w64}
+use Rattle.std.proofs.Common.{◌≡◌, ℕ, ◌+◌, ◌-◌, ◌*◌, ◌^◌, ◌<◌, ◌≤◌, List, [], ◌∷◌, length, refl}
+use Rattle.std.proofs.Common.{sym, ap, ◌∙◌, subst, arith, w64}
 use mir.Syntax.{a_type, named}
 use mir.Val.{Val, vptr, vint}
 use mir.MapTy.{inst_fn}
 use base.Logic.{SProp, ent, emp, id⊢}
 use base.Fml.{Lft, ftrue, fsep, flft, fhide}
 use prog.Wp.{WpFn}
-use types.Kit.{‵, raw, ◌⊛◌, at_ret, ◌$◌, ◌∵◌, !, qed, by, move, keep, drop, split, fsplit, fjoin, suffices, use1, rewrite, feq_i, flt_l, flt_i}
+use types.Kit.{‵, raw, ◌⊛◌, at_ret, ◌$◌, ◌∵◌, !, qed, by, move, keep, drop, split, fsplit, fjoin}
+use types.Kit.{suffices, use1, rewrite, feq_i, flt_l, flt_i}
 use types.Run.{of_opd, bin, size_word, no_more, and_then, first, blocks, exec, returns, enter}
 use types.ByLocal.{alloc_all, pass_all, free_all, look_at, get, sets, sets_last, is, env}
 use types.Part.{agg}
@@ -46,39 +48,110 @@ use Rattle.arc_memory.proofs.places.Places.as_slice.Code as code
 
 pub as_slice_spec : {M : Type 1} → statement M
 as_slice_spec 𝓤 𝓛 𝓜 𝓡 wired T L =
-    let H = 𝓛.H in let 𝓣 = tables 𝓤 H 𝓜 𝓡 𝓡.env in let E : El = record { row = T; laws = L; al = no_al } in let X : RattleType = R E in let s = type_size X in
-    let En = f.ended T in let c = f.clauses T 𝓛 𝓜.mem 𝓡.returns in let inst = layouts (a_type ∷ []) (T, tt) in let fn = inst_fn inst code.function in let Row : RattleType = Places.the_row X in
-    let stays = stay_dropped (plain (λ _. usize)) yes in let goes = Goes-dropped 𝓛 2 (plain (λ _. usize)) yes (λ κs x w. refl) in
-    let hs : Stays En.signature.params En.kept = (stay_dropped (RefOf (0 ∷ []) tt (plain (λ _. Row)) (λ _. tt)) yes, (stay_dropped (plain (λ _. RawPtr)) yes, (stays, (stays, tt)))) in
-    proved 𝓛 En hs c 𝓜 𝓡 (Goes-dropped 𝓛 2 (RefOf (0 ∷ []) tt (plain (λ _. Row)) (λ _. tt)) yes (λ κs x w. refl), (Goes-dropped 𝓛 2 (plain (λ _. RawPtr)) yes (λ κs x w. refl), (goes, (goes, tt)))) (f.Key.name inst) fn (code.unfolded 𝓤 H 𝓜 𝓡 wired (T, tt))
-    (λ κs. (shr_vals, (rawptr_vals, (uint_vals w64, (uint_vals w64, tt))))) (λ κs. (shr_Tells (named 0) κs.0 Row, (rawptr_Tells, (uint_Tells w64, (uint_Tells w64, tt))))) (λ κs qs bounds a gh are.
-    let κ : Lft = κs.0 in let me : Row.Denot = a.0.now in let rb = a.0.ref_ptr.0 in let ro = a.0.ref_ptr.1 in let base : Ptr = a.1.0 in let start : ℕ = a.1.1.0 in let end : ℕ = a.1.1.1.0 in let xs = me.items in
-    let y : (walk_of 𝓛 En hs c).Ghost = ((κs, qs, bounds, a, (vptr rb ro ∷ [], (rawptr_vals base, (uint_vals w64 start, (uint_vals w64 end, tt))))), gh) in let Post : Val → SProp 𝓤 = (walk_of 𝓛 En hs c).post y in
+    let H = 𝓛.H in let 𝓣 = tables 𝓤 H 𝓜 𝓡 𝓡.env in
+    let E : El = record { row = T; laws = L; al = no_al } in let X : RattleType = R E in
+    let s = type_size X in
+    let En = f.ended T in let c = f.clauses T 𝓛 𝓜.mem 𝓡.returns in
+    let inst = layouts (a_type ∷ []) (T, tt) in let fn = inst_fn inst code.function in
+    let Row : RattleType = Places.the_row X in
+    let stays = stay_dropped (plain (λ _. usize)) yes in
+    let goes = Goes-dropped 𝓛 2 (plain (λ _. usize)) yes (λ κs x w. refl) in
+    let hs : Stays En.signature.params En.kept = (
+      stay_dropped (RefOf (0 ∷ []) tt (plain (λ _. Row)) (λ _. tt)) yes,
+      (stay_dropped (plain (λ _. RawPtr)) yes, (stays, (stays, tt))),
+    ) in
+    proved 𝓛 En hs c 𝓜 𝓡 (
+      Goes-dropped 𝓛 2 (RefOf (0 ∷ []) tt (plain (λ _. Row)) (λ _. tt)) yes
+          (λ κs x w. refl),
+      (
+        Goes-dropped 𝓛 2 (plain (λ _. RawPtr)) yes (λ κs x w. refl),
+        (goes, (goes, tt)),
+      ),
+    ) (f.Key.name inst) fn (code.unfolded 𝓤 H 𝓜 𝓡 wired (T, tt))
+    (λ κs. (shr_vals, (rawptr_vals, (uint_vals w64, (uint_vals w64, tt)))))
+    (λ κs. (
+      shr_Tells (named 0) κs.0 Row,
+      (rawptr_Tells, (uint_Tells w64, (uint_Tells w64, tt))),
+    )) (λ κs qs bounds a gh are.
+    let κ : Lft = κs.0 in let me : Row.Denot = a.0.now in let rb = a.0.ref_ptr.0 in
+    let ro = a.0.ref_ptr.1 in let base : Ptr = a.1.0 in let start : ℕ = a.1.1.0 in
+    let end : ℕ = a.1.1.1.0 in let xs = me.items in
+    let y : (walk_of 𝓛 En hs c).Ghost = (
+      (
+        κs,
+        qs,
+        bounds,
+        a,
+        (vptr rb ro ∷ [], (rawptr_vals base, (uint_vals w64 start, (uint_vals w64 end, tt)))),
+      ),
+      gh,
+    )
+    in let Post : Val → SProp 𝓤 = (walk_of 𝓛 En hs c).post y in
     let Run : List Val → SProp 𝓤 = λ ws. WpFn 𝓤 H 𝓣.C 𝓣.Λ fn ws Post in
-    let Place : Type 0 = (base ≡ me.base) × (me.start ≡ 0) in let Range : Type 0 = (start ≤ end) × (end ≤ length xs) in
-    qed 𝓛 ((‵ (fsep (flft κ qs.0) (fsep (flft κs.1.0 qs.1.0) ftrue)) ⊛ ‵ (owns (types_at En.signature.params κs) a y.0.4)) ∷ (raw (fact 𝓤 (κs.1.0 ⊑ T.lives)) ⊛ raw (fact 𝓤 Place) ⊛ raw (fact 𝓤 Range)) ∷ []) ∵
-    move ! (1 ∷ []) $ split ! $ drop ! $ split ! $ heard ! Place (λ placed. heard ! Range (λ range. split ! $ move ! (1 ∷ []) $ fsplit ! $ fsplit ! $ keep ! (1 ∷ 3 ∷ []) $
+    let Place : Type 0 = (base ≡ me.base) × (me.start ≡ 0) in let Range : Type 0 = (start ≤ end)
+    × (end ≤ length xs) in
+    qed 𝓛 ((‵ (fsep (flft κ qs.0) (fsep (flft κs.1.0 qs.1.0) ftrue)) ⊛ ‵
+    (owns (types_at En.signature.params κs) a y.0.4)) ∷ (raw (fact 𝓤 (κs.1.0 ⊑ T.lives)) ⊛ raw
+    (fact 𝓤 Place) ⊛ raw (fact 𝓤 Range)) ∷ []) ∵
+    move ! (1 ∷ []) $ split ! $ drop ! $ split ! $
+    heard ! Place (λ placed. heard ! Range (λ range. split ! $ move ! (1 ∷ []) $ fsplit ! $
+    fsplit ! $ keep ! (1 ∷ 3 ∷ []) $
     -- [what is lent of the places; the tokens]
-    use1 𝓛 (‵ (hidden_shr (Token X) κ (me.marker, tt) rb ro) ⊛ ‵ (fhide (places_lent X me.base me.whole me.start xs κ)))
-    (lent_out 𝓛 (Places.struct X) (Places.the_codes X.Denot X.coded (marker.the_row X).coded) (Places.the_heap X) (Places.the_lent X) κ me rb ro) $ split ! $ drop ! $ unhide ! $
-    rewrite ! 0 (λ (k : ℕ). ‵ (places_lent X me.base me.whole k xs κ)) placed.1 refl $ in_a_block ! me.base (λ p. places_lent X p me.whole 0 xs κ) (not_at_null X 𝓛 κ me.whole xs) (λ b o at_b.
-    rewrite ! 0 (λ (p : Ptr). ‵ (vec_shares X p (length xs) me.whole xs κ)) (first_place E b o) refl $ fsplit ! $ flt_l ! (λ small. fsplit ! $ drop ! $ fsplit ! $ drop ! $
-    use1 𝓛 (‵ (elements_shared X (sub xs start end) b (start * s + o) κ)) (sub_shared X 𝓛 κ xs start end b o range.0 range.1) $ hide ! $
-    let count : ℕ = end - start in let there : ℕ × ℕ = (b, start * s + o) in let long : length (sub xs start end) ≡ count = sub_length xs start end range.0 range.1 in
-    let enough : end ≤ me.whole = omega (arith, range.1, me.inside.0, me.inside.1) in let fits_count : count < 2 ^ 64 = omega (arith, enough, me.inside.2) in
-    let far : start * s < 2 ^ 64 = omega (arith, times_below start me.whole s (2 ^ 63) (omega (arith, range.0, enough)) small) in
-    let fewer : count * s < 2 ^ 63 = times_below count me.whole s (2 ^ 63) (omega (arith, enough)) small in
-    let here : base ≡ block_ptr b o = placed.0 ∙ at_b in let fits_start = are.1.1.0.1 in let fits_end = are.1.1.1.0.1 in let vs : List Val = vptr rb ro ∷ vptr b o ∷ vint w64 start ∷ vint w64 end ∷ [] in
-    suffices ! (Run vs) (subst (λ (us : List Val). ent 𝓤 (Run vs) (Run us)) (sym (ap (λ (p : Ptr). vptr rb ro ∷ ptr_val p ∷ vint w64 start ∷ vint w64 end ∷ []) here)) (id⊢ 𝓤 (Run vs))) $
-    enter ! 𝓣.C 𝓣.Λ fn vs Post $ alloc_all ! (λ l. pass_all ! refl ((tt, tt), ((tt, tt), ((tt, record { fits = fits_start }), ((tt, record { fits = fits_end }), tt)))) $ let Ev = env fn.locals l in
+    use1 𝓛 (‵ (hidden_shr (Token X) κ (me.marker, tt) rb ro) ⊛ ‵
+    (fhide (places_lent X me.base me.whole me.start xs κ)))
+    (lent_out 𝓛 (Places.struct X) (Places.the_codes X.Denot X.coded (marker.the_row X).coded)
+    (Places.the_heap X) (Places.the_lent X) κ me rb ro) $ split ! $ drop ! $ unhide ! $
+    rewrite ! 0 (λ (k : ℕ). ‵ (places_lent X me.base me.whole k xs κ)) placed.1 refl $
+    in_a_block ! me.base (λ p. places_lent X p me.whole 0 xs κ) (not_at_null X 𝓛 κ me.whole xs)
+    (λ b o at_b.
+    rewrite ! 0 (λ (p : Ptr). ‵ (vec_shares X p (length xs) me.whole xs κ)) (first_place E b o)
+    refl $ fsplit ! $ flt_l ! (λ small. fsplit ! $ drop ! $ fsplit ! $ drop ! $
+    use1 𝓛 (‵ (elements_shared X (sub xs start end) b (start * s + o) κ))
+    (sub_shared X 𝓛 κ xs start end b o range.0 range.1) $ hide ! $
+    let count : ℕ = end - start in let there : ℕ × ℕ = (b, start * s + o) in
+    let long : length (sub xs start end) ≡ count = sub_length xs start end range.0 range.1 in
+    let enough : end ≤ me.whole = omega (arith, range.1, me.inside.0, me.inside.1) in
+    let fits_count : count < 2 ^ 64 = omega (arith, enough, me.inside.2) in
+    let far : start * s < 2 ^ 64 = omega (
+      arith,
+      times_below start me.whole s (2 ^ 63)
+          (omega (arith, range.0, enough)) small,
+    ) in
+    let fewer : count * s < 2 ^ 63 = times_below count me.whole s (2 ^ 63) (omega (arith, enough))
+    small in
+    let here : base ≡ block_ptr b o = placed.0 ∙ at_b in let fits_start = are.1.1.0.1 in
+    let fits_end = are.1.1.1.0.1 in
+    let vs : List Val = vptr rb ro ∷ vptr b o ∷ vint w64 start ∷ vint w64 end ∷ [] in
+    suffices ! (Run vs) (subst (λ (us : List Val). ent 𝓤 (Run vs) (Run us))
+    (sym (ap (λ (p : Ptr). vptr rb ro ∷ ptr_val p ∷ vint w64 start ∷ vint w64 end ∷ []) here))
+    (id⊢ 𝓤 (Run vs))) $
+    enter ! 𝓣.C 𝓣.Λ fn vs Post $
+    alloc_all ! (λ l. pass_all ! refl (
+      (tt, tt),
+      (
+        (tt, tt),
+        ((tt, record { fits = fits_start }), ((tt, record { fits = fits_end }), tt)),
+      ),
+    ) $
+    let Ev = env fn.locals l in
     first ! $ blocks ! $
-    sets ! (is ! (bin ! (get ! refl) (size_word !) (record { fits = subst (λ (k : ℕ). k < 2 ^ 64) (sym (uncapped start s far)) far })) (ap (vint w64) (uncapped start s far))) refl (tt, record { fits = far }) $
-    sets ! (bin ! (get ! refl) (get ! refl) tt) refl (tt, tt) $ sets ! (bin ! (get ! refl) (get ! refl) range.0) refl (tt, record { fits = fits_count }) $
-    sets_last ! (agg ! (and_then ! (get ! refl) (and_then ! (get ! refl) (no_more !)))) refl (tt, (tt, (record { fits = fits_count }, tt))) $
-    exec ! 𝓣.C 𝓣.Λ Ev (after 1 fn.body) (at_ret Ev Post) $ sets ! (of_opd ! (get ! refl)) refl (tt, (tt, (record { fits = fits_count }, tt))) $
+    sets ! (is ! (bin ! (get ! refl) (size_word !)
+    (record { fits = subst (λ (k : ℕ). k < 2 ^ 64) (sym (uncapped start s far)) far }))
+    (ap (vint w64) (uncapped start s far))) refl (tt, record { fits = far }) $
+    sets ! (bin ! (get ! refl) (get ! refl) tt) refl (tt, tt) $
+    sets ! (bin ! (get ! refl) (get ! refl) range.0) refl (tt, record { fits = fits_count }) $
+    sets_last ! (agg ! (and_then ! (get ! refl) (and_then ! (get ! refl) (no_more !)))) refl
+    (tt, (tt, (record { fits = fits_count }, tt))) $
+    exec ! 𝓣.C 𝓣.Λ Ev (after 1 fn.body) (at_ret Ev Post) $ sets ! (of_opd ! (get ! refl)) refl
+    (tt, (tt, (record { fits = fits_count }, tt))) $
     let n = length (sub xs start end) in
-    flt_i ! (n * s) (2 ^ 63) (subst (λ (k : ℕ). k * s < 2 ^ 63) (sym long) fewer) $ flt_i ! n (2 ^ 64) (subst (λ (k : ℕ). k < 2 ^ 64) (sym long) fits_count) $ fjoin ! $
-    feq_i ! (List Val) (slice_val there count ∷ []) (slice_val there n ∷ []) (ap (λ (k : ℕ). slice_val there k ∷ []) (sym long)) $ fjoin ! $ fjoin ! $
-    nothing ! $ nothing ! $ fjoin ! $ nothing ! $ fjoin ! $ nothing ! $ fjoin ! $ nothing ! $ fjoin ! $
+    flt_i ! (n * s) (2 ^ 63) (subst (λ (k : ℕ). k * s < 2 ^ 63) (sym long) fewer) $
+    flt_i ! n (2 ^ 64) (subst (λ (k : ℕ). k < 2 ^ 64) (sym long) fits_count) $ fjoin ! $
+    feq_i ! (List Val) (slice_val there count ∷ []) (slice_val there n ∷ [])
+    (ap (λ (k : ℕ). slice_val there k ∷ []) (sym long)) $ fjoin ! $ fjoin ! $
+    nothing ! $ nothing ! $ fjoin ! $ nothing ! $ fjoin ! $ nothing ! $ fjoin ! $ nothing ! $
+    fjoin ! $
     returns ! (look_at ! 0 refl) $ free_all ! refl $ keep ! (2 ∷ 0 ∷ 1 ∷ []) $
-    by ! (ends 𝓛 En hs c y (slice_val there count) (record { ref_ptr = there; now = sub xs start end }) (tt, (tt, (tt, (tt, tt)))) (tt, (tt, (tt, (tt, tt)))) (fact_i 𝓤 _ (emp 𝓤) refl))))))))
+    by ! (ends 𝓛 En hs c y (slice_val there count)
+    (record { ref_ptr = there; now = sub xs start end }) (tt, (tt, (tt, (tt, tt))))
+    (tt, (tt, (tt, (tt, tt)))) (fact_i 𝓤 _ (emp 𝓤) refl))))))))

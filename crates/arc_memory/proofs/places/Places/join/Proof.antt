@@ -1,12 +1,14 @@
 -- `join` puts two ranges together that lie side by side. It touches no memory.
-use Rattle.std.proofs.Common.{◌≡◌, ℕ, ◌+◌, ◌*◌, ◌≤◌, ◌⊎◌, List, [], ◌∷◌, ◌++◌, length, refl, sym, ap, ◌∙◌, subst, arith, length-append}
+use Rattle.std.proofs.Common.{◌≡◌, ℕ, ◌+◌, ◌*◌, ◌≤◌, ◌⊎◌, List, [], ◌∷◌, ◌++◌, length, refl, sym}
+use Rattle.std.proofs.Common.{ap, ◌∙◌, subst, arith, length-append}
 use mir.Syntax.{a_type}
 use mir.Val.{Val}
 use mir.MapTy.{inst_fn}
 use base.Logic.{SProp, ent, emp, id⊢}
 use base.Fml.{ftrue, fsep, flft}
 use prog.Wp.{WpFn}
-use types.Kit.{‵, raw, ◌⊛◌, ◌$◌, ◌∵◌, !, qed, by, move, keep, drop, split, fsplit, fjoin, suffices, use2, rewrite}
+use types.Kit.{‵, raw, ◌⊛◌, ◌$◌, ◌∵◌, !, qed, by, move, keep, drop, split, fsplit, fjoin, suffices}
+use types.Kit.{use2, rewrite}
 use types.Run.{stop, fld, of_opd, no_more, and_then, returns, enter}
 use types.ByLocal.{alloc_all, pass_all, free_all, look_at, get, get_in, sets}
 use types.Part.{agg, sub, whole}
@@ -34,27 +36,67 @@ use Rattle.arc_memory.proofs.places.Places.join.Code as code
 
 pub join_spec : {M : Type 1} → statement M
 join_spec 𝓤 𝓛 𝓜 𝓡 wired T L =
-    let H = 𝓛.H in let 𝓣 = tables 𝓤 H 𝓜 𝓡 𝓡.env in let E : El = record { row = T; laws = L; al = no_al } in let s = sz E in
-    let En = f.ended T in let c = f.clauses T 𝓛 𝓜.mem 𝓡.returns in let inst = layouts (a_type ∷ []) (T, tt) in let fn = inst_fn inst code.function in let Pl : RattleType = Row E in
-    let hs : Stays En.signature.params En.kept = (stay_dropped (plain (λ _. Pl)) no, (stay_dropped (plain (λ _. Pl)) no, tt)) in
-    proved_at 𝓛 En hs c 𝓜 𝓡 (Goes-blank 𝓛 1 (plain (λ _. Pl)) no (λ κs x w. tt), (Goes-blank 𝓛 1 (plain (λ _. Pl)) no (λ κs x w. tt), tt)) (f.Key.name inst) fn (code.unfolded 𝓤 H 𝓜 𝓡 wired (T, tt)) (λ y are.
-    let κs = y.0.0 in let qs = y.0.1 in let me : Pl.Denot = y.0.3.0 in let back : Pl.Denot = y.0.3.1.0 in let vss = y.0.4 in
-    let Post : Val → SProp 𝓤 = (walk_of 𝓛 En hs c).post y in let Run : List Val → SProp 𝓤 = λ ws. WpFn 𝓤 H 𝓣.C 𝓣.Λ fn ws Post in
-    let Next : Type 0 = (back.base ≡ me.base) × (back.whole ≡ me.whole) × (back.start ≡ me.start + me.count) in let Full : Type 0 = (length me.items ≡ me.count) ⊎ (back.items ≡ []) in
-    qed 𝓛 ((‵ (fsep (flft κs.0 qs.0) ftrue) ⊛ ‵ (owns (types_at En.signature.params κs) y.0.3 vss)) ∷ (raw (fact 𝓤 (κs.0 ⊑ T.lives)) ⊛ raw (fact 𝓤 (IsPart me back × (back.start ≡ me.start + me.count))) ⊛ raw (fact 𝓤 Full)) ∷ []) ∵
-    move ! (1 ∷ []) $ split ! $ drop ! $ split ! $ heard ! (IsPart me back × (back.start ≡ me.start + me.count)) (λ next. heard ! Full (λ full. split ! $ move ! (1 ∷ []) $ fsplit ! $ move ! (1 ∷ []) $ fsplit ! $
-    places_out E ! back vss.1.0 (λ b₂ o₂ at_b₂ _. move ! (2 ∷ []) $ places_out E ! me vss.0 (λ b o at_b small.
+    let H = 𝓛.H in let 𝓣 = tables 𝓤 H 𝓜 𝓡 𝓡.env in
+    let E : El = record { row = T; laws = L; al = no_al } in let s = sz E in
+    let En = f.ended T in let c = f.clauses T 𝓛 𝓜.mem 𝓡.returns in
+    let inst = layouts (a_type ∷ []) (T, tt) in let fn = inst_fn inst code.function in
+    let Pl : RattleType = Row E in
+    let hs : Stays En.signature.params En.kept =
+    (stay_dropped (plain (λ _. Pl)) no, (stay_dropped (plain (λ _. Pl)) no, tt)) in
+    proved_at 𝓛 En hs c 𝓜 𝓡 (
+      Goes-blank 𝓛 1 (plain (λ _. Pl)) no (λ κs x w. tt),
+      (Goes-blank 𝓛 1 (plain (λ _. Pl)) no (λ κs x w. tt), tt),
+    ) (f.Key.name inst) fn
+    (code.unfolded 𝓤 H 𝓜 𝓡 wired (T, tt)) (λ y are.
+    let κs = y.0.0 in let qs = y.0.1 in let me : Pl.Denot = y.0.3.0 in
+    let back : Pl.Denot = y.0.3.1.0 in let vss = y.0.4 in
+    let Post : Val → SProp 𝓤 = (walk_of 𝓛 En hs c).post y in
+    let Run : List Val → SProp 𝓤 = λ ws. WpFn 𝓤 H 𝓣.C 𝓣.Λ fn ws Post in
+    let Next : Type 0 = (back.base ≡ me.base) × (back.whole ≡ me.whole)
+    × (back.start ≡ me.start + me.count) in let Full : Type 0 = (length me.items ≡ me.count)
+    ⊎ (back.items ≡ []) in
+    qed 𝓛 ((‵ (fsep (flft κs.0 qs.0) ftrue) ⊛ ‵ (owns (types_at En.signature.params κs) y.0.3
+    vss)) ∷ (raw (fact 𝓤 (κs.0 ⊑ T.lives)) ⊛ raw
+    (fact 𝓤 (IsPart me back × (back.start ≡ me.start + me.count))) ⊛ raw (fact 𝓤 Full)) ∷ []) ∵
+    move ! (1 ∷ []) $ split ! $ drop ! $ split ! $
+    heard ! (IsPart me back × (back.start ≡ me.start + me.count))
+    (λ next. heard ! Full (λ full. split ! $ move ! (1 ∷ []) $ fsplit ! $ move ! (1 ∷ []) $
+    fsplit ! $
+    places_out E ! back vss.1.0 (λ b₂ o₂ at_b₂ _. move ! (2 ∷ []) $
+    places_out E ! me vss.0 (λ b o at_b small.
     -- [what lies in the front; and in the back; no more parameters; the tokens]
-    let base : block_ptr b₂ o₂ ≡ block_ptr b o = sym at_b₂ ∙ next.0.0 ∙ at_b in let from : ℕ = o + me.start * s in let there : o + back.start * s ≡ from + me.count * s = ap (λ (k : ℕ). o + k * s) next.1 ∙ further o me.start me.count s in
-    rewrite ! 1 (λ (p : Ptr). ‵ (Side E 𝓛 (block_of p) (count_of p + back.start * s) back.count back.items)) base refl $ rewrite ! 1 (λ (k : ℕ). ‵ (Side E 𝓛 b k back.count back.items)) there refl $
-    use2 𝓛 (‵ (Side E 𝓛 b from (me.count + back.count) (me.items ++ back.items))) (glued_on E 𝓛 b from me.count back.count me.items back.items full me.inside.1 back.inside.1) $
-    let fewer : length (me.items ++ back.items) ≤ me.count + back.count = omega (arith, length-append me.items back.items, me.inside.1, back.inside.1) in
-    let now : Pl.Denot = record { marker = record {}; base = me.base; whole = me.whole; start = me.start; count = me.count + back.count; items = me.items ++ back.items; inside = (omega (arith, back.inside.0, next.0.1, next.1), fewer, me.inside.2) } in
+    let base : block_ptr b₂ o₂ ≡ block_ptr b o = sym at_b₂ ∙ next.0.0 ∙ at_b in
+    let from : ℕ = o + me.start * s in let there : o + back.start * s ≡ from + me.count * s = ap
+    (λ (k : ℕ). o + k * s) next.1 ∙ further o me.start me.count s in
+    rewrite ! 1 (λ (p : Ptr). ‵ (Side E 𝓛 (block_of p) (count_of p + back.start * s) back.count
+    back.items)) base refl $ rewrite ! 1 (λ (k : ℕ). ‵ (Side E 𝓛 b k back.count back.items))
+    there refl $
+    use2 𝓛 (‵ (Side E 𝓛 b from (me.count + back.count) (me.items ++ back.items)))
+    (glued_on E 𝓛 b from me.count back.count me.items back.items full me.inside.1 back.inside.1)
+    $
+    let fewer : length (me.items ++ back.items) ≤ me.count + back.count = omega
+    (arith, length-append me.items back.items, me.inside.1, back.inside.1) in
+    let now : Pl.Denot = record {
+      marker = record {};
+      base = me.base;
+      whole = me.whole;
+      start = me.start;
+      count = me.count + back.count;
+      items = me.items ++ back.items;
+      inside =
+          (omega (arith, back.inside.0, next.0.1, next.1), fewer, me.inside.2);
+    } in
     places_in E ! now b o at_b small $
-    let e₀ : vss.0 ≡ token ∷ [] = token_told (R E) vss.0 are.0.0 in let e₁ : vss.1.0 ≡ token ∷ [] = token_told (R E) vss.1.0 are.1.0.0 in let ws : List Val = token ∷ token ∷ [] in
-    suffices ! (Run ws) (subst (λ (us : List Val). ent 𝓤 (Run ws) (Run us)) (sym (λ j. e₀ j ++ (e₁ j ++ []))) (id⊢ 𝓤 (Run ws))) $
-    enter ! 𝓣.C 𝓣.Λ fn ws Post $ alloc_all ! (λ l. pass_all ! refl ((tt, (tt, tt)), ((tt, (tt, tt)), tt)) $
-    sets ! (of_opd ! (get_in ! (fld ! refl (stop !)) (sub ! 0 refl (whole !)))) refl (tt, tt) $ sets ! (agg ! (and_then ! (get ! refl) (no_more !))) refl (tt, (tt, tt)) $
+    let e₀ : vss.0 ≡ token ∷ [] = token_told (R E) vss.0 are.0.0 in
+    let e₁ : vss.1.0 ≡ token ∷ [] = token_told (R E) vss.1.0 are.1.0.0 in
+    let ws : List Val = token ∷ token ∷ [] in
+    suffices ! (Run ws) (subst (λ (us : List Val). ent 𝓤 (Run ws) (Run us))
+    (sym (λ j. e₀ j ++ (e₁ j ++ []))) (id⊢ 𝓤 (Run ws))) $
+    enter ! 𝓣.C 𝓣.Λ fn ws Post $
+    alloc_all ! (λ l. pass_all ! refl ((tt, (tt, tt)), ((tt, (tt, tt)), tt)) $
+    sets ! (of_opd ! (get_in ! (fld ! refl (stop !)) (sub ! 0 refl (whole !)))) refl (tt, tt) $
+    sets ! (agg ! (and_then ! (get ! refl) (no_more !))) refl (tt, (tt, tt)) $
     nothing ! $ nothing ! $ fjoin ! $ nothing ! $ fjoin ! $
     returns ! (look_at ! 0 refl) $ free_all ! refl $ keep ! (3 ∷ 0 ∷ 1 ∷ []) $
-    by ! (ends 𝓛 En hs c y token now (tt, (tt, tt)) (tt, (tt, tt)) (told 𝓤 ((refl, refl), refl) (fact_i 𝓤 _ (emp 𝓤) (refl, refl)) 𝓛))))))))
+    by ! (ends 𝓛 En hs c y token now (tt, (tt, tt)) (tt, (tt, tt))
+    (told 𝓤 ((refl, refl), refl) (fact_i 𝓤 _ (emp 𝓤) (refl, refl)) 𝓛))))))))

@@ -1,5 +1,6 @@
 -- `split` cuts what lies side by side. It touches no memory.
-use Rattle.std.proofs.Common.{◌≡◌, ℕ, ◌+◌, ◌-◌, ◌*◌, ◌≤◌, List, [], ◌∷◌, ◌++◌, length, take, drop, refl, sym, subst, arith, w64, length-drop, length-take}
+use Rattle.std.proofs.Common.{◌≡◌, ℕ, ◌+◌, ◌-◌, ◌*◌, ◌≤◌, List, [], ◌∷◌, ◌++◌, length, take, drop}
+use Rattle.std.proofs.Common.{refl, sym, subst, arith, w64, length-drop, length-take}
 use Rattle.std.proofs.lemmas.Bool.{cases_lt}
 use mir.Syntax.{a_type}
 use mir.Val.{Val, vint, vstruct, vcons, vnil, of_list}
@@ -7,7 +8,8 @@ use mir.MapTy.{inst_fn}
 use base.Logic.{SProp, ent, emp, id⊢}
 use base.Fml.{ftrue, fsep, feq, flft}
 use prog.Wp.{WpFn}
-use types.Kit.{‵, raw, ◌⊛◌, ◌$◌, ◌∵◌, !, qed, by, move, keep, drop as drop_entry, split, fsplit, fjoin, fpack, feq_l, feq_i, flt_l, suffices, use1, rewrite}
+use types.Kit.{‵, raw, ◌⊛◌, ◌$◌, ◌∵◌, !, qed, by, move, keep, drop as drop_entry, split, fsplit}
+use types.Kit.{fjoin, fpack, feq_l, feq_i, flt_l, suffices, use1, rewrite}
 use types.Run.{no_more, and_then, returns, enter}
 use types.ByLocal.{alloc_all, pass_all, free_all, look_at, get, sets}
 use types.Part.{agg}
@@ -34,30 +36,80 @@ use Rattle.arc_memory.proofs.places.Places.split.Code as code
 
 pub split_spec : {M : Type 1} → statement M
 split_spec 𝓤 𝓛 𝓜 𝓡 wired T L =
-    let H = 𝓛.H in let 𝓣 = tables 𝓤 H 𝓜 𝓡 𝓡.env in let E : El = record { row = T; laws = L; al = no_al } in let s = sz E in
-    let En = f.ended T in let c = f.clauses T 𝓛 𝓜.mem 𝓡.returns in let inst = layouts (a_type ∷ []) (T, tt) in let fn = inst_fn inst code.function in let Pl : RattleType = Row E in
-    let hs : Stays En.signature.params En.kept = (stay_dropped (plain (λ _. Pl)) no, (stay_dropped (plain (λ _. usize)) yes, tt)) in
-    proved_at 𝓛 En hs c 𝓜 𝓡 (Goes-blank 𝓛 1 (plain (λ _. Pl)) no (λ κs x w. tt), (Goes-dropped 𝓛 1 (plain (λ _. usize)) yes (λ κs x w. refl), tt)) (f.Key.name inst) fn (code.unfolded 𝓤 H 𝓜 𝓡 wired (T, tt)) (λ y are.
-    let κs = y.0.0 in let qs = y.0.1 in let was : Pl.Denot = y.0.3.0 in let at : ℕ = y.0.3.1.0 in let vss = y.0.4 in let xs : List (el_x E) = was.items in
-    let Post : Val → SProp 𝓤 = (walk_of 𝓛 En hs c).post y in let Run : List Val → SProp 𝓤 = λ ws. WpFn 𝓤 H 𝓣.C 𝓣.Λ fn ws Post in
-    qed 𝓛 ((‵ (fsep (flft κs.0 qs.0) ftrue) ⊛ ‵ (owns (types_at En.signature.params κs) y.0.3 vss)) ∷ (raw (fact 𝓤 (κs.0 ⊑ T.lives)) ⊛ raw (fact 𝓤 (at ≤ was.count))) ∷ []) ∵
-    move ! (1 ∷ []) $ split ! $ drop_entry ! $ heard ! (at ≤ was.count) (λ asked. split ! $ move ! (1 ∷ []) $ fsplit ! $ move ! (1 ∷ []) $ fsplit ! $ fsplit ! $ feq_l ! (λ e₁. flt_l ! (λ fits. move ! (1 ∷ []) $
+    let H = 𝓛.H in let 𝓣 = tables 𝓤 H 𝓜 𝓡 𝓡.env in
+    let E : El = record { row = T; laws = L; al = no_al } in let s = sz E in
+    let En = f.ended T in let c = f.clauses T 𝓛 𝓜.mem 𝓡.returns in
+    let inst = layouts (a_type ∷ []) (T, tt) in let fn = inst_fn inst code.function in
+    let Pl : RattleType = Row E in
+    let hs : Stays En.signature.params En.kept =
+    (stay_dropped (plain (λ _. Pl)) no, (stay_dropped (plain (λ _. usize)) yes, tt)) in
+    proved_at 𝓛 En hs c 𝓜 𝓡 (
+      Goes-blank 𝓛 1 (plain (λ _. Pl)) no (λ κs x w. tt),
+      (Goes-dropped 𝓛 1 (plain (λ _. usize)) yes (λ κs x w. refl), tt),
+    ) (f.Key.name inst) fn
+    (code.unfolded 𝓤 H 𝓜 𝓡 wired (T, tt)) (λ y are.
+    let κs = y.0.0 in let qs = y.0.1 in let was : Pl.Denot = y.0.3.0 in let at : ℕ = y.0.3.1.0 in
+    let vss = y.0.4 in let xs : List (el_x E) = was.items in
+    let Post : Val → SProp 𝓤 = (walk_of 𝓛 En hs c).post y in
+    let Run : List Val → SProp 𝓤 = λ ws. WpFn 𝓤 H 𝓣.C 𝓣.Λ fn ws Post in
+    qed 𝓛 ((‵ (fsep (flft κs.0 qs.0) ftrue) ⊛ ‵ (owns (types_at En.signature.params κs) y.0.3
+    vss)) ∷ (raw (fact 𝓤 (κs.0 ⊑ T.lives)) ⊛ raw (fact 𝓤 (at ≤ was.count))) ∷ []) ∵
+    move ! (1 ∷ []) $ split ! $ drop_entry ! $ heard ! (at ≤ was.count) (λ asked. split ! $
+    move ! (1 ∷ []) $ fsplit ! $ move ! (1 ∷ []) $ fsplit ! $ fsplit ! $
+    feq_l ! (λ e₁. flt_l ! (λ fits. move ! (1 ∷ []) $
     places_out E ! was vss.0 (λ b o at_b small.
     -- [what lies side by side; no more parameters; the tokens]
-    use1 𝓛 (‵ (Side E 𝓛 b (o + was.start * s) at (take at xs)) ⊛ ‵ (Side E 𝓛 b (o + was.start * s + at * s) (was.count - at) (drop at xs)))
-    (cut E 𝓛 b (o + was.start * s) at was.count xs (cases_lt at (length xs)) asked was.inside.1) $ split ! $
-    let lower : length (take at xs) ≤ at = omega (arith, length-take at xs) in let upper : length (drop at xs) ≤ was.count - at = omega (arith, length-drop at xs, was.inside.1) in
-    let front : Pl.Denot = record { marker = record {}; base = was.base; whole = was.whole; start = was.start; count = at; items = take at xs; inside = (omega (arith, was.inside.0, asked), lower, was.inside.2) } in
-    let back : Pl.Denot = record { marker = record {}; base = was.base; whole = was.whole; start = was.start + at; count = was.count - at; items = drop at xs; inside = (omega (arith, was.inside.0, asked), upper, was.inside.2) } in
-    places_in E ! front b o at_b small $ rewrite ! 1 (λ (k : ℕ). ‵ (Side E 𝓛 b k (was.count - at) (drop at xs))) (sym (further o was.start at s)) refl $ move ! (1 ∷ []) $ places_in E ! back b o at_b small $
-    let e₀ : vss.0 ≡ token ∷ [] = token_told (R E) vss.0 are.0.0 in let ws : List Val = token ∷ vint w64 at ∷ [] in
-    suffices ! (Run ws) (subst (λ (us : List Val). ent 𝓤 (Run ws) (Run us)) (sym (λ j. e₀ j ++ (e₁ j ++ []))) (id⊢ 𝓤 (Run ws))) $
-    enter ! 𝓣.C 𝓣.Λ fn ws Post $ alloc_all ! (λ l. pass_all ! refl ((tt, (tt, tt)), ((tt, record { fits = fits }), tt)) $
-    sets ! (agg ! (no_more !)) refl (tt, tt) $ sets ! (agg ! (and_then ! (get ! refl) (no_more !))) refl (tt, (tt, tt)) $ sets ! (agg ! (no_more !)) refl (tt, tt) $ sets ! (agg ! (and_then ! (get ! refl) (no_more !))) refl (tt, (tt, tt)) $
-    sets ! (agg ! (and_then ! (get ! refl) (and_then ! (get ! refl) (no_more !)))) refl (tt, ((tt, tt), ((tt, tt), tt))) $
-    let w : Val = vstruct (vcons token (vcons token vnil)) in let Rs : List RattleType = Pl ∷ Pl ∷ [] in
-    nothing ! $ move ! (1 ∷ 0 ∷ []) $ fjoin ! $ move ! (1 ∷ 0 ∷ []) $ fjoin ! $ feq_i ! (List Val) (w ∷ []) (w ∷ []) refl $ fjoin ! $
-    fpack ! (Valss Rs) (λ uss. fsep (feq (List Val) (w ∷ []) (vstruct (of_list (uss.0 ++ (uss.1.0 ++ []))) ∷ [])) (owns Rs (front, (back, tt)) uss)) (token ∷ [], (token ∷ [], tt)) $
+    use1 𝓛 (‵ (Side E 𝓛 b (o + was.start * s) at (take at xs)) ⊛ ‵
+    (Side E 𝓛 b (o + was.start * s + at * s) (was.count - at) (drop at xs)))
+    (cut E 𝓛 b (o + was.start * s) at was.count xs (cases_lt at (length xs)) asked was.inside.1) $
+    split ! $
+    let lower : length (take at xs) ≤ at = omega (arith, length-take at xs) in
+    let upper : length (drop at xs) ≤ was.count - at = omega
+    (arith, length-drop at xs, was.inside.1) in
+    let front : Pl.Denot = record {
+      marker = record {};
+      base = was.base;
+      whole = was.whole;
+      start = was.start;
+      count = at;
+      items = take at xs;
+      inside =
+          (omega (arith, was.inside.0, asked), lower, was.inside.2);
+    } in
+    let back : Pl.Denot = record {
+      marker = record {};
+      base = was.base;
+      whole = was.whole;
+      start = was.start + at;
+      count = was.count - at;
+      items = drop at xs;
+      inside =
+          (omega (arith, was.inside.0, asked), upper, was.inside.2);
+    } in
+    places_in E ! front b o at_b small $
+    rewrite ! 1 (λ (k : ℕ). ‵ (Side E 𝓛 b k (was.count - at) (drop at xs)))
+    (sym (further o was.start at s)) refl $ move ! (1 ∷ []) $ places_in E ! back b o at_b small
+    $
+    let e₀ : vss.0 ≡ token ∷ [] = token_told (R E) vss.0 are.0.0 in
+    let ws : List Val = token ∷ vint w64 at ∷ [] in
+    suffices ! (Run ws) (subst (λ (us : List Val). ent 𝓤 (Run ws) (Run us))
+    (sym (λ j. e₀ j ++ (e₁ j ++ []))) (id⊢ 𝓤 (Run ws))) $
+    enter ! 𝓣.C 𝓣.Λ fn ws Post $
+    alloc_all ! (λ l. pass_all ! refl ((tt, (tt, tt)), ((tt, record { fits = fits }), tt)) $
+    sets ! (agg ! (no_more !)) refl (tt, tt) $ sets ! (agg ! (and_then ! (get ! refl) (no_more !)))
+    refl (tt, (tt, tt)) $ sets ! (agg ! (no_more !)) refl (tt, tt) $
+    sets ! (agg ! (and_then ! (get ! refl) (no_more !))) refl (tt, (tt, tt)) $
+    sets ! (agg ! (and_then ! (get ! refl) (and_then ! (get ! refl) (no_more !)))) refl
+    (tt, ((tt, tt), ((tt, tt), tt))) $
+    let w : Val = vstruct (vcons token (vcons token vnil)) in
+    let Rs : List RattleType = Pl ∷ Pl ∷ [] in
+    nothing ! $ move ! (1 ∷ 0 ∷ []) $ fjoin ! $ move ! (1 ∷ 0 ∷ []) $ fjoin ! $
+    feq_i ! (List Val) (w ∷ []) (w ∷ []) refl $ fjoin ! $
+    fpack ! (Valss Rs)
+    (λ uss. fsep (feq (List Val) (w ∷ []) (vstruct (of_list (uss.0 ++ (uss.1.0 ++ []))) ∷ []))
+    (owns Rs (front, (back, tt)) uss)) (token ∷ [], (token ∷ [], tt)) $
     nothing ! $ nothing ! $ fjoin ! $ nothing ! $ fjoin ! $
     returns ! (look_at ! 0 refl) $ free_all ! refl $ keep ! (3 ∷ 0 ∷ 1 ∷ []) $
-    by ! (ends 𝓛 En hs c y w (front, back) (tt, (tt, tt)) (tt, (tt, tt)) (told 𝓤 ((refl, refl), (refl, refl)) (told 𝓤 (refl, refl, refl) (fact_i 𝓤 _ (emp 𝓤) (refl, refl, refl)) 𝓛) 𝓛))))))))
+    by ! (ends 𝓛 En hs c y w (front, back) (tt, (tt, tt)) (tt, (tt, tt))
+    (told 𝓤 ((refl, refl), (refl, refl))
+    (told 𝓤 (refl, refl, refl) (fact_i 𝓤 _ (emp 𝓤) (refl, refl, refl)) 𝓛) 𝓛))))))))

@@ -14,7 +14,8 @@ module _ {T V A H : Type 0} {MAX : ℕ} {G : Ghosts H} (w : SharedWriter T V A M
   where
     same_writer : (t : (w.places.under.base ≡ w.rest.out.memory.base)
         × (w.places.under.whole ≡ w.rest.out.memory.whole))
-        → (r : (w.places.under.start ≡ w.rest.out.start) × (w.places.under.count ≡ w.rest.out.count))
+        → (r : (w.places.under.start ≡ w.rest.out.start)
+        × (w.places.under.count ≡ w.rest.out.count))
         → ◌≡◌ {A = SharedWriter T V A MAX H G} (record {
           rest = w.rest;
           places = with_written w.places ws;

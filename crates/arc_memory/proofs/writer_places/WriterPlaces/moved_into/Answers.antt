@@ -1,5 +1,7 @@
 -- Where any item is moved, there is one for the places that hold none yet.
-use Rattle.std.proofs.Common.{◌≡◌, ℕ, zero, suc, ◌+◌, ◌-◌, ◌<◌, ◌≤◌, List, [], ◌∷◌, ◌++◌, length, take, drop, refl, sym, ap, ◌∙◌, arith, append-nil, length-drop, drop-drop}
+use Rattle.std.proofs.Common.{◌≡◌, ℕ, zero, suc, ◌+◌, ◌-◌, ◌<◌, ◌≤◌, List, [], ◌∷◌, ◌++◌, length}
+use Rattle.std.proofs.Common.{take, drop, refl, sym, ap, ◌∙◌, arith, append-nil, length-drop}
+use Rattle.std.proofs.Common.{drop-drop}
 use lib.Seq.{take-add, take_all}
 use lib.ListN.{drop_of_length-le}
 use Rattle.arc_memory.proofs.writer_places.WriterPlaces.moved_into.Goals as goal
@@ -24,7 +26,8 @@ in_order {X} xs a l o b index moved rest all few e f g h =
     let behind : take more (drop (index + moved) xs) ≡ take more (drop moved ds) =
     ap (take more) (sym (drop-drop moved index xs)) in
     let first : a ++ l ≡ take moved ds = (λ i. e i ++ f i) ∙ append-nil (take moved ds) in
-    (λ i. (first i ++ (g ∙ behind) i) ++ h i) ∙ append-nil (take moved ds ++ take more (drop moved ds))
+    (λ i. (first i ++ (g ∙ behind) i) ++ h i)
+    ∙ append-nil (take moved ds ++ take more (drop moved ds))
     ∙ sym (take-add moved more ds) ∙ ap (λ (n : ℕ). take n ds) sum ∙ take_all rest ds long
 
 pub into_slots-requires-2-clause-value : goal.into_slots-requires-2-clause-value
@@ -43,7 +46,8 @@ pub returns-clause-items : goal.returns-clause-items
 returns-clause-items g c =
     let v = c.args.self.vec in let xs = v.items in let full = c.len-full.result in
     let index = c.args.index in let moved = c.min-moved.result in
-    let there = c.into_places.result.items in let same : there ≡ xs = sym c.into_places.ensures.items in
+    let there = c.into_places.result.items in
+    let same : there ≡ xs = sym c.into_places.ensures.items in
     let many : full ≡ length xs = c.len-full.ensures ∙ v.ok.0 in
     let long : length there ≡ full = ap length same ∙ sym many in
     let own = c.split-own.result.0 in let slots = c.into_slots.result.0 in

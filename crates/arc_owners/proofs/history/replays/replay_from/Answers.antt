@@ -9,7 +9,8 @@ pub happen-requires : goal.happen-requires
 happen-requires g c =
     let history_at_least = c.loop-event.invariant in
     ap (λ (m : Machine). m.count) history_at_least
-    ∙ (run-count c.args.most (beginning c.args.counted) (take c.loop-event.event-index c.args.events.now) c.requires
+    ∙ (run-count c.args.most (beginning c.args.counted)
+    (take c.loop-event.event-index c.args.events.now) c.requires
     ∙ sym (ap (λ (m : Machine). length m.live) history_at_least))
 
 pub returns : goal.returns

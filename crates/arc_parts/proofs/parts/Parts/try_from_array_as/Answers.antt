@@ -9,4 +9,6 @@ pub returns-then-stands_on_nothing-clause-made : goal.returns-then-stands_on_not
 returns-then-stands_on_nothing-clause-made g c =
     let static = g.L.Layout.STATIC in let drops = g.S.Slice.DROPS in let whole = g.H.Mark.whole in
     subst (λ p. Makes static drops whole c.args.array (window_of p)) (sym c.on_nothing.ensures)
-    (made_on_nothing static drops whole c.args.array (owner_for c.args.pass.now) (ap (λ n. static && (n == 0)) (ap (λ xs. length xs) (sym c.as_slice-end.ensures)) ∙ sym c.if-stands_on_nothing.ensures))
+    (made_on_nothing static drops whole c.args.array (owner_for c.args.pass.now)
+    (ap (λ n. static && (n == 0)) (ap (λ xs. length xs) (sym c.as_slice-end.ensures))
+    ∙ sym c.if-stands_on_nothing.ensures))

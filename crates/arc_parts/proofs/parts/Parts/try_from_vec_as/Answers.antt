@@ -8,7 +8,8 @@ pub returns-in-Ok-clause-made : goal.returns-in-Ok-clause-made
 returns-in-Ok-clause-made g c =
     let v = c.args.items in
     let fit : length v.items ≤ vec_capacity v = omega (arith, v.ok.0, v.ok.1) in
-    vec_of_none g.L.Layout.STATIC g.S.Slice.DROPS g.H.Mark.whole g.L.Layout.lone v.items (vec_capacity v) fit
+    vec_of_none g.L.Layout.STATIC g.S.Slice.DROPS g.H.Mark.whole g.L.Layout.lone v.items
+    (vec_capacity v) fit
     (sym c.capacity.ensures ∙ c.if-capacity-eq0.true) _ refl _ c.in-Ok.ensures.made
 
 pub returns-in-Err-clause-refused : goal.returns-in-Err-clause-refused
@@ -23,7 +24,8 @@ pub returns-in-Ok-try_from_vec-clause-made : goal.returns-in-Ok-try_from_vec-cla
 returns-in-Ok-try_from_vec-clause-made g c =
     let v = c.args.items in let made = c.in-Ok-try_from_vec.ensures.made in
     let fit : length v.items ≤ vec_capacity v = omega (arith, v.ok.0, v.ok.1) in
-    vec_on_block g.L.Layout.STATIC g.S.Slice.DROPS g.H.Mark.whole g.L.Layout.lone v.items (vec_capacity v) fit
+    vec_on_block g.L.Layout.STATIC g.S.Slice.DROPS g.H.Mark.whole g.L.Layout.lone v.items
+    (vec_capacity v) fit
     c.in-Ok-try_from_vec.block made.0 made.1
     (λ none. c.if-capacity-eq0.false (c.capacity.ensures ∙ none))
     c.over_all.result c.over_all.ensures

@@ -55,7 +55,8 @@ returns-in-Ok-2-clause-place g c =
     let alike = subst (λ r. IfOk r (λ other. (other.items ≡ c.in-Block.block.items)
     × (other.facts ≡ c.in-Block.block.facts))) c.in-Ok-2.is c.in_ok-block-in-Block.ensures.alike in
     let made = subst (λ r. IfOk r (λ other.
-    MakesAnother c.in-Block.block.owner c.args.pass.now c.try_share_once_as-in-Block.new.pass other.owner))
+    MakesAnother c.in-Block.block.owner c.args.pass.now c.try_share_once_as-in-Block.new.pass
+    other.owner))
     c.in-Ok-2.is c.in_ok-block-in-Block.ensures.made in
     part_shares _ _ _ c.args.self.now _ c.self.view_is c.in-Block.is c.self.invariant
     g.L.Layout.STATIC c.args.start c.args.end c.requires.range.0 c.requires.range.1

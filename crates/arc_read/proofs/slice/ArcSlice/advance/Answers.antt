@@ -10,8 +10,19 @@ pub invariant_of-self : goal.invariant_of-self
 invariant_of-self g c =
     let boundary = g.S.Subsliceable.boundary in
     let p = c.self.inside.parts in
-    let edge = subst (λ (w : Window g.row.S-Item.Denot g.row.M.Denot). IsEdge boundary w.items c.args.n) (sym c.self.view_is) c.requires in
-    let end = c.len-end.ensures ∙ ap (λ (w : Window g.row.S-Item.Denot g.row.M.Denot). length w.items) (sym c.self.view_is) in
+    let edge = subst (λ (w : Window g.row.S-Item.Denot g.row.M.Denot). IsEdge boundary w.items
+    c.args.n) (sym c.self.view_is) c.requires in
+    let end = c.len-end.ensures
+    ∙ ap (λ (w : Window g.row.S-Item.Denot g.row.M.Denot). length w.items) (sym c.self.view_is)
+    in
     keeps g.S.Slice.is_legal boundary g.met.S.Subsliceable.range_is_legal (layout_facts g.L.Layout)
     p _ c.args.n _ c.keep.ensures c.self.invariant
-    (λ h. subst (λ n. IsRange boundary p.items c.args.n n) (sym end) (record { ordered = edge.within; within = (g.met.S.Subsliceable.ends_are_edges _ h).1.within; from = edge.cuts; to = (g.met.S.Subsliceable.ends_are_edges _ h).1.cuts }))
+    (λ h. subst (λ n. IsRange boundary p.items c.args.n n) (sym end)
+    (record {
+      ordered = edge.within;
+      within =
+          (g.met.S.Subsliceable.ends_are_edges _ h).1.within;
+      from = edge.cuts;
+      to =
+          (g.met.S.Subsliceable.ends_are_edges _ h).1.cuts;
+    }))

@@ -6,7 +6,8 @@ use Rattle.arc_script.specs.declared.script.ScriptError.TheVariants.{Alloc}
 use Rattle.arc_forms.proofs.Forms.{on_err}
 use Rattle.arc_script.proofs.Underway.{last_answered, last_broken}
 use Rattle.arc_script.proofs.script.Engine.answer_rest.Goals as goal
-use Rattle.arc_script.proofs.script.Engine.answer_rest.Goals.{else-not-self-via-then-not-self+else-is_empty, else-not-self-via-else-not-self}
+use Rattle.arc_script.proofs.script.Engine.answer_rest.Goals.{else-not-self-via-then-not-self+else-is_empty}
+use Rattle.arc_script.proofs.script.Engine.answer_rest.Goals.{else-not-self-via-else-not-self}
 
 pub returns-in_err-end_line-clause-err : goal.returns-in_err-end_line-clause-err
 returns-in_err-end_line-clause-err g c =
@@ -20,7 +21,8 @@ returns-in_err-end_line-clause-err g c =
     ] in
     let end = c.in_err-end_line.ensures in
     on_err c.from_residual.result (λ start input writer read.
-    subst (λ o. IsBegun g.L.NamedLayout.named Alloc start input writer o c.end_line.new.self.table) (sym end.err)
+    subst (λ o. IsBegun g.L.NamedLayout.named Alloc start input writer o c.end_line.new.self.table)
+    (sym end.err)
     (last_broken read some c.end_line.new.self.table end.broken))
 
 pub returns-clause-ok : goal.returns-clause-ok

@@ -13,8 +13,11 @@ pub returns-then-is_empty-clause-ok : goal.returns-then-is_empty-clause-ok
 returns-then-is_empty-clause-ok g c = λ w.
     let old = c.args.self.now in
     let answered = c.in_ok-answer_in_place.ensures in
-    reads_in_place w old c.answer_in_place.new.self c.args.bytes.now c.requires
-    (none_held old.line.items (omega (arith, old.line.ok.0, eqb-true _ _ (sym c.is_empty.ensures ∙ c.if-is_empty.true))), c.if-not-self.true)
+    reads_in_place w old c.answer_in_place.new.self c.args.bytes.now c.requires (
+      none_held old.line.items
+          (omega (arith, old.line.ok.0, eqb-true _ _ (sym c.is_empty.ensures ∙ c.if-is_empty.true))),
+      c.if-not-self.true,
+    )
     answered.ok answered.line
 
 pub returns-in_err-answer_in_place-clause-err : goal.returns-in_err-answer_in_place-clause-err
@@ -22,8 +25,11 @@ returns-in_err-answer_in_place-clause-err g c =
     let old = c.args.self.now in
     let stopped = c.in_err-answer_in_place.ensures in
     on_err c.from_residual.result (λ w.
-    stops_in_place w old c.answer_in_place.new.self c.args.bytes.now c.requires
-    (none_held old.line.items (omega (arith, old.line.ok.0, eqb-true _ _ (sym c.is_empty.ensures ∙ c.if-is_empty.true))), c.if-not-self.true)
+    stops_in_place w old c.answer_in_place.new.self c.args.bytes.now c.requires (
+      none_held old.line.items
+          (omega (arith, old.line.ok.0, eqb-true _ _ (sym c.is_empty.ensures ∙ c.if-is_empty.true))),
+      c.if-not-self.true,
+    )
     stopped.broken stopped.err)
 
 pub returns-in_err-hold-clause-err : goal.returns-in_err-hold-clause-err

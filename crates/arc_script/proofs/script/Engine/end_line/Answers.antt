@@ -11,4 +11,5 @@ returns-clause-ok g c =
 pub returns-in_err-answer_said-clause-broken : goal.returns-in_err-answer_said-clause-broken
 returns-in_err-answer_said-clause-broken g c =
     on_err c.from_residual-in_err-answer_said.result
-    (line_may_end _ _ _ _ _ c.in_ok-said.said c.in_ok-said.ensures c.in_err-answer_said.ensures.broken)
+    (line_may_end _ _ _ _ _ c.in_ok-said.said c.in_ok-said.ensures
+    c.in_err-answer_said.ensures.broken)

@@ -2,8 +2,8 @@
 use Rattle.std.proofs.Common.{◌++◌, ◌∷◌, [], ◌∙◌}
 use Rattle.arc_forms.specs.Text.{line_feed}
 use Rattle.arc_script.specs.declared.script.ScriptError.TheVariants.{Alloc}
-use Rattle.arc_script.proofs.Going.{if_err_is, stops_now, stops_later, stops_longer, reads_on, reads_held}
-use Rattle.arc_script.proofs.Going.{reads_whole, line_parts, more_parts}
+use Rattle.arc_script.proofs.Going.{if_err_is, stops_now, stops_later, stops_longer, reads_on}
+use Rattle.arc_script.proofs.Going.{reads_held, reads_whole, line_parts, more_parts}
 use Rattle.arc_script.proofs.Devices.{takes_on}
 use Rattle.arc_script.proofs.script.Engine.feed.Goals as goal
 
@@ -17,7 +17,8 @@ returns-in_err-take_line-clause-err g c =
     let rest = c.lines.rest.now in
     let fault = c.in_err-take_line.field-0.0 in
     if_err_is _ c.from_residual.result fault c.from_residual.ensures.1
-    (stops_later fault c.args.piece.now front.0 rest _ (g.W.Sink.traffic c.lines.writer) _ c.args.self.now
+    (stops_later fault c.args.piece.now front.0 rest _ (g.W.Sink.traffic c.lines.writer) _
+    c.args.self.now
     e e1 front.1 front.2
     (stops_longer fault rest (line ++ line_feed ∷ []) behind _ _ e e1
     (line_parts line behind rest c.in-Some.ensures.1) c.in_err-take_line.ensures.err))

@@ -10,7 +10,8 @@ pub returns-in_err-answered-clause-err : goal.returns-in_err-answered-clause-err
 returns-in_err-answered-clause-err g c =
     let w' = g.W.Sink.traffic c.flush.new.writer in
     let flush = c.in_ok-flush.ensures in
-    if_err_is _ c.from_residual-in_err-answered.result Alloc c.from_residual-in_err-answered.ensures.1
+    if_err_is _ c.from_residual-in_err-answered.result Alloc
+    c.from_residual-in_err-answered.ensures.1
     (λ start input read.
     subst (IsBegun g.L.NamedLayout.named Alloc start input w' []) (sym flush.windows)
     (begun_out (c.in_err-answered.ensures.err start input _ read) w' flush.ok))
@@ -20,7 +21,8 @@ returns-in_err-flush-clause-err g c =
     let w' = g.W.Sink.traffic c.flush.new.writer in
     let flush = c.in_err-flush.ensures in
     let rest = c.answer_rest-answered in
-    if_err_as _ c.from_residual.result _ Write c.from_residual.ensures.1 flush.write (λ start input read.
+    if_err_as _ c.from_residual.result _ Write c.from_residual.ensures.1 flush.write
+    (λ start input read.
     subst (IsBegun g.L.NamedLayout.named Write start input w' []) (sym flush.windows)
     (rest_then_stops rest.result start input _ w' c.args.self.now rest.new.self rest.ensures.ok
     rest.ensures.err read flush.err))

@@ -2,8 +2,8 @@
 use Rattle.std.proofs.Common.{◌∙◌, arith}
 use Rattle.arc_script.specs.declared.script.ScriptError.TheVariants.{Alloc}
 use Rattle.arc_script.proofs.Going.{if_err_is, on_ok, on_ok_then, if_err_then, run_begins}
-use Rattle.arc_script.proofs.Going.{nothing_exchanged, exchange_answered, exchange_begun, why_is_cause}
-use Rattle.arc_script.proofs.Going.{why_no_read}
+use Rattle.arc_script.proofs.Going.{nothing_exchanged, exchange_answered, exchange_begun}
+use Rattle.arc_script.proofs.Going.{why_is_cause, why_no_read}
 use Rattle.arc_script.proofs.Devices.{gives_nothing, gives_on, gives_all, takes_nothing, takes_on}
 use Rattle.arc_script.proofs.script.Engine.run.Goals as goal
 

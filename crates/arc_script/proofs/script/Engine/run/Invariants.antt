@@ -13,7 +13,8 @@ invariant-pieces g l =
     let held = g.W.Sink.contents in
     record {
       running :
-          IsRunning g.L.NamedLayout.named (given l.fn.reader) (given l.reader) (told l.fn.writer) (told l.writer) l.self;
+          IsRunning g.L.NamedLayout.named (given l.fn.reader) (given l.reader) (told l.fn.writer)
+          (told l.writer) l.self;
       empties : (given l.fn.reader).empties ≤ (given l.reader).empties;
       given : Gives (given l.fn.reader) (given l.reader) (left l.fn.reader) (left l.reader);
       taken : Takes (told l.fn.writer) (told l.writer) (held l.fn.writer) (held l.writer);

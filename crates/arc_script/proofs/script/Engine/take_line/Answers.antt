@@ -13,7 +13,8 @@ returns-in_err-flush-clause-err g c =
     let w = g.W.Sink.traffic c.args.writer.now in
     let w' = g.W.Sink.traffic c.flush.new.writer in
     let flush = c.in_err-flush.ensures in
-    if_err_as _ c.from_residual-in_err-flush.result _ Write c.from_residual-in_err-flush.ensures.1 flush.write
+    if_err_as _ c.from_residual-in_err-flush.result _ Write c.from_residual-in_err-flush.ensures.1
+    flush.write
     (reads_then_stops _ w w w' c.args.self.now c.close_line.new.self c.flush.new.self
     (c.in_ok-close_line.ensures.ok w) flush.err flush.out flush.windows)
 

@@ -1,9 +1,9 @@
 -- What was read goes through the engine, and the replies go out, whatever came of it.
 use Rattle.std.proofs.Common.{ap, ◌∙◌}
 use Rattle.arc_script.specs.declared.script.ScriptError.TheVariants.{Read, Write}
-use Rattle.arc_script.proofs.Going.{if_err_is, if_err_as, reads_and_out, stops_and_out, fed_then_stops}
-use Rattle.arc_script.proofs.Going.{run_stops_now, run_answered, run_stops, run_goes_on}
-use Rattle.arc_script.proofs.Going.{why_no_read}
+use Rattle.arc_script.proofs.Going.{if_err_is, if_err_as, reads_and_out, stops_and_out}
+use Rattle.arc_script.proofs.Going.{fed_then_stops, run_stops_now, run_answered, run_stops}
+use Rattle.arc_script.proofs.Going.{run_goes_on, why_no_read}
 use Rattle.arc_script.proofs.Devices.{takes_on}
 use Rattle.arc_script.proofs.script.Engine.take_piece.Goals as goal
 

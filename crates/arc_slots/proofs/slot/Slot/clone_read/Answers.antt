@@ -26,7 +26,8 @@ returns-in-Ok-clause-number g c =
     let r =
     reads-slot g.S.Small.SmallOf.seen c.self.inside.window w b passes c.in-Read.is
     c.self.view_is c.self.invariant.0 c.requires.pass in
-    shares-fits c.lend-pass.result c.try_clone_as-made.new.pass b w.place c.in-Ok.window.place r.fits
+    shares-fits c.lend-pass.result c.try_clone_as-made.new.pass b w.place c.in-Ok.window.place
+    r.fits
     c.in-Ok.ensures.place
 
 pub returns-in-Ok-clause-row : goal.returns-in-Ok-clause-row
@@ -54,8 +55,10 @@ returns-in-Ok-clause-stand g c =
     c.self.view_is c.self.invariant.0 c.requires.pass in
     let there = c.in-Ok.window.place in
     subst (λ (s : SlotView g.row.S-Item.Denot g.row.M.Denot).
-    Beside (stand_of (Some s)) passes c.give_back.new.self.of_blocks.items (stand_at b there)) r.view
-    (subst (λ ps. Beside (stand_at b w.place) passes ps (stand_at b there)) (sym c.give_back.ensures)
+    Beside (stand_of (Some s)) passes c.give_back.new.self.of_blocks.items (stand_at b there))
+    r.view
+    (subst (λ ps. Beside (stand_at b w.place) passes ps (stand_at b there))
+    (sym c.give_back.ensures)
     (shares passes c.lend-pass.new.self.of_blocks.items c.lend-pass.result
     c.try_clone_as-made.new.pass b w.place there r.fits r.has c.lend-pass.ensures.taken
     c.in-Ok.ensures.place))

@@ -11,14 +11,16 @@ use Rattle.arc_slots.proofs.slot.Slot.count.Goals as goal
 
 abbrev setting : (g : Over) → Setting g.row.S-Item.Denot
 setting g =
-    setting_of (layout_facts g.L.Layout) g.L.Writable.Layout.ANY g.L.Layout.clone_wants g.S.Slice.DROPS g.S.Subsliceable.boundary
+    setting_of (layout_facts g.L.Layout) g.L.Writable.Layout.ANY g.L.Layout.clone_wants
+    g.S.Slice.DROPS g.S.Subsliceable.boundary
     (type_size g.row.S-Item) g.S.Zero.ZeroOf.zero g.S.Calls.CallsOf.calls
 
 pub returns : goal.returns
 returns g c next i =
     let s = c.args.self.now in
     let passes = c.args.passes.now.of_blocks.items in
-    subst (λ n. Answers (setting g) next (command.Len i) s passes (reply.Number n) (Some s) None passes)
+    subst (λ n. Answers (setting g) next (command.Len i) s passes (reply.Number n) (Some s) None
+    passes)
     (sym c.len.ensures)
     (counted (setting g) next s passes i
     (for-each (setting g) next s passes c.known_role.ensures (command.Len i) refl (λ n. refl)

@@ -36,12 +36,14 @@ returns-in-Ok-clause-number g c =
     let made = c.in-Ok.window in
     let nothing = g.L.Layout.STATIC && (length (sub w.items start end) == 0) in
     let long =
-    ap (λ (s : SlotView g.row.S-Item.Denot g.row.M.Denot). length (sub s.window.items start end)) r.view
+    ap (λ (s : SlotView g.row.S-Item.Denot g.row.M.Denot). length (sub s.window.items start end))
+    r.view
     ∙ length-sub c.args.self.now.window.items start end c.requires.range.ordered
     c.requires.range.within in
     ap (λ o. is_numbered o made.place) (c.part_block.ensures
     ∙ ap (λ n. if g.L.Layout.STATIC && (n == 0) then None else b) (sym long))
-    ∙ part-fits c.lend-pass.result c.try_subslice_as-made.new.pass nothing start b w.place made.place
+    ∙ part-fits c.lend-pass.result c.try_subslice_as-made.new.pass nothing start b w.place
+    made.place
     r.fits c.in-Ok.ensures.place
 
 pub returns-in-Err-clause-refused : goal.returns-in-Err-clause-refused
@@ -80,7 +82,8 @@ returns-in-Ok-clause-stand g c =
     let end = c.args.end in
     let nothing = g.L.Layout.STATIC && (length (sub w.items start end) == 0) in
     let long =
-    ap (λ (s : SlotView g.row.S-Item.Denot g.row.M.Denot). length (sub s.window.items start end)) r.view
+    ap (λ (s : SlotView g.row.S-Item.Denot g.row.M.Denot). length (sub s.window.items start end))
+    r.view
     ∙ length-sub c.args.self.now.window.items start end c.requires.range.ordered
     c.requires.range.within in
     let block : c.part_block.result ≡ (if nothing then None else b) =
@@ -111,7 +114,8 @@ returns-in-Ok-clause-row g c =
     let end = c.args.end in
     let nothing = g.L.Layout.STATIC && (length (sub w.items start end) == 0) in
     let long =
-    ap (λ (s : SlotView g.row.S-Item.Denot g.row.M.Denot). length (sub s.window.items start end)) r.view
+    ap (λ (s : SlotView g.row.S-Item.Denot g.row.M.Denot). length (sub s.window.items start end))
+    r.view
     ∙ length-sub c.args.self.now.window.items start end c.requires.range.ordered
     c.requires.range.within in
     let block : c.part_block.result ≡ (if nothing then None else b) =
@@ -119,7 +123,8 @@ returns-in-Ok-clause-row g c =
     ∙ ap (λ n. if g.L.Layout.STATIC && (n == 0) then None else b) (sym long) in
     let there =
     ap (λ o. numbered o made.place) block
-    ∙ shares-numbered c.lend-pass.result c.try_subslice_as-made.new.pass (if nothing then None else b)
+    ∙ shares-numbered c.lend-pass.result c.try_subslice_as-made.new.pass
+    (if nothing then None else b)
     (part_at nothing start w.place) made.place c.in-Ok.ensures.place
     ∙ part-numbered nothing start b w.place in
     subst (λ (s : SlotView g.row.S-Item.Denot g.row.M.Denot).

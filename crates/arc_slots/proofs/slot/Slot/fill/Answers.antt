@@ -20,7 +20,8 @@ use Rattle.arc_slots.proofs.slot.Slot.fill.Goals as goal
 
 abbrev setting : (g : Over) → Setting g.row.S-Item.Denot
 setting g =
-    setting_of (layout_facts g.L.Layout) g.L.Writable.Layout.ANY g.L.Layout.clone_wants g.S.Slice.DROPS g.S.Subsliceable.boundary
+    setting_of (layout_facts g.L.Layout) g.L.Writable.Layout.ANY g.L.Layout.clone_wants
+    g.S.Slice.DROPS g.S.Subsliceable.boundary
     (type_size g.row.S-Item) g.S.Zero.ZeroOf.zero g.S.Calls.CallsOf.calls
 
 abbrev first : Over → ℕ
@@ -58,7 +59,8 @@ returns-in-Err g c next i =
     subst (λ ps. Answers (setting g) next (write_command i what) s ps
     (reply.Reserve e) (Some new) None after) c.reserve_for.ensures.items
     (unwritten-in (setting g) next s mid writes i what can room refl e new after
-    (subst (λ (r : Result (Unit {0}) TryReserveError). Fills (setting g).drops room (items_of what) s
+    (subst (λ (r : Result (Unit {0}) TryReserveError). Fills (setting g).drops room (items_of what)
+    s
     new mid after r) c.in-Err.is c.write.ensures))
 
 pub returns : goal.returns
@@ -72,9 +74,11 @@ returns g c next i =
     let room = room_of (setting g) (row_of s) k in
     let writes = sym c.is_written.ensures.answer ∙ c.if-not-is_written.false in
     let can = sym c.may_write.ensures ∙ c.if-not-may_write.false in
-    subst (λ ps. Answers (setting g) next (write_command i what) s ps reply.Ok (Some new) None after)
+    subst (λ ps. Answers (setting g) next (write_command i what) s ps reply.Ok (Some new) None
+    after)
     c.reserve_for.ensures.items
     (wrote-in (setting g) next s mid writes i what can room refl
     (fresh-stands g.S.Slice.DROPS (first g) (type_size g.row.S-Item) s k) new after
-    (subst (λ (r : Result (Unit {0}) TryReserveError). Fills (setting g).drops room (items_of what) s
+    (subst (λ (r : Result (Unit {0}) TryReserveError). Fills (setting g).drops room (items_of what)
+    s
     new mid after r) c.in_default.is c.write.ensures))

@@ -14,7 +14,8 @@ use Rattle.arc_slots.proofs.slot.Slot.freeze.Goals as goal
 
 abbrev setting : (g : Over) → Setting g.row.S-Item.Denot
 setting g =
-    setting_of (layout_facts g.L.Layout) g.L.Writable.Layout.ANY g.L.Layout.clone_wants g.S.Slice.DROPS g.S.Subsliceable.boundary
+    setting_of (layout_facts g.L.Layout) g.L.Writable.Layout.ANY g.L.Layout.clone_wants
+    g.S.Slice.DROPS g.S.Subsliceable.boundary
     (type_size g.row.S-Item) g.S.Zero.ZeroOf.zero g.S.Calls.CallsOf.calls
 
 pub returns-in-Ok : goal.returns-in-Ok
@@ -34,9 +35,11 @@ returns-in-Err g c next i =
     let after = c.try_freeze.new.passes.of_blocks.items in
     let passes = c.args.passes.now.of_blocks.items in
     let writes = sym c.is_writer.ensures ∙ c.if-not-is_writer.false in
-    subst (λ x. Answers (setting g) next (command.Freeze i) s passes reply.Refused (Some x) None after)
+    subst (λ x. Answers (setting g) next (command.Freeze i) s passes reply.Refused (Some x) None
+    after)
     (sym c.in-Err.ensures.back.0)
-    (subst (λ ps. Answers (setting g) next (command.Freeze i) s passes reply.Refused (Some s) None ps)
+    (subst (λ ps. Answers (setting g) next (command.Freeze i) s passes reply.Refused (Some s) None
+    ps)
     (sym (c.in-Err.ensures.back.1 ∙ c.reserve_for.ensures.items))
     (unfrozen (setting g) next s passes writes i c.in-Err.ensures.refused))
 
@@ -48,7 +51,8 @@ returns-then-is_err g c next i =
     let begins =
     an_error c.reserve_for.result (sym c.is_err.ensures.value ∙ c.if-is_err.true)
     c.reserve_for.ensures.refused in
-    subst (λ ps. Answers (setting g) next (command.Freeze i) s passes reply.Refused (Some s) None ps)
+    subst (λ ps. Answers (setting g) next (command.Freeze i) s passes reply.Refused (Some s) None
+    ps)
     (sym c.reserve_for.ensures.items)
     (unfrozen (setting g) next s passes writes i
     (refused-new (layout_move (layout_facts g.L.Layout) (row_of s).place)

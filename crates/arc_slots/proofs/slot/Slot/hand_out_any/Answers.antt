@@ -13,7 +13,8 @@ use Rattle.arc_slots.proofs.slot.Slot.hand_out_any.Goals as goal
 
 abbrev setting : (g : Over) → Setting g.row.S-Item.Denot
 setting g =
-    setting_of (layout_facts g.L.Layout) g.L.Writable.Layout.ANY g.L.Layout.clone_wants g.S.Slice.DROPS g.S.Subsliceable.boundary
+    setting_of (layout_facts g.L.Layout) g.L.Writable.Layout.ANY g.L.Layout.clone_wants
+    g.S.Slice.DROPS g.S.Subsliceable.boundary
     (type_size g.row.S-Item) g.S.Zero.ZeroOf.zero g.S.Calls.CallsOf.calls
 
 pub returns-in-Ok-clause-answer : goal.returns-in-Ok-clause-answer
@@ -40,7 +41,8 @@ returns-in-Err-try_part-clause-answer g c i =
     let ok = sym c.check_part.ensures.answer ∙ c.in_default.is in
     let after = c.try_part.new.passes.of_blocks.items in
     let e = c.in-Err-try_part.e in
-    subst (λ x. Answers (setting g) c.args.next (part_command i c.args.part) s passes (reply.Owner e)
+    subst (λ x. Answers (setting g) c.args.next (part_command i c.args.part) s passes
+    (reply.Owner e)
     (Some x) None after) (sym c.in-Err-try_part.ensures.kept)
     (part-refused (setting g) c.args.next s passes i c.requires after c.args.part for ok e
     c.in-Err-try_part.ensures.refused)

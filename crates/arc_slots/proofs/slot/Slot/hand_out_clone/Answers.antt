@@ -13,7 +13,8 @@ use Rattle.arc_slots.proofs.slot.Slot.hand_out_clone.Goals as goal
 
 abbrev setting : (g : Over) → Setting g.row.S-Item.Denot
 setting g =
-    setting_of (layout_facts g.L.Layout) g.L.Writable.Layout.ANY g.L.Layout.clone_wants g.S.Slice.DROPS g.S.Subsliceable.boundary
+    setting_of (layout_facts g.L.Layout) g.L.Writable.Layout.ANY g.L.Layout.clone_wants
+    g.S.Slice.DROPS g.S.Subsliceable.boundary
     (type_size g.row.S-Item) g.S.Zero.ZeroOf.zero g.S.Calls.CallsOf.calls
 
 pub returns-in-Ok-clause-answer : goal.returns-in-Ok-clause-answer
@@ -40,5 +41,6 @@ returns-in-Err-clause-answer g c i =
 
 pub returns-then-not-has_room-clause-answer : goal.returns-then-not-has_room-clause-answer
 returns-then-not-has_room-clause-answer g c i =
-    part-alloc (setting g) c.args.next c.args.self.now c.args.passes.now.of_blocks.items i part.Whole
+    part-alloc (setting g) c.args.next c.args.self.now c.args.passes.now.of_blocks.items i
+    part.Whole
     (ap (λ r. is_part_of r part.Whole) c.requires.reads) refl

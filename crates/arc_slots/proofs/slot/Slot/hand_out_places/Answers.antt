@@ -15,7 +15,8 @@ use Rattle.arc_slots.proofs.slot.Slot.hand_out_places.Goals as goal
 
 abbrev setting : (g : Over) → Setting g.row.S-Item.Denot
 setting g =
-    setting_of (layout_facts g.L.Layout) g.L.Writable.Layout.ANY g.L.Layout.clone_wants g.S.Slice.DROPS g.S.Subsliceable.boundary
+    setting_of (layout_facts g.L.Layout) g.L.Writable.Layout.ANY g.L.Layout.clone_wants
+    g.S.Slice.DROPS g.S.Subsliceable.boundary
     (type_size g.row.S-Item) g.S.Zero.ZeroOf.zero g.S.Calls.CallsOf.calls
 
 pub returns-then-is_err-clause-answer : goal.returns-then-is_err-clause-answer
@@ -47,7 +48,8 @@ returns-in-Ok-clause-answer g c i =
     c.requires.pass) after c.try_split_beside.new.self c.in-Ok.slot c.known_undropped.ensures
     c.in-Ok.ensures.made)
 
-pub returns-in-Err-try_split_beside-clause-answer : goal.returns-in-Err-try_split_beside-clause-answer
+pub returns-in-Err-try_split_beside-clause-answer :
+    goal.returns-in-Err-try_split_beside-clause-answer
 returns-in-Err-try_split_beside-clause-answer g c i =
     let s = c.args.self.now in
     let mid = c.reserve_for.new.self.of_blocks.items in

@@ -13,7 +13,8 @@ use Rattle.arc_slots.proofs.slot.Slot.hand_out_range.Goals as goal
 
 abbrev setting : (g : Over) → Setting g.row.S-Item.Denot
 setting g =
-    setting_of (layout_facts g.L.Layout) g.L.Writable.Layout.ANY g.L.Layout.clone_wants g.S.Slice.DROPS g.S.Subsliceable.boundary
+    setting_of (layout_facts g.L.Layout) g.L.Writable.Layout.ANY g.L.Layout.clone_wants
+    g.S.Slice.DROPS g.S.Subsliceable.boundary
     (type_size g.row.S-Item) g.S.Zero.ZeroOf.zero g.S.Calls.CallsOf.calls
 
 pub returns-in-Ok-clause-answer : goal.returns-in-Ok-clause-answer
@@ -21,8 +22,10 @@ returns-in-Ok-clause-answer g c i =
     let s = c.args.self.now in
     let passes = c.args.passes.now.of_blocks.items in
     let after = c.cut_read.new.passes.of_blocks.items in
-    beside (setting g) c.args.next s passes i c.requires.pass after (part.Range c.args.start c.args.end)
-    (ap (λ r. is_part_of r (part.Range c.args.start c.args.end)) c.requires.reads) (sym c.check_range.ensures.answer ∙ c.in_default.is) c.read.result s refl
+    beside (setting g) c.args.next s passes i c.requires.pass after
+    (part.Range c.args.start c.args.end)
+    (ap (λ r. is_part_of r (part.Range c.args.start c.args.end)) c.requires.reads)
+    (sym c.check_range.ensures.answer ∙ c.in_default.is) c.read.result s refl
     record {
       same_is = refl;
       made_is = ap row_of c.read.ensures ∙ c.in-Ok.ensures.row;
@@ -36,7 +39,9 @@ pub returns-in-Err-cut_read-clause-answer : goal.returns-in-Err-cut_read-clause-
 returns-in-Err-cut_read-clause-answer g c i =
     part-refused (setting g) c.args.next c.args.self.now c.args.passes.now.of_blocks.items i
     c.requires.pass c.cut_read.new.passes.of_blocks.items (part.Range c.args.start c.args.end)
-    (ap (λ r. is_part_of r (part.Range c.args.start c.args.end)) c.requires.reads) (sym c.check_range.ensures.answer ∙ c.in_default.is) c.in-Err-cut_read.e c.in-Err-cut_read.ensures.refused
+    (ap (λ r. is_part_of r (part.Range c.args.start c.args.end)) c.requires.reads)
+    (sym c.check_range.ensures.answer ∙ c.in_default.is) c.in-Err-cut_read.e
+    c.in-Err-cut_read.ensures.refused
 
 pub returns-then-not-has_room-clause-answer : goal.returns-then-not-has_room-clause-answer
 returns-then-not-has_room-clause-answer g c i =

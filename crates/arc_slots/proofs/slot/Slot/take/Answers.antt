@@ -45,5 +45,6 @@ returns-in-Ok-try_take_written g c next i =
     (sym c.in-Ok-try_take_written.ensures.reply)
     (took-sole (setting g) next s passes
     (sym c.is_written.ensures.answer ∙ c.if-not-is_written.false) i c.args.what
-    (sym c.for_writers.ensures ∙ c.if-not-for_writers.false) after c.in-Ok-try_take_written.ensures.taken
+    (sym c.for_writers.ensures ∙ c.if-not-for_writers.false) after
+    c.in-Ok-try_take_written.ensures.taken
     c.in-Ok-try_take_written.ensures.left)

@@ -19,7 +19,8 @@ pub returns-in-Ok : goal.returns-in-Ok
 returns-in-Ok g c next i =
     let s = c.args.self in
     let passes = c.args.passes.now.of_blocks.items in
-    subst (λ items. Answers (setting g) next (command.TakeStatic i) s passes (reply.Static items) None
+    subst (λ items. Answers (setting g) next (command.TakeStatic i) s passes (reply.Static items)
+    None
     None passes) (sym c.in-Ok.ensures.items)
     (taken (setting g) next s passes i (c.is_read.ensures.reads c.if-not-is_read.false)
     c.in-Ok.ensures.taken)

@@ -39,7 +39,8 @@ returns-in-Err-clause-refused g c =
     subst (λ (s : SlotView g.row.S-Item.Denot g.row.M.Denot).
     RefusesAt g.L.Layout.clone_wants (numbered s.block s.window.place)
     (stand_at s.block s.window.place) passes c.give_back.new.self.of_blocks.items e) c.self.view_is
-    (subst (λ ps. RefusesAt g.L.Layout.clone_wants (numbered b place) (stand_at b place) passes ps e)
+    (subst (λ ps. RefusesAt g.L.Layout.clone_wants (numbered b place) (stand_at b place) passes ps
+    e)
     (sym c.give_back.ensures)
     (refuses passes c.lend-pass.new.self.of_blocks.items c.lend-pass.result
     c.clone_window-made.new.pass g.L.Layout.clone_wants e b place c.self.invariant.0 has

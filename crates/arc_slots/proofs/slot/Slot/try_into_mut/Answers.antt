@@ -61,7 +61,8 @@ returns-in-Ok-clause-may g c =
     c.try_into_mut_as-asked.new.pass g.L.Writable.Layout.ANY b w.place r.fits r.has
     c.lend-pass.ensures.taken (length w.items) sole.1 in
     subst (λ (s : SlotView g.row.S-Item.Denot g.row.M.Denot).
-    may_write_at g.L.Writable.Layout.ANY true (row_of s).place (length s.window.items) ≡ true) r.view
+    may_write_at g.L.Writable.Layout.ANY true (row_of s).place (length s.window.items) ≡ true)
+    r.view
     all.1
 
 pub returns-in-Ok-clause-owner : goal.returns-in-Ok-clause-owner
@@ -113,7 +114,8 @@ returns-in-Err-clause-may_not g c =
     c.try_into_mut_as-asked.new.pass g.L.Writable.Layout.ANY b w.place r.fits r.has
     c.lend-pass.ensures.taken (length w.items) c.in-Err.ensures.refused.1 in
     subst (λ (s : SlotView g.row.S-Item.Denot g.row.M.Denot).
-    may_write_at g.L.Writable.Layout.ANY false (row_of s).place (length s.window.items) ≡ false) r.view
+    may_write_at g.L.Writable.Layout.ANY false (row_of s).place (length s.window.items) ≡ false)
+    r.view
     all.1
 
 pub returns-in-Ok-clause-row : goal.returns-in-Ok-clause-row

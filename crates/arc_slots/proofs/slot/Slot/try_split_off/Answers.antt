@@ -35,7 +35,8 @@ returns-then-at-eq0-clause-start g c =
     r.view
     (off-start g.L.Layout.STATIC passes c.lend-pass.new.self.of_blocks.items c.lend-pass.result
     c.try_split_off_as-made.new.pass after w b c.give_back.ensures r.fits r.has
-    c.lend-pass.ensures.taken c.args.at c.try_split_off_as-made.new.self c.in-Ok.window c.part_block-self-inside.result c.len.result
+    c.lend-pass.ensures.taken c.args.at c.try_split_off_as-made.new.self c.in-Ok.window
+    c.part_block-self-inside.result c.len.result
     c.in-Ok.ensures.ok c.len.ensures c.part_block-self-inside.ensures)
 
 pub returns-clause-later : goal.returns-clause-later
@@ -54,5 +55,6 @@ returns-clause-later g c =
     r.view
     (off-later g.L.Layout.STATIC passes c.lend-pass.new.self.of_blocks.items c.lend-pass.result
     c.try_split_off_as-made.new.pass after w b c.give_back.ensures r.fits r.has
-    c.lend-pass.ensures.taken c.args.at c.try_split_off_as-made.new.self c.in-Ok.window c.part_block-block.result c.len-2.result
+    c.lend-pass.ensures.taken c.args.at c.try_split_off_as-made.new.self c.in-Ok.window
+    c.part_block-block.result c.len-2.result
     c.in-Ok.ensures.ok c.len-2.ensures c.part_block-block.ensures)

@@ -36,7 +36,8 @@ returns-then-len-at-clause-end g c =
     r.view
     (to-end g.L.Layout.STATIC passes c.lend-pass.new.self.of_blocks.items c.lend-pass.result
     c.try_split_to_as-made.new.pass after w b c.give_back.ensures r.fits r.has
-    c.lend-pass.ensures.taken c.args.at c.in-Ok.window c.try_split_to_as-made.new.self c.part_block-self-inside.result c.len.result
+    c.lend-pass.ensures.taken c.args.at c.in-Ok.window c.try_split_to_as-made.new.self
+    c.part_block-self-inside.result c.len.result
     c.in-Ok.ensures.ok c.len.ensures c.part_block-self-inside.ensures)
 
 pub returns-clause-earlier : goal.returns-clause-earlier
@@ -52,9 +53,11 @@ returns-clause-earlier g c =
     let other = slot c.in-Ok.window c.part_block-block.result in
     subst (λ (s : SlotView g.row.S-Item.Denot g.row.M.Denot).
     c.args.at < length s.window.items → IsSplit s one other
-    (cut_row (row_of s) c.args.at (length s.window.items)) (to_part g.L.Layout.STATIC (row_of s) c.args.at) passes after)
+    (cut_row (row_of s) c.args.at (length s.window.items))
+    (to_part g.L.Layout.STATIC (row_of s) c.args.at) passes after)
     r.view
     (to-earlier g.L.Layout.STATIC passes c.lend-pass.new.self.of_blocks.items c.lend-pass.result
     c.try_split_to_as-made.new.pass after w b c.give_back.ensures r.fits r.has
-    c.lend-pass.ensures.taken c.args.at c.in-Ok.window c.try_split_to_as-made.new.self c.part_block-block.result c.len-2.result
+    c.lend-pass.ensures.taken c.args.at c.in-Ok.window c.try_split_to_as-made.new.self
+    c.part_block-block.result c.len-2.result
     c.in-Ok.ensures.ok c.len-2.ensures c.part_block-block.ensures)

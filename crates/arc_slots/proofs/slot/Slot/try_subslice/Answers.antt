@@ -39,7 +39,8 @@ invariant_of-result g c =
     c.part_block.ensures
     ∙ ap (λ n. if g.L.Layout.STATIC && (n == 0) then None else b) (sym long) in (
       ap (λ o. is_numbered o made.place) block
-          ∙ part-fits c.lend-pass.result c.cut_window-made.new.pass nothing start b w.place made.place
+          ∙ part-fits c.lend-pass.result c.cut_window-made.new.pass nothing start b w.place
+          made.place
           c.self.invariant.0 c.in-Ok.ensures.place,
       c.in-Ok.ensures.fits,
       c.in-Ok.ensures.shared,

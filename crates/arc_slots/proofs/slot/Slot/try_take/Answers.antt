@@ -23,7 +23,8 @@ seen : (g : Over) (c : After-into_parts g)
 seen g c =
     by-reader c.self.inside.block c.args.self c.into_parts.result c.in-Read.window
     c.into_parts.ensures.parts
-    (sym (reads-view g.S.Small.SmallOf.seen c.self.inside.window c.in-Read.window c.self.inside.block c.in-Read.is)
+    (sym (reads-view g.S.Small.SmallOf.seen c.self.inside.window c.in-Read.window
+    c.self.inside.block c.in-Read.is)
     ∙ c.self.view_is)
 
 fits : (g : Over) (c : After-into_parts g)
@@ -31,7 +32,8 @@ fits : (g : Over) (c : After-into_parts g)
 fits g c =
     fit-reader c.self.inside.block c.args.self c.into_parts.result c.in-Read.window
     c.into_parts.ensures.parts
-    (reads-fits g.S.Small.SmallOf.seen c.self.inside.window c.in-Read.window c.self.inside.block c.in-Read.is
+    (reads-fits g.S.Small.SmallOf.seen c.self.inside.window c.in-Read.window c.self.inside.block
+    c.in-Read.is
     c.self.invariant.0)
 
 pub try_into_reply-taken-requires-clause-pass : goal.try_into_reply-taken-requires-clause-pass

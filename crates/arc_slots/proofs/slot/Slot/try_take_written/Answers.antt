@@ -22,7 +22,8 @@ seen : (g : Over) (c : After-into_parts g)
 seen g c =
     by-writer c.self.inside.block c.args.self c.into_parts.result c.in-Write.window
     c.into_parts.ensures.parts
-    (sym (writes-view g.S.Small.SmallOf.seen c.self.inside.window c.in-Write.window c.self.inside.block c.in-Write.is)
+    (sym (writes-view g.S.Small.SmallOf.seen c.self.inside.window c.in-Write.window
+    c.self.inside.block c.in-Write.is)
     ∙ c.self.view_is)
 
 fits : (g : Over) (c : After-into_parts g)
@@ -30,21 +31,24 @@ fits : (g : Over) (c : After-into_parts g)
 fits g c =
     fit-writer c.self.inside.block c.args.self c.into_parts.result c.in-Write.window
     c.into_parts.ensures.parts
-    (writes-fits g.S.Small.SmallOf.seen c.self.inside.window c.in-Write.window c.self.inside.block c.in-Write.is
+    (writes-fits g.S.Small.SmallOf.seen c.self.inside.window c.in-Write.window c.self.inside.block
+    c.in-Write.is
     c.self.invariant.0)
 
 pub try_sole_into_reply-taken-requires-clause-pass :
     goal.try_sole_into_reply-taken-requires-clause-pass
 try_sole_into_reply-taken-requires-clause-pass g c =
     let a = (goal.at.try_sole_into_reply-taken-requires-clause-pass g c).After-into_parts in
-    parts-pass c.self.inside.block c.args.self c.in-Write.window.role c.into_parts.result (seen g a) (fits g a)
+    parts-pass c.self.inside.block c.args.self c.in-Write.window.role c.into_parts.result (seen g a)
+    (fits g a)
     c.args.passes.now.of_blocks.items c.lend-pass.new.self.of_blocks.items c.lend-pass.result
     c.requires.pass c.lend-pass.ensures.taken
 
 pub give_back-requires : goal.give_back-requires
 give_back-requires g c =
     let a = (goal.at.give_back-requires g c).After-into_parts in
-    parts-number c.self.inside.block c.args.self c.in-Write.window.role c.into_parts.result (seen g a) (fits g a)
+    parts-number c.self.inside.block c.args.self c.in-Write.window.role c.into_parts.result
+    (seen g a) (fits g a)
     c.args.passes.now.of_blocks.items c.lend-pass.new.self.of_blocks.items c.lend-pass.result
     c.requires.pass c.lend-pass.ensures.taken
 
@@ -84,7 +88,8 @@ returns-in-Err-clause-back g c =
     let drops = g.S.Slice.DROPS in (
       ap (λ (w : PartsView g.row.S-Item.Denot g.row.M.Denot). writer_slot w b)
           (c.from_parts.ensures ∙ c.in-Err.ensures.back ∙ c.into_parts.ensures.parts)
-          ∙ sym (writes-view g.S.Small.SmallOf.seen c.self.inside.window c.in-Write.window b c.in-Write.is)
+          ∙ sym (writes-view g.S.Small.SmallOf.seen c.self.inside.window c.in-Write.window b
+          c.in-Write.is)
           ∙ c.self.view_is,
       sole-back b c.args.self c.in-Write.window.role q (seen g a) (fits g a)
           c.args.passes.now.of_blocks.items c.lend-pass.new.self.of_blocks.items c.lend-pass.result

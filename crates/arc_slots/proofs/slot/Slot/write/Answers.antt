@@ -1,5 +1,6 @@
 -- What is written becomes the slot's, and a first block's pass one of the passes.
-use Rattle.std.proofs.Common.{refl, Some, ◌≡◌, ◌<◌, length, ℕ, if◌then◌else◌, ◌==◌, sym, ap, ◌∙◌, subst}
+use Rattle.std.proofs.Common.{refl, Some, ◌≡◌, ◌<◌, length, ℕ, if◌then◌else◌, ◌==◌, sym, ap, ◌∙◌}
+use Rattle.std.proofs.Common.{subst}
 use Rattle.std.specs.Mem.{type_size}
 use Rattle.std.specs.Vec.{vec_capacity}
 use Rattle.arc_parts.specs.Writers.{room}
@@ -25,7 +26,8 @@ keep-self-inside-requires-clause-number g c =
     still-number passes c.lend-pass.new.self.of_blocks.items c.lend-pass.result b w.place
     (writes-fits g.S.Small.SmallOf.seen h w b c.in-Write.is c.self.invariant.0)
     (subst (λ s. HasPassFor passes (stand_of (Some s)))
-    (sym (sym (writes-view g.S.Small.SmallOf.seen h w b c.in-Write.is) ∙ c.self.view_is)) c.requires.pass)
+    (sym (sym (writes-view g.S.Small.SmallOf.seen h w b c.in-Write.is) ∙ c.self.view_is))
+    c.requires.pass)
     c.lend-pass.ensures.taken
 
 pub give_back-requires : goal.give_back-requires
@@ -37,7 +39,8 @@ give_back-requires g c =
     still-number passes c.lend-pass.new.self.of_blocks.items c.lend-pass.result b w.place
     (writes-fits g.S.Small.SmallOf.seen h w b c.in-Write.is c.self.invariant.0)
     (subst (λ s. HasPassFor passes (stand_of (Some s)))
-    (sym (sym (writes-view g.S.Small.SmallOf.seen h w b c.in-Write.is) ∙ c.self.view_is)) c.requires.pass)
+    (sym (sym (writes-view g.S.Small.SmallOf.seen h w b c.in-Write.is) ∙ c.self.view_is))
+    c.requires.pass)
     c.lend-pass.ensures.taken
 
 -- whether a first block is wanted goes by how many items are written
@@ -53,9 +56,12 @@ pub keep-self-inside-requires-clause-room : goal.keep-self-inside-requires-claus
 keep-self-inside-requires-clause-room g c begins =
     let wants = c.wants_block-begins.ensures ∙ fresh-is g
     (goal.at.keep-self-inside-requires-clause-room g c).After-additional in
-    room-for-pass g.S.Small.SmallOf.seen c.self.inside.window c.in-Write.window c.self.inside.block c.in-Write.is
-    c.args.self.now c.self.view_is (c.self.invariant.0, c.self.invariant.1) g.S.Slice.DROPS (first g)
-    (type_size g.row.S-Item) (additional_of (seen_writing c.args.what)) (items_of (seen_writing c.args.what)) c.args.passes.now.of_blocks.items
+    room-for-pass g.S.Small.SmallOf.seen c.self.inside.window c.in-Write.window c.self.inside.block
+    c.in-Write.is
+    c.args.self.now c.self.view_is (c.self.invariant.0, c.self.invariant.1) g.S.Slice.DROPS
+    (first g)
+    (type_size g.row.S-Item) (additional_of (seen_writing c.args.what))
+    (items_of (seen_writing c.args.what)) c.args.passes.now.of_blocks.items
     c.lend-pass.new.self.of_blocks.items c.lend-pass.result
     c.write_as.new.pass c.lend-pass.ensures.taken (vec_capacity c.lend-pass.new.self.of_blocks)
     (λ fresh. subst (λ n. length c.args.passes.now.of_blocks.items < n)
@@ -66,9 +72,12 @@ invariant_of-self g c =
     let wants = c.wants_block-begins.ensures ∙ fresh-is g
     (goal.at.invariant_of-self g c).After-additional in
     let all =
-    slot-fills g.S.Small.SmallOf.seen c.self.inside.window c.in-Write.window c.self.inside.block c.in-Write.is
-    c.args.self.now c.self.view_is (c.self.invariant.0, c.self.invariant.1) g.S.Slice.DROPS (first g)
-    (type_size g.row.S-Item) (additional_of (seen_writing c.args.what)) (items_of (seen_writing c.args.what)) c.args.passes.now.of_blocks.items
+    slot-fills g.S.Small.SmallOf.seen c.self.inside.window c.in-Write.window c.self.inside.block
+    c.in-Write.is
+    c.args.self.now c.self.view_is (c.self.invariant.0, c.self.invariant.1) g.S.Slice.DROPS
+    (first g)
+    (type_size g.row.S-Item) (additional_of (seen_writing c.args.what))
+    (items_of (seen_writing c.args.what)) c.args.passes.now.of_blocks.items
     c.lend-pass.new.self.of_blocks.items c.lend-pass.result
     c.write_as.new.pass c.lend-pass.ensures.taken c.write_as.new.window c.keep-self-inside.result
     c.keep-self-inside.new.self.of_blocks.items c.in-Ok.ensures.written
@@ -80,9 +89,12 @@ pub returns-in-Ok : goal.returns-in-Ok
 returns-in-Ok g c =
     let wants = c.wants_block-begins.ensures ∙ fresh-is g
     (goal.at.returns-in-Ok g c).After-additional in
-    (slot-fills g.S.Small.SmallOf.seen c.self.inside.window c.in-Write.window c.self.inside.block c.in-Write.is
-    c.args.self.now c.self.view_is (c.self.invariant.0, c.self.invariant.1) g.S.Slice.DROPS (first g)
-    (type_size g.row.S-Item) (additional_of (seen_writing c.args.what)) (items_of (seen_writing c.args.what)) c.args.passes.now.of_blocks.items
+    (slot-fills g.S.Small.SmallOf.seen c.self.inside.window c.in-Write.window c.self.inside.block
+    c.in-Write.is
+    c.args.self.now c.self.view_is (c.self.invariant.0, c.self.invariant.1) g.S.Slice.DROPS
+    (first g)
+    (type_size g.row.S-Item) (additional_of (seen_writing c.args.what))
+    (items_of (seen_writing c.args.what)) c.args.passes.now.of_blocks.items
     c.lend-pass.new.self.of_blocks.items c.lend-pass.result
     c.write_as.new.pass c.lend-pass.ensures.taken c.write_as.new.window c.keep-self-inside.result
     c.keep-self-inside.new.self.of_blocks.items c.in-Ok.ensures.written
@@ -92,9 +104,12 @@ returns-in-Ok g c =
 pub invariant_of-self-in-Err : goal.invariant_of-self-in-Err
 invariant_of-self-in-Err g c =
     let all =
-    slot-unfilled g.S.Small.SmallOf.seen c.self.inside.window c.in-Write.window c.self.inside.block c.in-Write.is
-    c.args.self.now c.self.view_is (c.self.invariant.0, c.self.invariant.1) g.S.Slice.DROPS (first g)
-    (type_size g.row.S-Item) (additional_of (seen_writing c.args.what)) (items_of (seen_writing c.args.what)) c.args.passes.now.of_blocks.items
+    slot-unfilled g.S.Small.SmallOf.seen c.self.inside.window c.in-Write.window c.self.inside.block
+    c.in-Write.is
+    c.args.self.now c.self.view_is (c.self.invariant.0, c.self.invariant.1) g.S.Slice.DROPS
+    (first g)
+    (type_size g.row.S-Item) (additional_of (seen_writing c.args.what))
+    (items_of (seen_writing c.args.what)) c.args.passes.now.of_blocks.items
     c.lend-pass.new.self.of_blocks.items c.lend-pass.result
     c.write_as.new.pass c.lend-pass.ensures.taken c.in-Err.e c.write_as.new.window
     c.give_back.new.self.of_blocks.items c.in-Err.ensures.refused c.give_back.ensures in
@@ -102,9 +117,12 @@ invariant_of-self-in-Err g c =
 
 pub returns-in-Err : goal.returns-in-Err
 returns-in-Err g c =
-    (slot-unfilled g.S.Small.SmallOf.seen c.self.inside.window c.in-Write.window c.self.inside.block c.in-Write.is
-    c.args.self.now c.self.view_is (c.self.invariant.0, c.self.invariant.1) g.S.Slice.DROPS (first g)
-    (type_size g.row.S-Item) (additional_of (seen_writing c.args.what)) (items_of (seen_writing c.args.what)) c.args.passes.now.of_blocks.items
+    (slot-unfilled g.S.Small.SmallOf.seen c.self.inside.window c.in-Write.window c.self.inside.block
+    c.in-Write.is
+    c.args.self.now c.self.view_is (c.self.invariant.0, c.self.invariant.1) g.S.Slice.DROPS
+    (first g)
+    (type_size g.row.S-Item) (additional_of (seen_writing c.args.what))
+    (items_of (seen_writing c.args.what)) c.args.passes.now.of_blocks.items
     c.lend-pass.new.self.of_blocks.items c.lend-pass.result
     c.write_as.new.pass c.lend-pass.ensures.taken c.in-Err.e c.write_as.new.window
     c.give_back.new.self.of_blocks.items c.in-Err.ensures.refused c.give_back.ensures).0

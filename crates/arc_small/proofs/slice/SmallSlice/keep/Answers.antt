@@ -26,6 +26,7 @@ returns g c =
     let to = c.args.end in
     let range = subst (λ (v : Inlined). IsRange boundary v.items from to) (sym c.self.view_is)
     c.requires in
-    let long = inlined_long (inline_limit (layout_facts g.L.Layout)) s.bytes s.start s.end c.self.invariant.0 in
+    let long = inlined_long (inline_limit (layout_facts g.L.Layout)) s.bytes s.start s.end
+    c.self.invariant.0 in
     sym (sub-sub s.bytes s.start s.end from to (omega (arith, long, range.within)))
     ∙ ap (λ (v : Inlined). sub v.items from to) c.self.view_is

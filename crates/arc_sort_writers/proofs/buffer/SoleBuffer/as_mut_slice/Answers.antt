@@ -25,7 +25,8 @@ returns g c = (
         let kept = g.met.B.BufferMut.keeps_part b start w in
         (lent_held g.B.Buffer.list g.B.Buffer.places g.S.Slice.DROPS g.H.Mark.whole
         (sole_in c.self.inside.count) (sole_value c.self.inside.count) start c.self.inside.end
-        c.args.self.now c.self.view_is c.self.invariant c.get_mut.result.now c.get_mut.ensures.value b
+        c.args.self.now c.self.view_is c.self.invariant c.get_mut.result.now c.get_mut.ensures.value
+        b
         (g.B.BufferMut.with_part b start w) c.buffer_mut.ensures.value w kept.0 kept.1).0,
   ),
   record {

@@ -15,7 +15,8 @@ returns g c =
     let drops = g.S.Slice.DROPS in let start = c.self.inside.start in
     let o = sole_in c.self.inside.count in
     let now = record held { buffer = put.new.buffer } in
-    ap (λ n. block_part drops (held_in {A = g.row.A.Denot} list places drops o (Buffer now)) start n)
+    ap (λ n. block_part drops (held_in {A = g.row.A.Denot} list places drops o (Buffer now)) start
+    n)
     put.ensures.next
     ∙ pushed_seen list places drops g.H.Mark.whole o (sole_value c.self.inside.count) held
     (sym c.get_mut.ensures.value ∙ c.in-Buffer.is) start

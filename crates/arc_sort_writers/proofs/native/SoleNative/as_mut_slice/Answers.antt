@@ -19,7 +19,8 @@ returns g c =
       record {
         writes_back = tt;
         value = c.as_mut_part.ensures.value
-            ∙ slice_native drops whole owner m start behind beyond c.end_in-end.result c.args.self.now
+            ∙ slice_native drops whole owner m start behind beyond c.end_in-end.result
+            c.args.self.now
             c.self.view_is c.self.invariant.0 c.end_in-end.ensures;
       },
     )

@@ -10,5 +10,6 @@ returns g c =
     let start = c.self.inside.start in let end = c.end_in-end.result in
     ap (λ xs. take (end - start) (drop start xs)) c.as_slice.ensures
     ∙ slice_native g.S.Slice.DROPS g.H.Mark.whole (option_map count_owner c.self.inside.count)
-    c.self.inside.memory start c.self.inside.behind c.self.inside.beyond end c.args.self.now c.self.view_is
+    c.self.inside.memory start c.self.inside.behind c.self.inside.beyond end c.args.self.now
+    c.self.view_is
     c.self.invariant.0 c.end_in-end.ensures

@@ -13,9 +13,11 @@ returns-in-Some g c =
     let start = c.self.inside.start in let behind = c.self.inside.behind in
     let end = length m.places.vec.items - behind in
     c.over.ensures
-    ∙ frozen_native drops (count_owner c.in-Some.count) m start behind c.self.inside.beyond c.end_in.result
+    ∙ frozen_native drops (count_owner c.in-Some.count) m start behind c.self.inside.beyond
+    c.end_in.result
     c.start-first.result c.of_sole.result c.args.self
-    (ap (λ n. with_fewer c.self.inside.beyond (sole_native drops (option_map count_owner n) m start end))
+    (ap (λ n. with_fewer c.self.inside.beyond (sole_native drops (option_map count_owner n) m start
+    end))
     (sym c.in-Some.is)
     ∙ c.self.view_is)
     c.of_sole.ensures c.start-first.ensures c.end_in.ensures

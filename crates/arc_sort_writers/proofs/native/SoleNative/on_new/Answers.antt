@@ -18,7 +18,8 @@ returns g c =
           (first + length xs) (first + 0) xs (length xs - 0) (omega (arith, begins)) (omega arith)
           (omega (arith, begins)))
           ∙ as-many 0 xs (on_block (Some o) 0
-          (memory_info native g.S.Slice.DROPS m.places.under.whole (length xs))) m.places.under.whole
+          (memory_info native g.S.Slice.DROPS m.places.under.whole (length xs)))
+          m.places.under.whole
           refl;
       first = c.new-count.ensures.first;
       pass = c.new-count.ensures.pass;

@@ -9,6 +9,7 @@ pub returns : goal.returns
 returns g c =
     let m = c.self.inside.memory in let w = c.push_reserved.new.self in
     push_native g.S.Slice.DROPS g.H.Mark.whole (option_map count_owner c.self.inside.count) m w
-    c.self.inside.start c.self.inside.behind c.self.inside.beyond (c.args.item ∷ []) c.args.self.now c.self.view_is
+    c.self.inside.start c.self.inside.behind c.self.inside.beyond (c.args.item ∷ []) c.args.self.now
+    c.self.view_is
     c.self.invariant.0 c.push_reserved.ensures.items
     c.push_reserved.ensures.memory.whole c.push_reserved.ensures.memory.start c.requires

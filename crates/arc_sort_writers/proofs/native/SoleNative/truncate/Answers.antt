@@ -9,7 +9,8 @@ use Rattle.arc_sort_writers.proofs.native.SoleNative.truncate.Goals as goal
 pub returns-then-DROPS : goal.returns-then-DROPS
 returns-then-DROPS g c =
     let in_self = c.self.inside in let owner = option_map count_owner in_self.count in
-    let long = long_native g.S.Slice.DROPS g.H.Mark.whole owner in_self.memory in_self.start in_self.behind
+    let long = long_native g.S.Slice.DROPS g.H.Mark.whole owner in_self.memory in_self.start
+    in_self.behind
     in_self.beyond c.args.self.now c.self.view_is c.self.invariant.0 in
     let there = c.in-Some.ensures in
     let short : c.args.len < length c.args.self.now.items = omega (
@@ -34,7 +35,8 @@ returns-then-DROPS g c =
 pub returns-else-DROPS : goal.returns-else-DROPS
 returns-else-DROPS g c =
     let in_self = c.self.inside in let owner = option_map count_owner in_self.count in
-    let long = long_native g.S.Slice.DROPS g.H.Mark.whole owner in_self.memory in_self.start in_self.behind
+    let long = long_native g.S.Slice.DROPS g.H.Mark.whole owner in_self.memory in_self.start
+    in_self.behind
     in_self.beyond c.args.self.now c.self.view_is c.self.invariant.0 in
     let there = c.in-Some.ensures in
     let short : c.args.len < length c.args.self.now.items = omega (

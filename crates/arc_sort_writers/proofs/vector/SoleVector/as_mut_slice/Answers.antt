@@ -6,11 +6,17 @@ use Rattle.arc_sort_writers.proofs.vector.SoleVector.as_mut_slice.Goals as goal
 
 pub returns : goal.returns
 returns g c =
-    let drops = g.S.Slice.DROPS in let whole = g.H.Mark.whole in let owner = sole_in c.self.inside.count in
+    let drops = g.S.Slice.DROPS in let whole = g.H.Mark.whole in
+    let owner = sole_in c.self.inside.count in
     let v = c.self.inside.items in let start = c.self.inside.start in let end = c.self.inside.end in (
-      (refl, λ ws. lent_seen drops whole owner v start end ws c.args.self.now c.self.view_is c.self.invariant),
+      (
+        refl,
+        λ ws. lent_seen drops whole owner v start end ws c.args.self.now c.self.view_is
+            c.self.invariant,
+      ),
       record {
         writes_back = tt;
-        value = c.slice_mut.ensures.value ∙ slice_seen drops whole owner v start end c.args.self.now c.self.view_is c.self.invariant;
+        value = c.slice_mut.ensures.value ∙ slice_seen drops whole owner v start end c.args.self.now
+            c.self.view_is c.self.invariant;
       },
     )

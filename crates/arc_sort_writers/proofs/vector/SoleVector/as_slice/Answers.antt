@@ -8,4 +8,5 @@ pub returns : goal.returns
 returns g c =
     let start = c.self.inside.start in let end = c.self.inside.end in
     ap (λ xs. take (end - start) (drop start xs)) c.as_slice.ensures.value
-    ∙ slice_seen g.S.Slice.DROPS g.H.Mark.whole (sole_in c.self.inside.count) c.self.inside.items start end c.args.self.now c.self.view_is c.self.invariant
+    ∙ slice_seen g.S.Slice.DROPS g.H.Mark.whole (sole_in c.self.inside.count) c.self.inside.items
+    start end c.args.self.now c.self.view_is c.self.invariant

@@ -11,14 +11,18 @@ use Rattle.arc_sort_writers.proofs.vector.SoleVector.extend_reserved.Goals as go
 
 pub returns-then-is_empty : goal.returns-then-is_empty
 returns-then-is_empty g c =
-    let none = nil_from_length c.args.items.now (eqb-true (length c.args.items.now) 0 (sym c.is_empty.ensures ∙ c.if-is_empty.true)) in
+    let none = nil_from_length c.args.items.now
+    (eqb-true (length c.args.items.now) 0 (sym c.is_empty.ensures ∙ c.if-is_empty.true)) in
     nothing_more c.args.self.now ∙ ap (λ xs. with_more xs c.args.self.now) (sym none)
 
 pub returns : goal.returns
 returns g c =
     let was = c.replace-vec.ensures.value in
-    push_seen g.S.Slice.DROPS g.H.Mark.whole (sole_in c.self.inside.count) c.self.inside.items c.with_all.result
-    c.self.inside.start c.self.inside.end c.args.items.now c.args.self.now c.self.view_is c.self.invariant
-    (c.with_all.ensures.items ∙ ap (λ (v : Vec g.row.S-Item.Denot g.row.A.Denot). v.items ++ c.args.items.now) was)
+    push_seen g.S.Slice.DROPS g.H.Mark.whole (sole_in c.self.inside.count) c.self.inside.items
+    c.with_all.result
+    c.self.inside.start c.self.inside.end c.args.items.now c.args.self.now c.self.view_is
+    c.self.invariant
+    (c.with_all.ensures.items
+    ∙ ap (λ (v : Vec g.row.S-Item.Denot g.row.A.Denot). v.items ++ c.args.items.now) was)
     (c.with_all.ensures.capacity ∙ ap vec_capacity was) c.requires
     (some_from_test (length c.args.items.now) (sym c.is_empty.ensures ∙ c.if-is_empty.false))

@@ -20,11 +20,13 @@ use Rattle.arc_table.proofs.table.Table.answer_any.Goals as goal
 
 abbrev setting : (g : Over) → Setting g.row.S-Item.Denot
 setting g =
-    setting_of (layout_facts g.L.Layout) g.L.Writable.Layout.ANY g.L.Layout.clone_wants g.S.Slice.DROPS g.S.Subsliceable.boundary
+    setting_of (layout_facts g.L.Layout) g.L.Writable.Layout.ANY g.L.Layout.clone_wants
+    g.S.Slice.DROPS g.S.Subsliceable.boundary
     (type_size g.row.S-Item) g.S.Zero.ZeroOf.zero g.S.Calls.CallsOf.calls
 
 on_none : (g : Over) (c : After-push_made g)
-    → window_of (map_command g.S.Commands.items_in g.S.Commands.static_in g.B.Buffer.list c.args.command) ≡ None
+    → window_of (map_command g.S.Commands.items_in g.S.Commands.static_in g.B.Buffer.list
+    c.args.command) ≡ None
 on_none g c =
     window-seen g.S.Commands.items_in g.S.Commands.static_in g.B.Buffer.list c.args.command
     ∙ sym c.window.ensures ∙ c.in_default.is
@@ -46,7 +48,8 @@ did g c =
     same-parts mid.index.items s.index.items mid.numbers.items s.numbers.items mid.places.items
     s.places.items kept.index kept.numbers kept.places in
     let after = c.make-reply.new.passes.of_blocks.items in
-    let command = map_command g.S.Commands.items_in g.S.Commands.static_in g.B.Buffer.list c.args.command in
+    let command = map_command g.S.Commands.items_in g.S.Commands.static_in g.B.Buffer.list
+    c.args.command in
     let reply = seen_reply g.S.Commands.items_in g.S.Commands.items_in_box g.B.Buffer.list
     c.make-reply.result.0 in
     let next =

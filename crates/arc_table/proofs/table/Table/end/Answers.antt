@@ -15,7 +15,8 @@ end_slots-requires g c =
     (sym c.self.view_is)
     c.release_all.ensures.passes.none_left in
     places-gone c.self.inside.slots.index.items c.self.inside.slots.numbers.items
-    c.self.inside.slots.places.items c.self.invariant.1 (slots-gone (windows_of c.self.inside.slots.index.items c.self.inside.slots.numbers.items
+    c.self.inside.slots.places.items c.self.invariant.1
+    (slots-gone (windows_of c.self.inside.slots.index.items c.self.inside.slots.numbers.items
     c.self.inside.slots.places.items) none)
 
 pub returns-clause-ended : goal.returns-clause-ended
@@ -24,9 +25,11 @@ returns-clause-ended g c =
     subst (λ (o : State g.row.S-Item.Denot g.row.M.Denot). (i : ℕ) → row_at o.table i ≡ None)
     (sym c.self.view_is)
     c.release_all.ensures.passes.none_left in
-    kept-gone-all MAX_OWNERS (windows_of c.self.inside.slots.index.items c.self.inside.slots.numbers.items
+    kept-gone-all MAX_OWNERS (windows_of c.self.inside.slots.index.items
+    c.self.inside.slots.numbers.items
     c.self.inside.slots.places.items) c.self.inside.passes.of_blocks.items
-    c.self.invariant.0.0 (slots-gone (windows_of c.self.inside.slots.index.items c.self.inside.slots.numbers.items
+    c.self.invariant.0.0
+    (slots-gone (windows_of c.self.inside.slots.index.items c.self.inside.slots.numbers.items
     c.self.inside.slots.places.items) none)
 
 pub returns-clause-passes : goal.returns-clause-passes

@@ -1,5 +1,5 @@
--- Both windows are found under their numbers; the joined one is put back, and the other one's place is
--- settled.
+-- Both windows are found under their numbers; the joined one is put back, and the other one's place
+-- is settled.
 use Rattle.arc_block.specs.LayoutFacts.{layout_facts}
 use Rattle.std.specs.Mem.{type_size}
 use Rattle.std.proofs.Common.{◌≡◌, ◌<◌, ℕ, Bool, true, false, ◌==◌, List, Option, None, Some}
@@ -22,8 +22,8 @@ use Rattle.arc_slots.specs.Slots.{SlotView, stand_of, state_of}
 use Rattle.arc_slots.specs.Stands.{HasPassFor}
 use Rattle.arc_slots.proofs.Index.{same-indexed, same-parts, set-indexed, set-window, window-there}
 use Rattle.arc_table.proofs.Done.{Done}
-use Rattle.arc_table.proofs.Stepped.{apart-test, at-place, joined-itself, known, paired-at, set-swap}
-use Rattle.arc_table.proofs.Stepped.{stands-there, unjoined}
+use Rattle.arc_table.proofs.Stepped.{apart-test, at-place, joined-itself, known, paired-at}
+use Rattle.arc_table.proofs.Stepped.{set-swap, stands-there, unjoined}
 use Rattle.arc_table.proofs.table.Table.join.Given.{Over}
 use Rattle.arc_table.proofs.table.Table.join.Goals.{After-index_mut-2, After-index_mut-window}
 use Rattle.arc_table.proofs.table.Table.join.Goals.{After-settle}
@@ -31,7 +31,8 @@ use Rattle.arc_table.proofs.table.Table.join.Goals as goal
 
 abbrev setting : (g : Over) → Setting g.row.S-Item.Denot
 setting g =
-    setting_of (layout_facts g.L.Layout) g.L.Writable.Layout.ANY g.L.Layout.clone_wants g.S.Slice.DROPS g.S.Subsliceable.boundary
+    setting_of (layout_facts g.L.Layout) g.L.Writable.Layout.ANY g.L.Layout.clone_wants
+    g.S.Slice.DROPS g.S.Subsliceable.boundary
     (type_size g.row.S-Item) g.S.Zero.ZeroOf.zero g.S.Calls.CallsOf.calls
 
 -- ---- one of the two isn't there, or both are one
@@ -61,7 +62,8 @@ returns-then-i-j-clause-rows g c =
     let one =
     stands-there (slice_get s.places.items c.in-Some.here) c.in-Some.ensures.there in
     let other =
-    stands-there (slice_get s.places.items c.in-Some-place_of.there) c.in-Some-place_of.ensures.there in
+    stands-there (slice_get s.places.items c.in-Some-place_of.there)
+    c.in-Some-place_of.ensures.there in
     subst (λ (o : State g.row.S-Item.Denot g.row.M.Denot).
     Step (setting g) o.table (command.Join c.args.i c.args.j) reply.Kind o.table) c.self.view_is
     (joined-itself (setting g) ws c.self.inside.passes.of_blocks.items c.self.invariant.0 c.args.i

@@ -24,7 +24,8 @@ use Rattle.arc_table.proofs.table.Table.on_window.Goals as goal
 
 abbrev setting : (g : Over) → Setting g.row.S-Item.Denot
 setting g =
-    setting_of (layout_facts g.L.Layout) g.L.Writable.Layout.ANY g.L.Layout.clone_wants g.S.Slice.DROPS g.S.Subsliceable.boundary
+    setting_of (layout_facts g.L.Layout) g.L.Writable.Layout.ANY g.L.Layout.clone_wants
+    g.S.Slice.DROPS g.S.Subsliceable.boundary
     (type_size g.row.S-Item) g.S.Zero.ZeroOf.zero g.S.Calls.CallsOf.calls
 
 pub place_of-requires : goal.place_of-requires
@@ -61,7 +62,8 @@ did g c =
     let passes = c.self.inside.passes.of_blocks.items in
     let i = c.args.i in
     let after = c.answer-reply.new.passes.of_blocks.items in
-    let command = map_command g.S.Commands.items_in g.S.Commands.static_in g.B.Buffer.list c.args.command in
+    let command = map_command g.S.Commands.items_in g.S.Commands.static_in g.B.Buffer.list
+    c.args.command in
     let reply = seen_reply g.S.Commands.items_in g.S.Commands.items_in_box g.B.Buffer.list
     c.answer-reply.result.0 in
     let new = c.answer-reply.new.place in
@@ -86,8 +88,12 @@ did g c =
     c.requires.one reply new made after
     (subst (λ n. IfSome old (λ s. Answers (setting g) n command s passes reply new made after))
     next c.answer-reply.ensures.there)
-    (λ none. let so = c.answer-reply.ensures.none none in
-    (ap (seen_reply g.S.Commands.items_in g.S.Commands.items_in_box g.B.Buffer.list) so.0, so.1, so.2, so.3))))
+    (λ none. let so = c.answer-reply.ensures.none none in (
+      ap (seen_reply g.S.Commands.items_in g.S.Commands.items_in_box g.B.Buffer.list) so.0,
+      so.1,
+      so.2,
+      so.3,
+    ))))
 
 pub answer-reply-requires-clause-pass : goal.answer-reply-requires-clause-pass
 answer-reply-requires-clause-pass g c =
@@ -159,7 +165,8 @@ returns-clause-passes g c = (did g (goal.at.returns-clause-passes g c).After-set
 -- no window has the number
 none : (g : Over) (c : In_default g)
     → Done (setting g) c.args.self.now
-    (map_command g.S.Commands.items_in g.S.Commands.static_in g.B.Buffer.list c.args.command) reply.NoWindow
+    (map_command g.S.Commands.items_in g.S.Commands.static_in g.B.Buffer.list c.args.command)
+    reply.NoWindow
     (windows_of c.room_if-has_room.new.self.index.items
     c.room_if-has_room.new.self.numbers.items c.room_if-has_room.new.self.places.items)
     c.self.inside.passes.of_blocks.items
@@ -172,7 +179,8 @@ none g c =
     let same =
     same-parts mid.index.items s.index.items mid.numbers.items s.numbers.items mid.places.items
     s.places.items kept.index kept.numbers kept.places in
-    let command = map_command g.S.Commands.items_in g.S.Commands.static_in g.B.Buffer.list c.args.command in
+    let command = map_command g.S.Commands.items_in g.S.Commands.static_in g.B.Buffer.list
+    c.args.command in
     subst (λ (o : State g.row.S-Item.Denot g.row.M.Denot). Done (setting g) o command reply.NoWindow
     (windows_of mid.index.items mid.numbers.items mid.places.items) passes) c.self.view_is
     (subst (λ ss. Done (setting g) (state_of slots passes) command reply.NoWindow ss passes)

@@ -24,7 +24,8 @@ use Rattle.arc_table.proofs.table.Table.release.Goals as goal
 
 abbrev setting : (g : Over) → Setting g.row.S-Item.Denot
 setting g =
-    setting_of (layout_facts g.L.Layout) g.L.Writable.Layout.ANY g.L.Layout.clone_wants g.S.Slice.DROPS g.S.Subsliceable.boundary
+    setting_of (layout_facts g.L.Layout) g.L.Writable.Layout.ANY g.L.Layout.clone_wants
+    g.S.Slice.DROPS g.S.Subsliceable.boundary
     (type_size g.row.S-Item) g.S.Zero.ZeroOf.zero g.S.Calls.CallsOf.calls
 
 did : (g : Over) (c : After-settle g)
@@ -52,7 +53,8 @@ did g c =
     ∙ set-window s.index.items s.numbers.items s.places.items i c.in-Some.place
     c.in-Some.ensures.told c.in-Some.ensures.whose old stands new in
     let after = c.drop_at.new.passes.of_blocks.items in
-    subst (λ (o : State g.row.S-Item.Denot g.row.M.Denot). Done (setting g) o (command.Drop i) reply.Ok
+    subst (λ (o : State g.row.S-Item.Denot g.row.M.Denot). Done (setting g) o (command.Drop i)
+    reply.Ok
     (windows_of end.index.items end.numbers.items end.places.items) after) c.self.view_is
     (subst (λ ss. Done (setting g) (state_of slots passes) (command.Drop i) reply.Ok ss after)
     (sym ends)
@@ -174,7 +176,8 @@ returns-in_default-clause-rows g c =
 pub returns-in_default-clause-passes : goal.returns-in_default-clause-passes
 returns-in_default-clause-passes g c =
     subst (λ (o : State g.row.S-Item.Denot g.row.M.Denot).
-    Adds (setting g) o.table o.standing (command.Drop c.args.i) reply.NoWindow o.standing) c.self.view_is
+    Adds (setting g) o.table o.standing (command.Drop c.args.i) reply.NoWindow o.standing)
+    c.self.view_is
     (none g (goal.at.returns-in_default-clause-passes g c).In_default).passes_are
 
 pub returns-in_default-clause-gone : goal.returns-in_default-clause-gone
@@ -184,4 +187,5 @@ returns-in_default-clause-gone g c =
     subst (λ (o : State g.row.S-Item.Denot g.row.M.Denot). o.table.rows
     ≡ slice_set o.table.rows c.args.i None) c.self.view_is
     (sym (sym (gone-rows slots c.args.i None refl)
-    ∙ ap (map (option_map row_of)) (unset slots c.args.i (c.place_of.ensures.none c.in_default.is))))
+    ∙ ap (map (option_map row_of))
+    (unset slots c.args.i (c.place_of.ensures.none c.in_default.is))))

@@ -32,7 +32,8 @@ loop-i-init g c = record {
 pub loop-i-preserved : goal.loop-i-preserved
 loop-i-preserved g c =
     let setting : Setting g.row.S-Item.Denot =
-    setting_of (layout_facts g.L.Layout) g.L.Writable.Layout.ANY g.L.Layout.clone_wants g.S.Slice.DROPS
+    setting_of (layout_facts g.L.Layout) g.L.Writable.Layout.ANY g.L.Layout.clone_wants
+    g.S.Slice.DROPS
     g.S.Subsliceable.boundary (type_size g.row.S-Item)
     g.S.Zero.ZeroOf.zero g.S.Calls.CallsOf.calls in
     let old = c.loop-i.self in
@@ -56,7 +57,8 @@ loop-i-preserved g c =
 pub returns-clause-passes : goal.returns-clause-passes
 returns-clause-passes g c =
     let setting : Setting g.row.S-Item.Denot =
-    setting_of (layout_facts g.L.Layout) g.L.Writable.Layout.ANY g.L.Layout.clone_wants g.S.Slice.DROPS
+    setting_of (layout_facts g.L.Layout) g.L.Writable.Layout.ANY g.L.Layout.clone_wants
+    g.S.Slice.DROPS
     g.S.Subsliceable.boundary (type_size g.row.S-Item)
     g.S.Zero.ZeroOf.zero g.S.Calls.CallsOf.calls in
     let old = c.args.self.now in

@@ -16,7 +16,8 @@ invariant-loop-i g l = record {
   blocks : l.self.table.blocks ≡ l.fn.self.table.blocks;
   passes :
       (replies : List (ListReply g.row.S-Item.Denot g.row.M.Denot))
-      × RunOf (CarriesOut (setting_of (layout_facts g.L.Layout) g.L.Writable.Layout.ANY g.L.Layout.clone_wants g.S.Slice.DROPS
+      × RunOf (CarriesOut (setting_of (layout_facts g.L.Layout) g.L.Writable.Layout.ANY
+      g.L.Layout.clone_wants g.S.Slice.DROPS
       g.S.Subsliceable.boundary (type_size g.row.S-Item)
       g.S.Zero.ZeroOf.zero g.S.Calls.CallsOf.calls)) l.fn.self (drops l.i) replies l.self;
 }

@@ -15,7 +15,8 @@ use Rattle.arc_table.proofs.table.Table.run.Goals as goal
 pub loop-command-preserved : goal.loop-command-preserved
 loop-command-preserved g c =
     let setting : Setting g.row.S-Item.Denot =
-    setting_of (layout_facts g.L.Layout) g.L.Writable.Layout.ANY g.L.Layout.clone_wants g.S.Slice.DROPS
+    setting_of (layout_facts g.L.Layout) g.L.Writable.Layout.ANY g.L.Layout.clone_wants
+    g.S.Slice.DROPS
     g.S.Subsliceable.boundary (type_size g.row.S-Item)
     g.S.Zero.ZeroOf.zero g.S.Calls.CallsOf.calls in
     let said_by = map_command g.S.Commands.items_in g.S.Commands.static_in g.B.Buffer.list in
@@ -29,9 +30,13 @@ loop-command-preserved g c =
       left = omega (arith, said.left, c.in-Some.ensures.steps.1, ap length next);
       run =
           subst (λ rs. RunOf (CarriesOut setting) c.args.self.now
-          (map said_by (at.yielded ++ command ∷ [])) (map (seen_reply g.S.Commands.items_in g.S.Commands.items_in_box g.B.Buffer.list) rs) c.step.new.self)
+          (map said_by (at.yielded ++ command ∷ []))
+          (map (seen_reply g.S.Commands.items_in g.S.Commands.items_in_box g.B.Buffer.list) rs)
+          c.step.new.self)
           (sym c.push_reserved.ensures.items)
-          (run_push_seen (CarriesOut setting) said_by (seen_reply g.S.Commands.items_in g.S.Commands.items_in_box g.B.Buffer.list) c.args.self.now at.yielded
+          (run_push_seen (CarriesOut setting) said_by
+          (seen_reply g.S.Commands.items_in g.S.Commands.items_in_box g.B.Buffer.list)
+          c.args.self.now at.yielded
           at.replies.items at.self command c.step.result c.step.new.self said.run c.step.ensures);
       many =
           omega (arith, said.many, c.in-Some.ensures.steps.1, c.push_reserved.ensures.len);
@@ -41,7 +46,8 @@ loop-command-preserved g c =
 pub returns-clause-run : goal.returns-clause-run
 returns-clause-run g c =
     let setting : Setting g.row.S-Item.Denot =
-    setting_of (layout_facts g.L.Layout) g.L.Writable.Layout.ANY g.L.Layout.clone_wants g.S.Slice.DROPS
+    setting_of (layout_facts g.L.Layout) g.L.Writable.Layout.ANY g.L.Layout.clone_wants
+    g.S.Slice.DROPS
     g.S.Subsliceable.boundary (type_size g.row.S-Item)
     g.S.Zero.ZeroOf.zero g.S.Calls.CallsOf.calls in
     let said_by = map_command g.S.Commands.items_in g.S.Commands.static_in g.B.Buffer.list in
@@ -53,4 +59,5 @@ returns-clause-run g c =
     let all : at.yielded ≡ c.args.commands.items =
     sym (append-nil at.yielded) ∙ rw none at said.commands in
     subst (λ cs. RunOf (CarriesOut setting) c.args.self.now (map said_by cs)
-    (map (seen_reply g.S.Commands.items_in g.S.Commands.items_in_box g.B.Buffer.list) at.replies.items) at.self) all said.run
+    (map (seen_reply g.S.Commands.items_in g.S.Commands.items_in_box g.B.Buffer.list)
+    at.replies.items) at.self) all said.run

@@ -15,11 +15,13 @@ invariant-loop-command g l = record {
   commands : l.yielded ++ into_iter_items l.command-iterator ≡ l.fn.commands.items;
   left : into_iter_len l.command-iterator ≡ length (into_iter_items l.command-iterator);
   run :
-      RunOf (CarriesOut (setting_of (layout_facts g.L.Layout) g.L.Writable.Layout.ANY g.L.Layout.clone_wants g.S.Slice.DROPS
+      RunOf (CarriesOut (setting_of (layout_facts g.L.Layout) g.L.Writable.Layout.ANY
+      g.L.Layout.clone_wants g.S.Slice.DROPS
       g.S.Subsliceable.boundary (type_size g.row.S-Item)
       g.S.Zero.ZeroOf.zero g.S.Calls.CallsOf.calls)) l.fn.self
       (map (map_command g.S.Commands.items_in g.S.Commands.static_in g.B.Buffer.list) l.yielded)
-      (map (seen_reply g.S.Commands.items_in g.S.Commands.items_in_box g.B.Buffer.list) l.replies.items) l.self;
+      (map (seen_reply g.S.Commands.items_in g.S.Commands.items_in_box g.B.Buffer.list)
+      l.replies.items) l.self;
   many : vec_len l.replies + into_iter_len l.command-iterator ≡ vec_len l.fn.commands;
   room : vec_len l.fn.commands ≤ vec_capacity l.replies;
 }

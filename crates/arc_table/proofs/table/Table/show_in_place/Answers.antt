@@ -17,7 +17,8 @@ use Rattle.arc_table.proofs.table.Table.show_in_place.Goals as goal
 
 abbrev setting : (g : Over) → Setting g.row.S-Item.Denot
 setting g =
-    setting_of (layout_facts g.L.Layout) g.L.Writable.Layout.ANY g.L.Layout.clone_wants g.S.Slice.DROPS g.S.Subsliceable.boundary
+    setting_of (layout_facts g.L.Layout) g.L.Writable.Layout.ANY g.L.Layout.clone_wants
+    g.S.Slice.DROPS g.S.Subsliceable.boundary
     (type_size g.row.S-Item) g.S.Zero.ZeroOf.zero g.S.Calls.CallsOf.calls
 
 pub returns-else-not-copies-clause-carried : goal.returns-else-not-copies-clause-carried
@@ -39,7 +40,8 @@ returns-else-not-copies-clause-carried g c =
           Step (setting g) o.table (command.Show i) (reply.Items c.as_slice.result.now) o.table)
           c.self.view_is all.rows;
       passes =
-          subst (λ (o : State g.row.S-Item.Denot g.row.M.Denot). Adds (setting g) o.table o.standing (command.Show i)
+          subst (λ (o : State g.row.S-Item.Denot g.row.M.Denot). Adds (setting g) o.table o.standing
+          (command.Show i)
           (reply.Items c.as_slice.result.now) o.standing) c.self.view_is all.passes_are;
       agree = c.agree.ensures.stands;
     }
@@ -61,7 +63,8 @@ returns-then-not-copies-clause-carried g c =
           Step (setting g) o.table (command.Show i) reply.Kind o.table)
           c.self.view_is all.rows;
       passes =
-          subst (λ (o : State g.row.S-Item.Denot g.row.M.Denot). Adds (setting g) o.table o.standing (command.Show i)
+          subst (λ (o : State g.row.S-Item.Denot g.row.M.Denot). Adds (setting g) o.table o.standing
+          (command.Show i)
           reply.Kind o.standing) c.self.view_is all.passes_are;
       agree = c.agree.ensures.stands;
     }
@@ -83,7 +86,8 @@ returns-in-None-clause-carried g c =
           Step (setting g) o.table (command.Show c.args.i) reply.NoWindow o.table) c.self.view_is
           all.rows;
       passes =
-          subst (λ (o : State g.row.S-Item.Denot g.row.M.Denot). Adds (setting g) o.table o.standing (command.Show c.args.i)
+          subst (λ (o : State g.row.S-Item.Denot g.row.M.Denot). Adds (setting g) o.table o.standing
+          (command.Show c.args.i)
           reply.NoWindow o.standing) c.self.view_is all.passes_are;
       agree = c.agree.ensures.stands;
     }

@@ -13,5 +13,6 @@ returns-in-Sole g c = record {
 pub returns-in-Several : goal.returns-in-Several
 returns-in-Several g c = record {
   ended = λ whole. subst (λ s. EndsShownAt g.row.H.Denot g.H.Mark.real s.place)
-      (ap (λ p. written_on p) (sym c.in-Several.is) ∙ c.self.view_is) (c.drop-in-Several.ensures.ended whole);
+      (ap (λ p. written_on p) (sym c.in-Several.is) ∙ c.self.view_is)
+      (c.drop-in-Several.ensures.ended whole);
 }

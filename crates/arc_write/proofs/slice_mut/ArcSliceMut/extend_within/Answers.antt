@@ -35,5 +35,6 @@ invariant_of-self-2 g c =
 pub returns : goal.returns
 returns g c =
     (c.extend_reserved-in-Several.ensures
-    ∙ more_uncounted c.args.items.now c.in-Several.parts c.known_uncounted.ensures) ∙ ap (with_more c.args.items.now)
+    ∙ more_uncounted c.args.items.now c.in-Several.parts c.known_uncounted.ensures)
+    ∙ ap (with_more c.args.items.now)
     (sym (seen_as c.self.inside.parts _ _ c.in-Several.is c.self.view_is))

@@ -12,5 +12,6 @@ loop-preserved g c =
 
 pub returns : goal.returns
 returns g c =
-    let all : c.loop.counter ≡ c.args.count = omega (arith, c.loop-test.false, c.loop.auto.counter-end) in
+    let all : c.loop.counter ≡ c.args.count = omega
+    (arith, c.loop-test.false, c.loop.auto.counter-end) in
     c.loop.invariant ∙ (λ i. with_more (replicate (all i) c.args.byte) c.args.self.now)

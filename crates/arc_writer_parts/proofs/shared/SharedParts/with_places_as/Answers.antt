@@ -5,7 +5,8 @@ use Rattle.arc_writer_parts.proofs.shared.SharedParts.with_places_as.Goals as go
 
 pub returns-in-Ok-clause-room : goal.returns-in-Ok-clause-room
 returns-in-Ok-clause-room g c =
-    asked_reclaimed _ c.args.additional g.S.Slice.DROPS c.args.self c.in-Ok.sole c.try_reclaim-found.new.self
+    asked_reclaimed _ c.args.additional g.S.Slice.DROPS c.args.self c.in-Ok.sole
+    c.try_reclaim-found.new.self
     c.into_shared_memory.result c.args.pass.now c.try_into_unique_as.new.pass
     c.try_reclaim-found.result c.known_kind.ensures c.requires.several c.requires.short
     (sym c.is_on_block.ensures ∙ c.if-is_on_block.true) c.in-Ok.ensures.entry c.in-Ok.ensures.sole

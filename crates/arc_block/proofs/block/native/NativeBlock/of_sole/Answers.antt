@@ -10,7 +10,8 @@ pub invariant_of-result : goal.invariant_of-result
 invariant_of-result g c =
     let owner = c.lend.ensures.same.0 ∙ c.lay-sole.ensures.same.0 in
     let is = c.lend.ensures.same.1 ∙ c.lay-sole.ensures.same.1 in
-    let memory = c.lend.ensures.range.0 ∙ c.freeze-range.ensures.0 ∙ c.split-full.ensures.memory.0 in
+    let memory = c.lend.ensures.range.0 ∙ c.freeze-range.ensures.0
+    ∙ c.split-full.ensures.memory.0 in
     let piece = ap (λ k. (kept_in k).piece) is ∙ c.kept_of-kept.ensures.piece in (
       subst (IsLimited g.row.MAX g.H.Mark.whole) (sym owner) c.requires.limited,
       c.base-at.ensures ∙ sym (ap (λ m. m.base) memory ∙ c.lend-part.ensures.whole.0),

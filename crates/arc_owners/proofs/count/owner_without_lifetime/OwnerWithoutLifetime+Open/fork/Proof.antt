@@ -4,7 +4,8 @@ use mir.Syntax.{named}
 use mir.Val.{Val, vptr}
 use base.Logic.{SProp, emp}
 use base.Fml.{ftrue, fsep, flft, fhide}
-use types.Kit.{‵, ◌⊛◌, some, given, later, ◌$◌, ◌∵◌, !, qed, by, move, keep, drop, split, fsplit, fjoin, pick, learn, use0, use1, await}
+use types.Kit.{‵, ◌⊛◌, some, given, later, ◌$◌, ◌∵◌, !, qed, by, move, keep, drop, split, fsplit}
+use types.Kit.{fjoin, pick, learn, use0, use1, await}
 use types.Run.{no_more, and_then, returns, enter}
 use types.ByLocal.{alloc_all, pass_all, free_all, look_at, get, sets}
 use types.Part.{agg}
@@ -44,19 +45,46 @@ stayed = (stay_dropped (RefOf (0 ∷ []) tt (plain (λ _. Own)) (λ _. tt)) yes,
 
 pub fork_spec : {M : Type 1} → statement M
 fork_spec 𝓤 𝓛 𝓜 𝓡 wired =
-    let H = 𝓛.H in let 𝓣 = tables 𝓤 H 𝓜 𝓡 𝓡.env in let fn = code.function in let c = f.clauses 𝓛 𝓜.mem 𝓡.returns in
-    proved 𝓛 f.ended stayed c 𝓜 𝓡 (Goes-dropped 𝓛 1 (RefOf (0 ∷ []) tt (plain (λ _. Own)) (λ _. tt)) yes (λ κs x w. refl), tt) f.Key.name fn (code.unfolded 𝓤 H 𝓜 𝓡 wired)
+    let H = 𝓛.H in let 𝓣 = tables 𝓤 H 𝓜 𝓡 𝓡.env in let fn = code.function in
+    let c = f.clauses 𝓛 𝓜.mem 𝓡.returns in
+    proved 𝓛 f.ended stayed c 𝓜 𝓡 (
+      Goes-dropped 𝓛 1 (RefOf (0 ∷ []) tt (plain (λ _. Own)) (λ _. tt))
+          yes (λ κs x w. refl),
+      tt,
+    ) f.Key.name fn (code.unfolded 𝓤 H 𝓜 𝓡 wired)
     (λ κs. (shr_vals, tt)) (λ κs. (shr_Tells (named 0) κs.0 Own, tt)) (λ κs qs bounds a gh are.
     let own = a.0.now in
-    let y : (walk_of 𝓛 f.ended stayed c).Ghost = ((κs, qs, bounds, a, (vptr a.0.ref_ptr.0 a.0.ref_ptr.1 ∷ [], tt)), gh) in let Post : Val → SProp 𝓤 = (walk_of 𝓛 f.ended stayed c).post y in
-    qed 𝓛 ((‵ (fsep (flft κs.0 qs.0) ftrue) ⊛ ‵ (owns (types_at f.ended.signature.params κs) a y.0.4)) ∷ given _ (‵ ftrue) ∷ []) ∵ keep ! (1 ∷ 0 ∷ []) $ learn ! (λ asked. drop ! $ split ! $
+    let y : (walk_of 𝓛 f.ended stayed c).Ghost =
+    ((κs, qs, bounds, a, (vptr a.0.ref_ptr.0 a.0.ref_ptr.1 ∷ [], tt)), gh) in
+    let Post : Val → SProp 𝓤 = (walk_of 𝓛 f.ended stayed c).post y in
+    qed 𝓛 ((‵ (fsep (flft κs.0 qs.0) ftrue) ⊛ ‵ (owns (types_at f.ended.signature.params κs) a
+    y.0.4)) ∷ given _ (‵ ftrue) ∷ []) ∵ keep ! (1 ∷ 0 ∷ []) $
+    learn ! (λ asked. drop ! $ split ! $
     move ! (1 ∷ []) $ fsplit ! $ fsplit ! $ keep ! (1 ∷ 3 ∷ []) $
     -- [the owner; the tokens]
-    enter ! 𝓣.C 𝓣.Λ fn (vptr a.0.ref_ptr.0 a.0.ref_ptr.1 ∷ []) Post $ alloc_all ! (λ l. pass_all ! refl ((tt, tt), tt) $
-    use1 𝓛 (‵ (hidden_shr (Token R) κs.0 (own.marker, tt) a.0.ref_ptr.0 a.0.ref_ptr.1) ⊛ ‵ (fhide (right_shown own.block own.owner own.lease own.born κs.0)))
-    (lent_out 𝓛 (Rest.struct R) (Rest.the_codes R.Denot R.coded (marker.the_row R).coded) (Rest.the_heap R) (Rest.the_lent R) κs.0 own a.0.ref_ptr.0 a.0.ref_ptr.1) $ split ! $ drop ! $ unhide ! $ fsplit ! $ move ! (1 ∷ []) $ drop ! $
-    use1 𝓛 (later (some (λ (x : ℕ × List Line). given (IsPrefix own.born x.1 × (made_by x.0 x.1 ≡ [])) (‵ (trace_owns true own.block x.0 false x.1))))) (begins.forks 𝓛 own.block own.born asked) $ await ! tt $ pick ! (λ x. learn ! (λ so.
-    sets ! (agg ! (no_more !)) refl (tt, tt) $ sets ! (agg ! (and_then ! (get ! refl) (no_more !))) refl (tt, (tt, tt)) $
-    use0 𝓛 (‵ ((Token unit).own_val (record {}, tt) (token ∷ []))) (token_made unit 𝓛) $ fjoin ! $ nothing ! $ nothing ! $ fjoin ! $
+    enter ! 𝓣.C 𝓣.Λ fn (vptr a.0.ref_ptr.0 a.0.ref_ptr.1 ∷ []) Post $
+    alloc_all ! (λ l. pass_all ! refl ((tt, tt), tt) $
+    use1 𝓛 (‵ (hidden_shr (Token R) κs.0 (own.marker, tt) a.0.ref_ptr.0 a.0.ref_ptr.1) ⊛ ‵
+    (fhide (right_shown own.block own.owner own.lease own.born κs.0)))
+    (lent_out 𝓛 (Rest.struct R) (Rest.the_codes R.Denot R.coded (marker.the_row R).coded)
+    (Rest.the_heap R) (Rest.the_lent R) κs.0 own a.0.ref_ptr.0 a.0.ref_ptr.1) $ split ! $
+    drop ! $ unhide ! $ fsplit ! $ move ! (1 ∷ []) $ drop ! $
+    use1 𝓛 (later (some (λ (x : ℕ × List Line). given (IsPrefix own.born x.1
+    × (made_by x.0 x.1 ≡ [])) (‵ (trace_owns true own.block x.0 false x.1)))))
+    (begins.forks 𝓛 own.block own.born asked) $ await ! tt $ pick ! (λ x. learn ! (λ so.
+    sets ! (agg ! (no_more !)) refl (tt, tt) $ sets ! (agg ! (and_then ! (get ! refl) (no_more !)))
+    refl (tt, (tt, tt)) $
+    use0 𝓛 (‵ ((Token unit).own_val (record {}, tt) (token ∷ []))) (token_made unit 𝓛) $ fjoin ! $
+    nothing ! $ nothing ! $ fjoin ! $
     returns ! (look_at ! 0 refl) $ free_all ! refl $ keep ! (2 ∷ 0 ∷ 1 ∷ []) $
-    by ! (ends 𝓛 f.ended stayed c y token (record { marker = record {}; bound = true; block = own.block; number = x.0; ready = false; lines = x.1 }) (tt, tt) (tt, tt) (fact_i 𝓤 _ (emp 𝓤) ((refl, refl), refl, so.0, so.1))))))))
+    by ! (ends 𝓛 f.ended stayed c y token
+    (record {
+      marker = record {};
+      bound = true;
+      block = own.block;
+      number = x.0;
+      ready =
+          false;
+      lines = x.1;
+    }) (tt, tt) (tt, tt)
+    (fact_i 𝓤 _ (emp 𝓤) ((refl, refl), refl, so.0, so.1))))))))

@@ -11,5 +11,7 @@ use Rattle.arc_owners.proofs.count.Shared.{shown_shr, without_lends}
 use Rattle.arc_owners.proofs.count.owner_without_lifetime.OwnerWithoutLifetime.TheLaw.Statement.{statement}
 
 pub shares : (T : RattleType) (L : Laws T) → statement T L
-shares T L = of_Lends (C.struct T) (C.the_codes T.Denot T.coded (marker.the_row T).coded) (C.the_heap T) (C.the_lent T) (λ d p. shown_shr d.block d.owner d.lease d.born) (copy_shared (marker.the_field T) (field_copy (marker.the_type T) tt), tt)
+shares T L = of_Lends (C.struct T) (C.the_codes T.Denot T.coded (marker.the_row T).coded)
+    (C.the_heap T) (C.the_lent T) (λ d p. shown_shr d.block d.owner d.lease d.born)
+    (copy_shared (marker.the_field T) (field_copy (marker.the_type T) tt), tt)
     (λ M 𝓤 𝓛 d p. without_lends 𝓛 d.block d.owner d.lease d.born d.share (C.the_row T).lives)

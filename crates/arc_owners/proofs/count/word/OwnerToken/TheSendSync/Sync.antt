@@ -7,4 +7,11 @@ use Rattle.arc_owners.proofs.count.Shared.{right_shared_keyless}
 
 pub sync : (T : RattleType) → IsSync (the_row T)
 sync T = let fields : IsSync (Struct (shape (the_type T))) = search sendable depth 20 in
-    record { shared = λ d b o ν. (fields.shared (tt, tt) b o ν, right_shared_keyless d.held d.block d.owner d.lease d.born ν) }
+    record {
+      shared =
+          λ d b o ν. (
+            fields.shared (tt, tt) b o ν,
+            right_shared_keyless d.held d.block d.owner
+                d.lease d.born ν,
+          );
+    }

@@ -8,7 +8,8 @@ use mir.Syntax.{named, a_type}
 use mir.Val.{Val, vunit, vptr}
 use base.Logic.{SProp, emp}
 use base.Fml.{ftrue, fsep, flft}
-use types.Kit.{‵, ◌⊛◌, later, ◌$◌, ◌∵◌, !, qed, by, move, keep, drop, split, fsplit, fsplit3, fjoin, fjoin3, fpick, use2, await, rewrite, feq_i, raw}
+use types.Kit.{‵, ◌⊛◌, later, ◌$◌, ◌∵◌, !, qed, by, move, keep, drop, split, fsplit, fsplit3, fjoin}
+use types.Kit.{fjoin3, fpick, use2, await, rewrite, feq_i, raw}
 use types.Run.{unit_lit, of_opd, returns, enter}
 use types.ByLocal.{alloc_all, pass_all, free_all, look_at, sets}
 use contract.Monad.{fact_i, fact}
@@ -33,31 +34,89 @@ use Rattle.arc_owners.proofs.count.word.OwnerToken.finish.Code as code
 
 pub finish_spec : {M : Type 1} → statement M
 finish_spec 𝓤 𝓛 𝓜 𝓡 wired T L =
-    let H = 𝓛.H in let 𝓣 = tables 𝓤 H 𝓜 𝓡 𝓡.env in let R : RattleType = param 0 T in let Own : RattleType = OwnerToken.the_row R in let En = f.ended T in let c = f.clauses T 𝓛 𝓜.mem 𝓡.returns in
-    let inst = layouts (a_type ∷ []) (T, tt) in let fn = inst_fn inst code.function in let hs : Stays En.signature.params En.kept = (stay_ref (0 ∷ []) tt (plain (λ _. Own)), (stay_ref (1 ∷ []) tt (plain (λ _. PassState.the_row)), tt)) in
-    proved 𝓛 En hs c 𝓜 𝓡 (Goes-ref 𝓛 3 0 tt (plain (λ _. Own)), (Goes-ref 𝓛 3 1 tt (plain (λ _. PassState.the_row)), tt)) (f.Key.name inst) fn (code.unfolded 𝓤 H 𝓜 𝓡 wired (T, tt))
-    (λ κs. (mut_vals, (mut_vals, tt))) (λ κs. (mut_Tells (named 0) κs.0 Own, (mut_Tells (named 1) κs.1.0 PassState.the_row, tt))) (λ κs qs bounds a gh are.
-    let own = a.0.now in let me = own.block in let seen = a.1.0.now in let b₁ = a.0.ref_ptr.0 in let o₁ = a.0.ref_ptr.1 in let b₂ = a.1.0.ref_ptr.0 in let o₂ = a.1.0.ref_ptr.1 in
-    let y : (walk_of 𝓛 En hs c).Ghost = ((κs, qs, bounds, a, (vptr b₁ o₁ ∷ [], (vptr b₂ o₂ ∷ [], tt))), gh) in let Post : Val → SProp 𝓤 = (walk_of 𝓛 En hs c).post y in
-    qed 𝓛 ((‵ (fsep (flft κs.0 qs.0) (fsep (flft κs.1.0 qs.1.0) (fsep (flft κs.1.1.0 qs.1.1.0) ftrue))) ⊛ ‵ (owns (types_at En.signature.params κs) a y.0.4)) ∷ raw (fact 𝓤 (κs.1.1.0 ⊑ T.lives)) ∷ raw (fact 𝓤 _) ∷ []) ∵ move ! (2 ∷ []) $ heard ! _ (λ asked. keep ! (0 ∷ []) $ split ! $
-    fsplit ! $ move ! (1 ∷ []) $ fsplit ! $ move ! (3 ∷ []) $ fsplit ! $ fsplit3 ! $ move ! (3 ∷ []) $ fsplit ! $ fsplit3 ! $ keep ! (5 ∷ 6 ∷ 1 ∷ 2 ∷ 7 ∷ 9 ∷ 8 ∷ []) $
+    let H = 𝓛.H in let 𝓣 = tables 𝓤 H 𝓜 𝓡 𝓡.env in let R : RattleType = param 0 T in
+    let Own : RattleType = OwnerToken.the_row R in let En = f.ended T in
+    let c = f.clauses T 𝓛 𝓜.mem 𝓡.returns in
+    let inst = layouts (a_type ∷ []) (T, tt) in let fn = inst_fn inst code.function in
+    let hs : Stays En.signature.params En.kept = (
+      stay_ref (0 ∷ []) tt (plain (λ _. Own)),
+      (stay_ref (1 ∷ []) tt (plain (λ _. PassState.the_row)), tt),
+    ) in
+    proved 𝓛 En hs c 𝓜 𝓡 (
+      Goes-ref 𝓛 3 0 tt (plain (λ _. Own)),
+      (
+        Goes-ref 𝓛 3 1 tt (plain (λ _. PassState.the_row)),
+        tt,
+      ),
+    ) (f.Key.name inst) fn (code.unfolded 𝓤 H 𝓜 𝓡 wired (T, tt))
+    (λ κs. (mut_vals, (mut_vals, tt)))
+    (λ κs. (mut_Tells (named 0) κs.0 Own, (mut_Tells (named 1) κs.1.0 PassState.the_row, tt)))
+    (λ κs qs bounds a gh are.
+    let own = a.0.now in let me = own.block in let seen = a.1.0.now in let b₁ = a.0.ref_ptr.0 in
+    let o₁ = a.0.ref_ptr.1 in let b₂ = a.1.0.ref_ptr.0 in let o₂ = a.1.0.ref_ptr.1 in
+    let y : (walk_of 𝓛 En hs c).Ghost =
+    ((κs, qs, bounds, a, (vptr b₁ o₁ ∷ [], (vptr b₂ o₂ ∷ [], tt))), gh) in
+    let Post : Val → SProp 𝓤 = (walk_of 𝓛 En hs c).post y in
+    qed 𝓛 ((‵ (fsep (flft κs.0 qs.0)
+    (fsep (flft κs.1.0 qs.1.0) (fsep (flft κs.1.1.0 qs.1.1.0) ftrue))) ⊛ ‵
+    (owns (types_at En.signature.params κs) a y.0.4)) ∷ raw (fact 𝓤 (κs.1.1.0 ⊑ T.lives)) ∷ raw
+    (fact 𝓤 _) ∷ []) ∵ move ! (2 ∷ []) $ heard ! _ (λ asked. keep ! (0 ∷ []) $ split ! $
+    fsplit ! $ move ! (1 ∷ []) $ fsplit ! $ move ! (3 ∷ []) $ fsplit ! $ fsplit3 ! $
+    move ! (3 ∷ []) $ fsplit ! $ fsplit3 ! $ keep ! (5 ∷ 6 ∷ 1 ∷ 2 ∷ 7 ∷ 9 ∷ 8 ∷ []) $
     -- [two parts of the owner; two of the pass; their tokens, last first]
-    enter ! 𝓣.C 𝓣.Λ fn (vptr b₁ o₁ ∷ vptr b₂ o₂ ∷ []) Post $ alloc_all ! (λ l. pass_all ! refl ((tt, tt), ((tt, tt), tt)) $
-    move ! (0 ∷ 1 ∷ 5 ∷ []) $ opens ! tt Own b₁ o₁ (λ ts. move ! (1 ∷ []) $ fsplit ! $ move ! (1 ∷ []) $ rewrite ! 0 (λ (k : Bool). ‵ (right_owns k me own.owner own.lease own.born)) asked.0.0 refl $
+    enter ! 𝓣.C 𝓣.Λ fn (vptr b₁ o₁ ∷ vptr b₂ o₂ ∷ []) Post $
+    alloc_all ! (λ l. pass_all ! refl ((tt, tt), ((tt, tt), tt)) $
+    move ! (0 ∷ 1 ∷ 5 ∷ []) $ opens ! tt Own b₁ o₁ (λ ts. move ! (1 ∷ []) $ fsplit ! $
+    move ! (1 ∷ []) $
+    rewrite ! 0 (λ (k : Bool). ‵ (right_owns k me own.owner own.lease own.born)) asked.0.0 refl
+    $
     fsplit ! $ drop ! $ fsplit ! $ move ! (1 ∷ []) $ drop ! $
     -- [the right; its marker, cell and open borrow; two parts of the pass; its token]
-    move ! (6 ∷ 7 ∷ 8 ∷ []) $ opens ! tt PassState.the_row b₂ o₂ (λ vs. move ! (1 ∷ []) $ fsplit ! $ move ! (1 ∷ []) $
-    rewrite ! 0 (λ (k : Bool × BlockId). ‵ (trace_owns k.0 k.1 seen.number seen.ready seen.lines)) (λ i. (asked.1.0 i, asked.1.1 i)) refl $
+    move ! (6 ∷ 7 ∷ 8 ∷ []) $ opens ! tt PassState.the_row b₂ o₂ (λ vs. move ! (1 ∷ []) $ fsplit ! $
+    move ! (1 ∷ []) $
+    rewrite ! 0 (λ (k : Bool × BlockId). ‵ (trace_owns k.0 k.1 seen.number seen.ready seen.lines))
+    (λ i. (asked.1.0 i, asked.1.1 i)) refl $
     -- [the pass; its marker, cell and open borrow; the right; its marker, cell and open borrow]
-    move ! (0 ∷ 6 ∷ []) $ use2 𝓛 (later (‵ (left me seen.number seen.lines (λ ls. trace_owns true me seen.number seen.ready ls) 1 (λ _. just (Down own.owner)) (λ _. ftrue)))) (begins.finishes_by 𝓛 me seen.number seen.ready seen.lines own.owner own.lease asked.0.2) $
-    await ! tt $ fpick ! (λ before. fsplit ! $ fpick ! (λ so. drop ! $ fsplit ! $ move ! (1 ∷ []) $ drop ! $
-    let after : PassState.the_row.Denot = record { marker = record {}; bound = true; block = me; number = seen.number; ready = seen.ready; lines = before ++ (seen.number, Down own.owner) ∷ [] } in
-    let gone : Own.Denot = record { marker = record {}; held = false; block = me; owner = own.owner; lease = own.lease; born = own.born } in
-    move ! (1 ∷ 0 ∷ []) $ fjoin ! $ move ! (1 ∷ 0 ∷ 2 ∷ 3 ∷ 4 ∷ []) $ closes ! tt PassState.the_row after vs b₂ o₂ $
-    nothing ! $ move ! (4 ∷ 0 ∷ []) $ fjoin ! $ move ! (4 ∷ 0 ∷ 5 ∷ 6 ∷ 7 ∷ []) $ closes ! tt Own gone ts b₁ o₁ $
-    sets ! (of_opd ! (unit_lit !)) refl (tt, tt) $ feq_i ! (List Val) (vunit ∷ []) (vunit ∷ []) refl $
+    move ! (0 ∷ 6 ∷ []) $
+    use2 𝓛 (later (‵
+    (left me seen.number seen.lines (λ ls. trace_owns true me seen.number seen.ready ls) 1
+    (λ _. just (Down own.owner)) (λ _. ftrue)))) (begins.finishes_by 𝓛 me seen.number seen.ready
+    seen.lines own.owner own.lease asked.0.2) $
+    await ! tt $ fpick ! (λ before. fsplit ! $ fpick ! (λ so. drop ! $ fsplit ! $ move ! (1 ∷ []) $
+    drop ! $
+    let after : PassState.the_row.Denot = record {
+      marker = record {};
+      bound = true;
+      block = me;
+      number = seen.number;
+      ready = seen.ready;
+      lines =
+          before ++ (seen.number, Down own.owner) ∷ [];
+    } in
+    let gone : Own.Denot = record {
+      marker = record {};
+      held = false;
+      block = me;
+      owner = own.owner;
+      lease = own.lease;
+      born = own.born;
+    } in
+    move ! (1 ∷ 0 ∷ []) $ fjoin ! $ move ! (1 ∷ 0 ∷ 2 ∷ 3 ∷ 4 ∷ []) $
+    closes ! tt PassState.the_row after vs b₂ o₂ $
+    nothing ! $ move ! (4 ∷ 0 ∷ []) $ fjoin ! $ move ! (4 ∷ 0 ∷ 5 ∷ 6 ∷ 7 ∷ []) $
+    closes ! tt Own gone ts b₁ o₁ $
+    sets ! (of_opd ! (unit_lit !)) refl (tt, tt) $ feq_i ! (List Val) (vunit ∷ []) (vunit ∷ []) refl
+    $
     -- [the result; two parts of the owner; its token; two parts of the pass; its token]
     move ! (7 ∷ []) $ move ! (7 ∷ 0 ∷ []) $ fjoin ! $ move ! (4 ∷ 0 ∷ []) $ fjoin ! $
-    nothing ! $ feq_i ! (List Val) (vptr b₂ o₂ ∷ []) (vptr b₂ o₂ ∷ []) refl $ move ! (0 ∷ 6 ∷ 7 ∷ []) $ fjoin3 ! $ fjoin ! $ feq_i ! (List Val) (vptr b₁ o₁ ∷ []) (vptr b₁ o₁ ∷ []) refl $ move ! (0 ∷ 4 ∷ 5 ∷ []) $ fjoin3 ! $ fjoin ! $
+    nothing ! $ feq_i ! (List Val) (vptr b₂ o₂ ∷ []) (vptr b₂ o₂ ∷ []) refl $
+    move ! (0 ∷ 6 ∷ 7 ∷ []) $ fjoin3 ! $ fjoin ! $ feq_i ! (List Val) (vptr b₁ o₁ ∷ [])
+    (vptr b₁ o₁ ∷ []) refl $ move ! (0 ∷ 4 ∷ 5 ∷ []) $ fjoin3 ! $ fjoin ! $
     returns ! (look_at ! 0 refl) $ free_all ! refl $ keep ! (1 ∷ 0 ∷ 2 ∷ []) $
-    by ! (ends 𝓛 En hs c y vunit tt (gone, (after, tt)) (tt, (tt, tt)) (fact_i 𝓤 _ (emp 𝓤) ((refl, refl, refl, refl), ends_when me seen.number seen.lines own.owner 1 before true refl so, refl))))))))))
+    by ! (ends 𝓛 En hs c y vunit tt (gone, (after, tt)) (tt, (tt, tt))
+    (fact_i 𝓤 _ (emp 𝓤) (
+      (refl, refl, refl, refl),
+      ends_when me seen.number seen.lines own.owner
+          1 before true refl so,
+      refl,
+    ))))))))))

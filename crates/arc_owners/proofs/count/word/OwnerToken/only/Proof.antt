@@ -8,7 +8,8 @@ use mir.Val.{Val, vunit, vptr}
 use base.Logic.{SProp, emp, wand, apply∗}
 use base.Fml.{Fml, Share, ftrue, fsep, flft, fhide}
 use types.Logic.{sem}
-use types.Kit.{‵, raw, ◌⊛◌, some, given, later, ◌$◌, ◌∵◌, !, qed, by, move, keep, drop, split, fsplit, fsplit3, fjoin, fjoin3, pick, learn, use1, use2, await, rewrite, feq_i}
+use types.Kit.{‵, raw, ◌⊛◌, some, given, later, ◌$◌, ◌∵◌, !, qed, by, move, keep, drop, split}
+use types.Kit.{fsplit, fsplit3, fjoin, fjoin3, pick, learn, use1, use2, await, rewrite, feq_i}
 use types.Run.{unit_lit, of_opd, returns, enter}
 use types.ByLocal.{alloc_all, pass_all, free_all, look_at, sets}
 use contract.Monad.{fact_i, fact}
@@ -26,7 +27,8 @@ use denote.Triple.Walked.{Stays, stay_dropped, stay_ref, walk_of, Goes-dropped, 
 use Rattle.core.specs.contracts.marker.PhantomData as marker
 use Rattle.std.proofs.raw_atomic.Walks.{proved}
 use Rattle.logbook.proofs.Fields.{Token, ends}
-use Rattle.arc_owners.specs.count.Invariant.{BlockId, Line, entries_of, made_by, right, right_shares, trace_owns}
+use Rattle.arc_owners.specs.count.Invariant.{BlockId, Line, entries_of, made_by, right}
+use Rattle.arc_owners.specs.count.Invariant.{right_shares, trace_owns}
 use Rattle.arc_owners.specs.history.Histories.{LivesAlone}
 use Rattle.arc_owners.specs.contracts.count.word.OwnerToken as OwnerToken
 use Rattle.arc_owners.specs.contracts.count.word.PassState as PassState
@@ -39,35 +41,83 @@ use Rattle.arc_owners.proofs.count.word.OwnerToken.only.Code as code
 
 pub only_spec : {M : Type 1} → statement M
 only_spec 𝓤 𝓛 𝓜 𝓡 wired T L =
-    let H = 𝓛.H in let 𝓣 = tables 𝓤 H 𝓜 𝓡 𝓡.env in let R : RattleType = param 0 T in let Own : RattleType = OwnerToken.the_row R in let En = f.ended T in let c = f.clauses T 𝓛 𝓜.mem 𝓡.returns in
-    let inst = layouts (a_type ∷ []) (T, tt) in let fn = inst_fn inst code.function in let hs : Stays En.signature.params En.kept = (stay_dropped (RefOf (0 ∷ []) tt (plain (λ _. Own)) (λ _. tt)) yes, (stay_ref (1 ∷ []) tt (plain (λ _. PassState.the_row)), tt)) in
-    proved 𝓛 En hs c 𝓜 𝓡 (Goes-dropped 𝓛 3 (RefOf (0 ∷ []) tt (plain (λ _. Own)) (λ _. tt)) yes (λ κs x w. refl), (Goes-ref 𝓛 3 1 tt (plain (λ _. PassState.the_row)), tt)) (f.Key.name inst) fn (code.unfolded 𝓤 H 𝓜 𝓡 wired (T, tt))
-    (λ κs. (shr_vals, (mut_vals, tt))) (λ κs. (shr_Tells (named 0) κs.0 Own, (mut_Tells (named 1) κs.1.0 PassState.the_row, tt))) (λ κs qs bounds a gh are.
-    let own = a.0.now in let me = own.block in let seen = a.1.0.now in let b₁ = a.0.ref_ptr.0 in let o₁ = a.0.ref_ptr.1 in let b = a.1.0.ref_ptr.0 in let o = a.1.0.ref_ptr.1 in
-    let y : (walk_of 𝓛 En hs c).Ghost = ((κs, qs, bounds, a, (vptr b₁ o₁ ∷ [], (vptr b o ∷ [], tt))), gh) in let Post : Val → SProp 𝓤 = (walk_of 𝓛 En hs c).post y in
-    let toks : Fml = fsep (flft κs.0 qs.0) (fsep (flft κs.1.0 qs.1.0) (fsep (flft κs.1.1.0 qs.1.1.0) ftrue)) in
-    qed 𝓛 ((‵ toks ⊛ ‵ (owns (types_at En.signature.params κs) a y.0.4)) ∷ raw (fact 𝓤 (κs.1.1.0 ⊑ T.lives)) ∷ raw (fact 𝓤 _) ∷ []) ∵ move ! (2 ∷ []) $ heard ! _ (λ asked. keep ! (0 ∷ []) $ split ! $
-    fsplit ! $ move ! (1 ∷ []) $ fsplit ! $ move ! (3 ∷ []) $ fsplit ! $ fsplit ! $ move ! (2 ∷ []) $ fsplit ! $ fsplit3 ! $ keep ! (1 ∷ 2 ∷ 5 ∷ 6 ∷ 8 ∷ 7 ∷ []) $
+    let H = 𝓛.H in let 𝓣 = tables 𝓤 H 𝓜 𝓡 𝓡.env in let R : RattleType = param 0 T in
+    let Own : RattleType = OwnerToken.the_row R in let En = f.ended T in
+    let c = f.clauses T 𝓛 𝓜.mem 𝓡.returns in
+    let inst = layouts (a_type ∷ []) (T, tt) in let fn = inst_fn inst code.function in
+    let hs : Stays En.signature.params En.kept = (
+      stay_dropped (RefOf (0 ∷ []) tt (plain (λ _. Own)) (λ _. tt)) yes,
+      (stay_ref (1 ∷ []) tt (plain (λ _. PassState.the_row)), tt),
+    ) in
+    proved 𝓛 En hs c 𝓜 𝓡 (
+      Goes-dropped 𝓛 3 (RefOf (0 ∷ []) tt (plain (λ _. Own)) (λ _. tt)) yes
+          (λ κs x w. refl),
+      (Goes-ref 𝓛 3 1 tt (plain (λ _. PassState.the_row)), tt),
+    )
+    (f.Key.name inst) fn (code.unfolded 𝓤 H 𝓜 𝓡 wired (T, tt))
+    (λ κs. (shr_vals, (mut_vals, tt)))
+    (λ κs. (shr_Tells (named 0) κs.0 Own, (mut_Tells (named 1) κs.1.0 PassState.the_row, tt)))
+    (λ κs qs bounds a gh are.
+    let own = a.0.now in let me = own.block in let seen = a.1.0.now in let b₁ = a.0.ref_ptr.0 in
+    let o₁ = a.0.ref_ptr.1 in let b = a.1.0.ref_ptr.0 in let o = a.1.0.ref_ptr.1 in
+    let y : (walk_of 𝓛 En hs c).Ghost =
+    ((κs, qs, bounds, a, (vptr b₁ o₁ ∷ [], (vptr b o ∷ [], tt))), gh) in
+    let Post : Val → SProp 𝓤 = (walk_of 𝓛 En hs c).post y in
+    let toks : Fml = fsep (flft κs.0 qs.0)
+    (fsep (flft κs.1.0 qs.1.0) (fsep (flft κs.1.1.0 qs.1.1.0) ftrue)) in
+    qed 𝓛 ((‵ toks ⊛ ‵ (owns (types_at En.signature.params κs) a y.0.4)) ∷ raw
+    (fact 𝓤 (κs.1.1.0 ⊑ T.lives)) ∷ raw (fact 𝓤 _) ∷ []) ∵ move ! (2 ∷ []) $
+    heard ! _ (λ asked. keep ! (0 ∷ []) $ split ! $
+    fsplit ! $ move ! (1 ∷ []) $ fsplit ! $ move ! (3 ∷ []) $ fsplit ! $ fsplit ! $
+    move ! (2 ∷ []) $ fsplit ! $ fsplit3 ! $ keep ! (1 ∷ 2 ∷ 5 ∷ 6 ∷ 8 ∷ 7 ∷ []) $
     -- [two parts of the pass; the owner; the tokens, last first]
-    enter ! 𝓣.C 𝓣.Λ fn (vptr b₁ o₁ ∷ vptr b o ∷ []) Post $ alloc_all ! (λ l. pass_all ! refl ((tt, tt), ((tt, tt), tt)) $
-    move ! (2 ∷ []) $ use1 𝓛 (‵ (hidden_shr (Token R) κs.0 (own.marker, tt) b₁ o₁) ⊛ ‵ (fhide (right_shares own.held me own.owner own.lease own.born κs.0)))
-    (lent_out 𝓛 (OwnerToken.struct R) (OwnerToken.the_codes R.Denot R.coded (marker.the_row R).coded) (OwnerToken.the_heap R) (OwnerToken.the_lent R) κs.0 own b₁ o₁) $ split ! $ drop ! $ unhide ! $
-    rewrite ! 0 (λ (k : Bool). ‵ (right_shares k me own.owner own.lease own.born κs.0)) asked.0.0 refl $ move ! (0 ∷ 4 ∷ []) $
-    use2 𝓛 (later (some (λ (r : Share). ‵ (right me own.owner own.lease r) ⊛ raw (wand 𝓤 (sem 𝓛 (right me own.owner own.lease r)) (H.⇛ (𝓛.A.lft κs.0 qs.0)))))) (right_read 𝓛 me own.owner own.lease own.born κs.0 qs.0) $ await ! tt $ pick ! (λ r. split ! $
+    enter ! 𝓣.C 𝓣.Λ fn (vptr b₁ o₁ ∷ vptr b o ∷ []) Post $
+    alloc_all ! (λ l. pass_all ! refl ((tt, tt), ((tt, tt), tt)) $
+    move ! (2 ∷ []) $
+    use1 𝓛 (‵ (hidden_shr (Token R) κs.0 (own.marker, tt) b₁ o₁) ⊛ ‵
+    (fhide (right_shares own.held me own.owner own.lease own.born κs.0)))
+    (lent_out 𝓛 (OwnerToken.struct R)
+    (OwnerToken.the_codes R.Denot R.coded (marker.the_row R).coded) (OwnerToken.the_heap R)
+    (OwnerToken.the_lent R) κs.0 own b₁ o₁) $ split ! $ drop ! $ unhide ! $
+    rewrite ! 0 (λ (k : Bool). ‵ (right_shares k me own.owner own.lease own.born κs.0)) asked.0.0
+    refl $ move ! (0 ∷ 4 ∷ []) $
+    use2 𝓛 (later (some (λ (r : Share). ‵ (right me own.owner own.lease r) ⊛ raw
+    (wand 𝓤 (sem 𝓛 (right me own.owner own.lease r)) (H.⇛ (𝓛.A.lft κs.0 qs.0))))))
+    (right_read 𝓛 me own.owner own.lease own.born κs.0 qs.0) $ await ! tt $
+    pick ! (λ r. split ! $
     -- [the right; its way back; two parts of the pass; its token]
-    move ! (2 ∷ 3 ∷ 4 ∷ []) $ opens ! tt PassState.the_row b o (λ vs. move ! (1 ∷ []) $ fsplit ! $ move ! (1 ∷ []) $
-    rewrite ! 0 (λ (k : Bool × BlockId). ‵ (trace_owns k.0 k.1 seen.number seen.ready seen.lines)) (λ i. (asked.1.0 i, asked.1.1 i)) refl $
+    move ! (2 ∷ 3 ∷ 4 ∷ []) $ opens ! tt PassState.the_row b o (λ vs. move ! (1 ∷ []) $ fsplit ! $
+    move ! (1 ∷ []) $
+    rewrite ! 0 (λ (k : Bool × BlockId). ‵ (trace_owns k.0 k.1 seen.number seen.ready seen.lines))
+    (λ i. (asked.1.0 i, asked.1.1 i)) refl $
     -- [the pass; its marker; its cell; the open borrow, in three; the right; its way back]
-    move ! (0 ∷ 6 ∷ []) $ use2 𝓛 (later (some (λ (ls : List Line). given (IsPrefix seen.lines ls × (made_by seen.number ls ≡ made_by seen.number seen.lines) × (me.whole ≡ true → ls ≡ seen.lines) × LivesAlone own.owner (entries_of ls)) (‵ (trace_owns true me seen.number seen.ready ls) ⊛ ‵ (right me own.owner own.lease r)))))
-    (begins.onlies 𝓛 me seen.number seen.ready seen.lines own.owner own.lease r asked.0.2) $ await ! tt $ pick ! (λ ls. learn ! (λ so. split ! $
+    move ! (0 ∷ 6 ∷ []) $
+    use2 𝓛 (later (some (λ (ls : List Line). given (IsPrefix seen.lines ls
+    × (made_by seen.number ls ≡ made_by seen.number seen.lines)
+    × (me.whole ≡ true → ls ≡ seen.lines) × LivesAlone own.owner (entries_of ls))
+    (‵ (trace_owns true me seen.number seen.ready ls) ⊛ ‵ (right me own.owner own.lease r)))))
+    (begins.onlies 𝓛 me seen.number seen.ready seen.lines own.owner own.lease r asked.0.2) $
+    await ! tt $ pick ! (λ ls. learn ! (λ so. split ! $
     -- [the pass; the right; its marker; its cell; the open borrow, in three; the right's way back]
-    let after : PassState.the_row.Denot = record { marker = record {}; bound = true; block = me; number = seen.number; ready = seen.ready; lines = ls } in
-    move ! (1 ∷ 7 ∷ []) $ use2 𝓛 (later (‵ (flft κs.0 qs.0))) (apply∗ 𝓤 (sem 𝓛 (right me own.owner own.lease r)) (H.⇛ (𝓛.A.lft κs.0 qs.0))) $ await ! tt $
+    let after : PassState.the_row.Denot = record {
+      marker = record {};
+      bound = true;
+      block = me;
+      number = seen.number;
+      ready = seen.ready;
+      lines = ls;
+    } in
+    move ! (1 ∷ 7 ∷ []) $ use2 𝓛 (later (‵ (flft κs.0 qs.0)))
+    (apply∗ 𝓤 (sem 𝓛 (right me own.owner own.lease r)) (H.⇛ (𝓛.A.lft κs.0 qs.0))) $ await ! tt $
     -- [the owner's token; the pass; its marker; its cell; the open borrow, in three]
-    move ! (2 ∷ 1 ∷ []) $ fjoin ! $ move ! (2 ∷ 0 ∷ 3 ∷ 4 ∷ 5 ∷ []) $ closes ! tt PassState.the_row after vs b o $
+    move ! (2 ∷ 1 ∷ []) $ fjoin ! $ move ! (2 ∷ 0 ∷ 3 ∷ 4 ∷ 5 ∷ []) $
+    closes ! tt PassState.the_row after vs b o $
     -- [two parts of the pass; the tokens, last first]
-    sets ! (of_opd ! (unit_lit !)) refl (tt, tt) $ feq_i ! (List Val) (vunit ∷ []) (vunit ∷ []) refl $
+    sets ! (of_opd ! (unit_lit !)) refl (tt, tt) $ feq_i ! (List Val) (vunit ∷ []) (vunit ∷ []) refl
+    $
     move ! (5 ∷ []) $ move ! (4 ∷ 0 ∷ []) $ fjoin ! $ move ! (4 ∷ 0 ∷ []) $ fjoin ! $
-    nothing ! $ feq_i ! (List Val) (vptr b o ∷ []) (vptr b o ∷ []) refl $ move ! (0 ∷ 4 ∷ 5 ∷ []) $ fjoin3 ! $ fjoin ! $ nothing ! $ fjoin ! $
+    nothing ! $ feq_i ! (List Val) (vptr b o ∷ []) (vptr b o ∷ []) refl $ move ! (0 ∷ 4 ∷ 5 ∷ []) $
+    fjoin3 ! $ fjoin ! $ nothing ! $ fjoin ! $
     returns ! (look_at ! 0 refl) $ free_all ! refl $ keep ! (1 ∷ 0 ∷ 2 ∷ []) $
-    by ! (ends 𝓛 En hs c y vunit tt (tt, (after, tt)) (tt, (tt, tt)) (fact_i 𝓤 _ (emp 𝓤) ((refl, refl, refl, refl), so.0, so.1, so.2, so.3))))))))))
+    by ! (ends 𝓛 En hs c y vunit tt (tt, (after, tt)) (tt, (tt, tt))
+    (fact_i 𝓤 _ (emp 𝓤) ((refl, refl, refl, refl), so.0, so.1, so.2, so.3))))))))))

@@ -90,7 +90,8 @@ same_lease_spec 𝓤 𝓛 𝓜 𝓡 wired T L =
     split ! $ drop ! $ unhide ! $
     rewrite ! 0 (λ (k : Bool). ‵ (right_shares k me own.owner own.lease own.born κs.0))
     asked.0 refl $ use1 𝓛 (‵ (right_shown me own.owner own.lease own.born κs.0))
-    (shares_shown 𝓛 me own.owner own.lease own.born κs.0) $ move ! (2 ∷ 3 ∷ []) $ join ! $ move ! (1 ∷ 2 ∷ 0 ∷ []) $
+    (shares_shown 𝓛 me own.owner own.lease own.born κs.0) $ move ! (2 ∷ 3 ∷ []) $ join ! $
+    move ! (1 ∷ 2 ∷ 0 ∷ []) $
     use3 𝓛 (later (given (other.block ≡ me → other.lease ≡ own.lease)
     (‵ (flft κs.1.0 qs.1.0) ⊛ ‵ (flft κs.0 qs.0))))
     (begins.leases_told 𝓛 me own.born own.owner own.lease κs.0 qs.0 other.block other.born

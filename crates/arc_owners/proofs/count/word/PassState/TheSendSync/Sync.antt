@@ -6,4 +6,7 @@ use Rattle.arc_owners.proofs.count.Shared.{trace_shared_keyless}
 
 pub sync : IsSync the_row
 sync = let fields : IsSync (Struct (shape the_type)) = search sendable depth 20 in
-    record { shared = λ d b o ν. (fields.shared (tt, tt) b o ν, trace_shared_keyless d.bound d.block d.lines) }
+    record {
+      shared =
+          λ d b o ν. (fields.shared (tt, tt) b o ν, trace_shared_keyless d.bound d.block d.lines);
+    }

@@ -4,7 +4,8 @@ use mir.Syntax.{named}
 use mir.Val.{Val, vunit, vptr}
 use base.Logic.{SProp, emp}
 use base.Fml.{Fml, ftrue, fsep, flft, fhide}
-use types.Kit.{‵, ◌⊛◌, some, given, later, ◌$◌, ◌∵◌, !, qed, by, move, keep, drop, split, fsplit, fsplit3, fjoin, fjoin3, pick, learn, use1, use2, await, rewrite, feq_i}
+use types.Kit.{‵, ◌⊛◌, some, given, later, ◌$◌, ◌∵◌, !, qed, by, move, keep, drop, split, fsplit}
+use types.Kit.{fsplit3, fjoin, fjoin3, pick, learn, use1, use2, await, rewrite, feq_i}
 use types.Run.{unit_lit, of_opd, returns, enter}
 use types.ByLocal.{alloc_all, pass_all, free_all, look_at, sets}
 use contract.Monad.{fact_i}
@@ -32,31 +33,75 @@ use Rattle.arc_owners.proofs.count.word.PassState.learn.Statement.{statement}
 use Rattle.arc_owners.proofs.count.word.PassState.learn.Code as code
 
 abbrev stayed : Stays f.ended.signature.params f.ended.kept
-stayed = (stay_ref (0 ∷ []) tt (plain (λ _. PassState.the_row)), (stay_dropped (RefOf (1 ∷ []) tt (plain (λ _. PassState.the_row)) (λ _. tt)) yes, tt))
+stayed = (
+  stay_ref (0 ∷ []) tt (plain (λ _. PassState.the_row)),
+  (stay_dropped (RefOf (1 ∷ []) tt (plain (λ _. PassState.the_row)) (λ _. tt)) yes, tt),
+)
 
 pub learn_spec : {M : Type 1} → statement M
 learn_spec 𝓤 𝓛 𝓜 𝓡 wired =
-    let H = 𝓛.H in let 𝓣 = tables 𝓤 H 𝓜 𝓡 𝓡.env in let fn = code.function in let c = f.clauses 𝓛 𝓜.mem 𝓡.returns in
-    proved 𝓛 f.ended stayed c 𝓜 𝓡 (Goes-ref 𝓛 2 0 tt (plain (λ _. PassState.the_row)), (Goes-dropped 𝓛 2 (RefOf (1 ∷ []) tt (plain (λ _. PassState.the_row)) (λ _. tt)) yes (λ κs x w. refl), tt)) f.Key.name fn (code.unfolded 𝓤 H 𝓜 𝓡 wired)
-    (λ κs. (mut_vals, (shr_vals, tt))) (λ κs. (mut_Tells (named 0) κs.0 PassState.the_row, (shr_Tells (named 1) κs.1.0 PassState.the_row, tt))) (λ κs qs bounds a gh are.
-    let me = a.0.now in let other = a.1.0.now in let t = me.block in let b = a.0.ref_ptr.0 in let o = a.0.ref_ptr.1 in let b₁ = a.1.0.ref_ptr.0 in let o₁ = a.1.0.ref_ptr.1 in
-    let y : (walk_of 𝓛 f.ended stayed c).Ghost = ((κs, qs, bounds, a, (vptr b o ∷ [], (vptr b₁ o₁ ∷ [], tt))), gh) in let Post : Val → SProp 𝓤 = (walk_of 𝓛 f.ended stayed c).post y in
+    let H = 𝓛.H in let 𝓣 = tables 𝓤 H 𝓜 𝓡 𝓡.env in let fn = code.function in
+    let c = f.clauses 𝓛 𝓜.mem 𝓡.returns in
+    proved 𝓛 f.ended stayed c 𝓜 𝓡 (
+      Goes-ref 𝓛 2 0 tt (plain (λ _. PassState.the_row)),
+      (
+        Goes-dropped 𝓛 2 (RefOf (1 ∷ []) tt (plain (λ _. PassState.the_row)) (λ _. tt)) yes
+            (λ κs x w. refl),
+        tt,
+      ),
+    ) f.Key.name fn (code.unfolded 𝓤 H 𝓜 𝓡 wired)
+    (λ κs. (mut_vals, (shr_vals, tt)))
+    (λ κs. (
+      mut_Tells (named 0) κs.0 PassState.the_row,
+      (shr_Tells (named 1) κs.1.0 PassState.the_row, tt),
+    )) (λ κs qs bounds a gh are.
+    let me = a.0.now in let other = a.1.0.now in let t = me.block in let b = a.0.ref_ptr.0 in
+    let o = a.0.ref_ptr.1 in let b₁ = a.1.0.ref_ptr.0 in let o₁ = a.1.0.ref_ptr.1 in
+    let y : (walk_of 𝓛 f.ended stayed c).Ghost =
+    ((κs, qs, bounds, a, (vptr b o ∷ [], (vptr b₁ o₁ ∷ [], tt))), gh) in
+    let Post : Val → SProp 𝓤 = (walk_of 𝓛 f.ended stayed c).post y in
     let toks : Fml = fsep (flft κs.0 qs.0) (fsep (flft κs.1.0 qs.1.0) ftrue) in
-    qed 𝓛 ((‵ toks ⊛ ‵ (owns (types_at f.ended.signature.params κs) a y.0.4)) ∷ given _ (‵ ftrue) ∷ []) ∵ keep ! (1 ∷ 0 ∷ []) $ learn ! (λ asked. drop ! $ split ! $
-    fsplit ! $ move ! (2 ∷ []) $ fsplit ! $ fsplit3 ! $ move ! (3 ∷ []) $ fsplit ! $ fsplit ! $ keep ! (1 ∷ 4 ∷ 5 ∷ 6 ∷ 7 ∷ []) $
+    qed 𝓛 ((‵ toks ⊛ ‵ (owns (types_at f.ended.signature.params κs) a y.0.4)) ∷ given _
+    (‵ ftrue) ∷ []) ∵ keep ! (1 ∷ 0 ∷ []) $ learn ! (λ asked. drop ! $ split ! $
+    fsplit ! $ move ! (2 ∷ []) $ fsplit ! $ fsplit3 ! $ move ! (3 ∷ []) $ fsplit ! $ fsplit ! $
+    keep ! (1 ∷ 4 ∷ 5 ∷ 6 ∷ 7 ∷ []) $
     -- [the other pass; two parts of this one; its token; the other tokens]
-    enter ! 𝓣.C 𝓣.Λ fn (vptr b o ∷ vptr b₁ o₁ ∷ []) Post $ alloc_all ! (λ l. pass_all ! refl ((tt, tt), ((tt, tt), tt)) $
-    use1 𝓛 (‵ (hidden_shr (Token unit) κs.1.0 (record {}, tt) b₁ o₁) ⊛ ‵ (fhide (trace_shares other.bound other.block other.lines)))
-    (lent_out 𝓛 PassState.struct (PassState.the_codes (marker.the_row unit).coded) PassState.the_heap PassState.the_lent κs.1.0 other b₁ o₁) $ split ! $ drop ! $ unhide ! $
-    rewrite ! 0 (λ (k : Bool × BlockId). ‵ (trace_shares k.0 k.1 other.lines)) (λ i. (asked.1 i, asked.2 i)) refl $ fsplit ! $ drop ! $
-    move ! (1 ∷ 2 ∷ 3 ∷ []) $ opens ! tt PassState.the_row b o (λ vs. move ! (1 ∷ []) $ fsplit ! $ move ! (1 ∷ []) $ rewrite ! 0 (λ (k : Bool). ‵ (trace_owns k t me.number me.ready me.lines)) asked.0 refl $
+    enter ! 𝓣.C 𝓣.Λ fn (vptr b o ∷ vptr b₁ o₁ ∷ []) Post $
+    alloc_all ! (λ l. pass_all ! refl ((tt, tt), ((tt, tt), tt)) $
+    use1 𝓛 (‵ (hidden_shr (Token unit) κs.1.0 (record {}, tt) b₁ o₁) ⊛ ‵
+    (fhide (trace_shares other.bound other.block other.lines)))
+    (lent_out 𝓛 PassState.struct (PassState.the_codes (marker.the_row unit).coded)
+    PassState.the_heap PassState.the_lent κs.1.0 other b₁ o₁) $ split ! $ drop ! $ unhide ! $
+    rewrite ! 0 (λ (k : Bool × BlockId). ‵ (trace_shares k.0 k.1 other.lines))
+    (λ i. (asked.1 i, asked.2 i)) refl $ fsplit ! $ drop ! $
+    move ! (1 ∷ 2 ∷ 3 ∷ []) $ opens ! tt PassState.the_row b o (λ vs. move ! (1 ∷ []) $ fsplit ! $
+    move ! (1 ∷ []) $ rewrite ! 0 (λ (k : Bool). ‵ (trace_owns k t me.number me.ready me.lines))
+    asked.0 refl $
     -- [this pass; its marker; its cell; the open borrow, in three; what the other has seen; the
     -- tokens]
-    move ! (0 ∷ 6 ∷ []) $ use2 𝓛 (later (some (λ (ls : List Line). given (IsPrefix me.lines ls × IsPrefix other.lines ls × (made_by me.number ls ≡ made_by me.number me.lines)) (‵ (trace_owns true t me.number me.ready ls)))))
-    (begins.learns 𝓛 t me.number me.ready me.lines other.lines) $ await ! tt $ pick ! (λ ls. learn ! (λ so. let after : PassState.the_row.Denot = record { marker = record {}; bound = true; block = t; number = me.number; ready = me.ready; lines = ls } in
-    move ! (1 ∷ 0 ∷ []) $ fjoin ! $ move ! (1 ∷ 0 ∷ 2 ∷ 3 ∷ 4 ∷ []) $ closes ! tt PassState.the_row after vs b o $
-    sets ! (of_opd ! (unit_lit !)) refl (tt, tt) $ feq_i ! (List Val) (vunit ∷ []) (vunit ∷ []) refl $
+    move ! (0 ∷ 6 ∷ []) $
+    use2 𝓛 (later (some (λ (ls : List Line). given (IsPrefix me.lines ls
+    × IsPrefix other.lines ls × (made_by me.number ls ≡ made_by me.number me.lines))
+    (‵ (trace_owns true t me.number me.ready ls)))))
+    (begins.learns 𝓛 t me.number me.ready me.lines other.lines) $ await ! tt $
+    pick ! (λ ls. learn ! (λ so. let after : PassState.the_row.Denot =
+    record {
+      marker = record {};
+      bound = true;
+      block = t;
+      number = me.number;
+      ready =
+          me.ready;
+      lines = ls;
+    } in
+    move ! (1 ∷ 0 ∷ []) $ fjoin ! $ move ! (1 ∷ 0 ∷ 2 ∷ 3 ∷ 4 ∷ []) $
+    closes ! tt PassState.the_row after vs b o $
+    sets ! (of_opd ! (unit_lit !)) refl (tt, tt) $ feq_i ! (List Val) (vunit ∷ []) (vunit ∷ []) refl
+    $
     -- [the result; two parts of this pass; its token; the other tokens]
-    move ! (3 ∷ 4 ∷ []) $ fjoin ! $ nothing ! $ nothing ! $ fjoin ! $ feq_i ! (List Val) (vptr b o ∷ []) (vptr b o ∷ []) refl $ move ! (0 ∷ 4 ∷ 5 ∷ []) $ fjoin3 ! $ fjoin ! $
+    move ! (3 ∷ 4 ∷ []) $ fjoin ! $ nothing ! $ nothing ! $ fjoin ! $
+    feq_i ! (List Val) (vptr b o ∷ []) (vptr b o ∷ []) refl $ move ! (0 ∷ 4 ∷ 5 ∷ []) $
+    fjoin3 ! $ fjoin ! $
     returns ! (look_at ! 0 refl) $ free_all ! refl $ keep ! (1 ∷ 0 ∷ 2 ∷ []) $
-    by ! (ends 𝓛 f.ended stayed c y vunit tt (after, (tt, tt)) (tt, (tt, tt)) (fact_i 𝓤 _ (emp 𝓤) ((refl, refl, refl, refl), so.0, so.1, so.2)))))))))
+    by ! (ends 𝓛 f.ended stayed c y vunit tt (after, (tt, tt)) (tt, (tt, tt))
+    (fact_i 𝓤 _ (emp 𝓤) ((refl, refl, refl, refl), so.0, so.1, so.2)))))))))

@@ -4,4 +4,7 @@ use Rattle.core.proofs.atomic.Sent.{chain-Keyless}
 use Rattle.arc_owners.proofs.count.Shared.{behind_keyless}
 
 pub sync : IsSync the_row
-sync = record { shared = λ t b o κ z. ((λ νs. chain-Keyless νs κ z.0), ((λ _. tt), λ n. (tt, behind_keyless t n))) }
+sync = record {
+  shared =
+      λ t b o κ z. ((λ νs. chain-Keyless νs κ z.0), ((λ _. tt), λ n. (tt, behind_keyless t n)));
+}

@@ -50,19 +50,72 @@ compare_exchange_spec 𝓤 𝓛 𝓜 𝓡 wired T L =
     let Own : RattleType = OwnerToken.the_row R in let En = f.ended T in
     let c = f.clauses T 𝓛 𝓜.mem 𝓡.returns in
     let inst = layouts (a_type ∷ []) (T, tt) in let fn = inst_fn inst code.function in
-    let hs : Stays En.signature.params En.kept =
-    (stay_dropped (RefOf (0 ∷ []) tt (plain (λ _. Word.the_row)) (λ _. tt)) yes, (stay_dropped (RefOf (1 ∷ []) tt (plain (λ _. Own)) (λ _. tt)) yes, (stay_ref (2 ∷ []) tt (plain (λ _. PassState.the_row)), (stay_ref (3 ∷ []) tt (plain (λ _. Own)), (stay_dropped (plain (λ _. u64)) yes, (stay_dropped (plain (λ _. u64)) yes, tt)))))) in
-    proved 𝓛 En hs c 𝓜 𝓡 (Goes-dropped 𝓛 5 (RefOf (0 ∷ []) tt (plain (λ _. Word.the_row)) (λ _. tt)) yes (λ κs x w. refl), (Goes-dropped 𝓛 5 (RefOf (1 ∷ []) tt (plain (λ _. Own)) (λ _. tt)) yes (λ κs x w. refl), (Goes-ref 𝓛 5 2 tt (plain (λ _. PassState.the_row)), (Goes-ref 𝓛 5 3 tt (plain (λ _. Own)), (Goes-dropped 𝓛 5 (plain (λ _. u64)) yes (λ κs x w. refl), (Goes-dropped 𝓛 5 (plain (λ _. u64)) yes (λ κs x w. refl), tt))))))
+    let hs : Stays En.signature.params En.kept = (
+      stay_dropped (RefOf (0 ∷ []) tt (plain (λ _. Word.the_row)) (λ _. tt)) yes,
+      (
+        stay_dropped (RefOf (1 ∷ []) tt (plain (λ _. Own)) (λ _. tt)) yes,
+        (
+          stay_ref (2 ∷ []) tt (plain (λ _. PassState.the_row)),
+          (
+            stay_ref (3 ∷ []) tt (plain (λ _. Own)),
+            (stay_dropped (plain (λ _. u64)) yes, (stay_dropped (plain (λ _. u64)) yes, tt)),
+          ),
+        ),
+      ),
+    ) in
+    proved 𝓛 En hs c 𝓜 𝓡 (
+      Goes-dropped 𝓛 5 (RefOf (0 ∷ []) tt (plain (λ _. Word.the_row)) (λ _. tt))
+          yes (λ κs x w. refl),
+      (
+        Goes-dropped 𝓛 5 (RefOf (1 ∷ []) tt (plain (λ _. Own)) (λ _. tt)) yes
+            (λ κs x w. refl),
+        (
+          Goes-ref 𝓛 5 2 tt (plain (λ _. PassState.the_row)),
+          (
+            Goes-ref 𝓛 5 3 tt (plain (λ _. Own)),
+            (
+              Goes-dropped 𝓛 5 (plain (λ _. u64)) yes
+                  (λ κs x w. refl),
+              (Goes-dropped 𝓛 5 (plain (λ _. u64)) yes (λ κs x w. refl), tt),
+            ),
+          ),
+        ),
+      ),
+    )
     (f.Key.name inst) fn (code.unfolded 𝓤 H 𝓜 𝓡 wired (T, tt))
     (λ κs. (shr_vals, (shr_vals, (mut_vals, (mut_vals, (uint_vals w64, (uint_vals w64, tt)))))))
-    (λ κs. (shr_Tells (named 0) κs.0 Word.the_row, (shr_Tells (named 1) κs.1.0 Own, (mut_Tells (named 2) κs.1.1.0 PassState.the_row, (mut_Tells (named 3) κs.1.1.1.0 Own, (uint_Tells w64, (uint_Tells w64, tt)))))))
+    (λ κs. (
+      shr_Tells (named 0) κs.0 Word.the_row,
+      (
+        shr_Tells (named 1) κs.1.0 Own,
+        (
+          mut_Tells (named 2) κs.1.1.0 PassState.the_row,
+          (mut_Tells (named 3) κs.1.1.1.0 Own, (uint_Tells w64, (uint_Tells w64, tt))),
+        ),
+      ),
+    ))
     (λ κs qs bounds a gh are.
     let me = a.0.now in let own = a.1.0.now in let seen = a.1.1.0.now in let b = a.0.ref_ptr.0 in
     let o = a.0.ref_ptr.1 in let b₁ = a.1.0.ref_ptr.0 in let o₁ = a.1.0.ref_ptr.1 in
     let b₂ = a.1.1.0.ref_ptr.0 in let o₂ = a.1.1.0.ref_ptr.1 in let b₃ = a.1.1.1.0.ref_ptr.0 in
     let o₃ = a.1.1.1.0.ref_ptr.1 in let old = a.1.1.1.1.0 in let next = a.1.1.1.1.1.0 in
-    let y : (walk_of 𝓛 En hs c).Ghost =
-    ((κs, qs, bounds, a, (vptr b o ∷ [], (vptr b₁ o₁ ∷ [], (vptr b₂ o₂ ∷ [], (vptr b₃ o₃ ∷ [], (vint w64 old ∷ [], (vint w64 next ∷ [], tt))))))), gh) in
+    let y : (walk_of 𝓛 En hs c).Ghost = (
+      (
+        κs,
+        qs,
+        bounds,
+        a,
+        (
+          vptr b o ∷ [],
+          (
+            vptr b₁ o₁ ∷ [],
+            (vptr b₂ o₂ ∷ [], (vptr b₃ o₃ ∷ [], (vint w64 old ∷ [], (vint w64 next ∷ [], tt)))),
+          ),
+        ),
+      ),
+      gh,
+    )
+    in
     let Post : Val → SProp 𝓤 = (walk_of 𝓛 En hs c).post y in
     let toks : Fml = fsep (flft κs.0 qs.0) (fsep (flft κs.1.0 qs.1.0)
     (fsep (flft κs.1.1.0 qs.1.1.0) (fsep (flft κs.1.1.1.0 qs.1.1.1.0)
@@ -76,8 +129,22 @@ compare_exchange_spec 𝓤 𝓛 𝓜 𝓡 wired T L =
     keep ! (5 ∷ 6 ∷ 1 ∷ 2 ∷ 8 ∷ 10 ∷ 11 ∷ 13 ∷ 14 ∷ 15 ∷ 12 ∷ []) $
     -- [two parts of the pass; two of the new right; the owner; the word; the tokens, last first]
     enter ! 𝓣.C 𝓣.Λ fn (vptr b o ∷ vptr b₁ o₁ ∷ vptr b₂ o₂ ∷ vptr b₃ o₃ ∷ vint w64 old
-    ∷ vint w64 next ∷ []) Post $ alloc_all ! (λ l. pass_all ! refl
-    ((tt, tt), ((tt, tt), ((tt, tt), ((tt, tt), ((tt, record { fits = are.1.1.1.1.0.1 }), ((tt, record { fits = are.1.1.1.1.1.0.1 }), tt)))))) $
+    ∷ vint w64 next ∷ []) Post $ alloc_all ! (λ l. pass_all ! refl (
+      (tt, tt),
+      (
+        (tt, tt),
+        (
+          (tt, tt),
+          (
+            (tt, tt),
+            (
+              (tt, record { fits = are.1.1.1.1.0.1 }),
+              ((tt, record { fits = are.1.1.1.1.1.0.1 }), tt),
+            ),
+          ),
+        ),
+      ),
+    ) $
     let Ev = env fn.locals l in
     move ! (4 ∷ []) $ owner_shown R ! b₁ o₁ me own (asked.0.0, asked.0.1) $
     move ! (1 ∷ 2 ∷ 7 ∷ []) $ pass_out ! tt b₂ o₂ me seen asked.1 $ move ! (7 ∷ []) $ unhide ! $
@@ -96,8 +163,10 @@ compare_exchange_spec 𝓤 𝓛 𝓜 𝓡 wired T L =
     (borrowed 𝓛 𝓜 𝓡 _ (vptr b o ∷ vint w64 old ∷ vint w64 next ∷ [])
     me seen.number seen.ready seen.lines own.owner own.lease κs.0 qs.0 b o op.next op.entry
     (λ r. (compare_exchange me own.owner own.lease r old next).gain)
-    (λ r. moves.exchanges 𝓛 me seen.number seen.ready seen.lines own.owner own.lease asked.0.2 r old next asked.2 asked.3)
-    made (λ r n before. places.new_owner 𝓛 me seen.number seen.ready seen.lines own.owner own.lease r
+    (λ r. moves.exchanges 𝓛 me seen.number seen.ready seen.lines own.owner own.lease asked.0.2 r old
+    next asked.2 asked.3)
+    made (λ r n before. places.new_owner 𝓛 me seen.number seen.ready seen.lines own.owner own.lease
+    r
     (eqb n old) (with_entry seen.number before (op.entry n before)) (next_owner before))
     (exchanges 𝓛 𝓜 𝓡 (code.calls-atomic_table::exchange 𝓡.env wired)
     (block_ptr b o) old next are.1.1.1.1.0.1 are.1.1.1.1.1.0.1) κs.1.0 qs.1.0 own.born) $
@@ -124,5 +193,13 @@ compare_exchange_spec 𝓤 𝓛 𝓜 𝓡 wired T L =
     move ! (3 ∷ 4 ∷ 0 ∷ []) $ given_back ! b₂ o₂ $ nothing ! $ fjoin ! $ nothing ! $ fjoin ! $
     returns ! (look_at ! 0 refl) $ free_all ! refl $ keep ! (1 ∷ 0 ∷ 2 ∷ []) $
     by ! (ends 𝓛 En hs c y (vint w64 n) n (tt, (tt, (after, (new, (tt, (tt, tt))))))
-    (tt, (tt, (tt, (tt, (tt, (tt, tt)))))) (fact_i 𝓤 _ (emp 𝓤)
-    ((refl, refl, refl, refl), (made_one me seen.number seen.lines own.owner n before (eqb n old) so, refl, refl, refl)))))))))))
+    (tt, (tt, (tt, (tt, (tt, (tt, tt)))))) (fact_i 𝓤 _ (emp 𝓤) (
+      (refl, refl, refl, refl),
+      (
+        made_one me seen.number seen.lines own.owner n before (eqb n old)
+            so,
+        refl,
+        refl,
+        refl,
+      ),
+    ))))))))))

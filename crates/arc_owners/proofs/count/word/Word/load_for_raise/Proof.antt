@@ -48,12 +48,28 @@ load_for_raise_spec 𝓤 𝓛 𝓜 𝓡 wired T L =
     let Own : RattleType = OwnerToken.the_row R in let En = f.ended T in
     let c = f.clauses T 𝓛 𝓜.mem 𝓡.returns in
     let inst = layouts (a_type ∷ []) (T, tt) in let fn = inst_fn inst code.function in
-    let hs : Stays En.signature.params En.kept =
-    (stay_dropped (RefOf (0 ∷ []) tt (plain (λ _. Word.the_row)) (λ _. tt)) yes, (stay_dropped (RefOf (1 ∷ []) tt (plain (λ _. Own)) (λ _. tt)) yes, (stay_ref (2 ∷ []) tt (plain (λ _. PassState.the_row)), tt))) in
-    proved 𝓛 En hs c 𝓜 𝓡 (Goes-dropped 𝓛 4 (RefOf (0 ∷ []) tt (plain (λ _. Word.the_row)) (λ _. tt)) yes (λ κs x w. refl), (Goes-dropped 𝓛 4 (RefOf (1 ∷ []) tt (plain (λ _. Own)) (λ _. tt)) yes (λ κs x w. refl), (Goes-ref 𝓛 4 2 tt (plain (λ _. PassState.the_row)), tt)))
+    let hs : Stays En.signature.params En.kept = (
+      stay_dropped (RefOf (0 ∷ []) tt (plain (λ _. Word.the_row)) (λ _. tt)) yes,
+      (
+        stay_dropped (RefOf (1 ∷ []) tt (plain (λ _. Own)) (λ _. tt)) yes,
+        (stay_ref (2 ∷ []) tt (plain (λ _. PassState.the_row)), tt),
+      ),
+    ) in
+    proved 𝓛 En hs c 𝓜 𝓡 (
+      Goes-dropped 𝓛 4 (RefOf (0 ∷ []) tt (plain (λ _. Word.the_row)) (λ _. tt))
+          yes (λ κs x w. refl),
+      (
+        Goes-dropped 𝓛 4 (RefOf (1 ∷ []) tt (plain (λ _. Own)) (λ _. tt)) yes
+            (λ κs x w. refl),
+        (Goes-ref 𝓛 4 2 tt (plain (λ _. PassState.the_row)), tt),
+      ),
+    )
     (f.Key.name inst) fn (code.unfolded 𝓤 H 𝓜 𝓡 wired (T, tt))
     (λ κs. (shr_vals, (shr_vals, (mut_vals, tt))))
-    (λ κs. (shr_Tells (named 0) κs.0 Word.the_row, (shr_Tells (named 1) κs.1.0 Own, (mut_Tells (named 2) κs.1.1.0 PassState.the_row, tt))))
+    (λ κs. (
+      shr_Tells (named 0) κs.0 Word.the_row,
+      (shr_Tells (named 1) κs.1.0 Own, (mut_Tells (named 2) κs.1.1.0 PassState.the_row, tt)),
+    ))
     (λ κs qs bounds a gh are.
     let me = a.0.now in let own = a.1.0.now in let seen = a.1.1.0.now in let b = a.0.ref_ptr.0 in
     let o = a.0.ref_ptr.1 in let b₁ = a.1.0.ref_ptr.0 in let o₁ = a.1.0.ref_ptr.1 in
@@ -107,4 +123,8 @@ load_for_raise_spec 𝓤 𝓛 𝓜 𝓡 wired T L =
     fjoin ! $
     returns ! (look_at ! 0 refl) $ free_all ! refl $ keep ! (1 ∷ 0 ∷ 2 ∷ []) $
     by ! (ends 𝓛 En hs c y (vint w64 n) n (tt, (tt, (after, tt))) (tt, (tt, (tt, tt)))
-    (fact_i 𝓤 _ (emp 𝓤) ((refl, refl, refl, refl), filled me seen.number seen.lines own.owner n before (eqb n me.most) so))))))))))
+    (fact_i 𝓤 _ (emp 𝓤) (
+      (refl, refl, refl, refl),
+      filled me seen.number seen.lines own.owner n
+          before (eqb n me.most) so,
+    ))))))))))

@@ -51,19 +51,54 @@ subtract_spec 𝓤 𝓛 𝓜 𝓡 wired T L =
     let Own : RattleType = OwnerToken.the_row R in let En = f.ended T in
     let c = f.clauses T 𝓛 𝓜.mem 𝓡.returns in
     let inst = layouts (a_type ∷ []) (T, tt) in let fn = inst_fn inst code.function in
-    let hs : Stays En.signature.params En.kept =
-    (stay_dropped (RefOf (0 ∷ []) tt (plain (λ _. Word.the_row)) (λ _. tt)) yes, (stay_ref (1 ∷ []) tt (plain (λ _. Own)), (stay_ref (2 ∷ []) tt (plain (λ _. PassState.the_row)), (stay_ref (3 ∷ []) tt (plain (λ _. EndTokens.the_row)), tt)))) in
-    proved 𝓛 En hs c 𝓜 𝓡 (Goes-dropped 𝓛 5 (RefOf (0 ∷ []) tt (plain (λ _. Word.the_row)) (λ _. tt)) yes (λ κs x w. refl), (Goes-ref 𝓛 5 1 tt (plain (λ _. Own)), (Goes-ref 𝓛 5 2 tt (plain (λ _. PassState.the_row)), (Goes-ref 𝓛 5 3 tt (plain (λ _. EndTokens.the_row)), tt))))
+    let hs : Stays En.signature.params En.kept = (
+      stay_dropped (RefOf (0 ∷ []) tt (plain (λ _. Word.the_row)) (λ _. tt)) yes,
+      (
+        stay_ref (1 ∷ []) tt (plain (λ _. Own)),
+        (
+          stay_ref (2 ∷ []) tt (plain (λ _. PassState.the_row)),
+          (stay_ref (3 ∷ []) tt (plain (λ _. EndTokens.the_row)), tt),
+        ),
+      ),
+    ) in
+    proved 𝓛 En hs c 𝓜 𝓡 (
+      Goes-dropped 𝓛 5 (RefOf (0 ∷ []) tt (plain (λ _. Word.the_row)) (λ _. tt))
+          yes (λ κs x w. refl),
+      (
+        Goes-ref 𝓛 5 1 tt (plain (λ _. Own)),
+        (
+          Goes-ref 𝓛 5 2 tt (plain (λ _. PassState.the_row)),
+          (Goes-ref 𝓛 5 3 tt (plain (λ _. EndTokens.the_row)), tt),
+        ),
+      ),
+    )
     (f.Key.name inst) fn (code.unfolded 𝓤 H 𝓜 𝓡 wired (T, tt))
     (λ κs. (shr_vals, (mut_vals, (mut_vals, (mut_vals, tt)))))
-    (λ κs. (shr_Tells (named 0) κs.0 Word.the_row, (mut_Tells (named 1) κs.1.0 Own, (mut_Tells (named 2) κs.1.1.0 PassState.the_row, (mut_Tells (named 3) κs.1.1.1.0 EndTokens.the_row, tt)))))
+    (λ κs. (
+      shr_Tells (named 0) κs.0 Word.the_row,
+      (
+        mut_Tells (named 1) κs.1.0 Own,
+        (
+          mut_Tells (named 2) κs.1.1.0 PassState.the_row,
+          (mut_Tells (named 3) κs.1.1.1.0 EndTokens.the_row, tt),
+        ),
+      ),
+    ))
     (λ κs qs bounds a gh are.
     let me = a.0.now in let own = a.1.0.now in let seen = a.1.1.0.now in let b = a.0.ref_ptr.0 in
     let o = a.0.ref_ptr.1 in let b₁ = a.1.0.ref_ptr.0 in let o₁ = a.1.0.ref_ptr.1 in
     let b₂ = a.1.1.0.ref_ptr.0 in let o₂ = a.1.1.0.ref_ptr.1 in let b₃ = a.1.1.1.0.ref_ptr.0 in
     let o₃ = a.1.1.1.0.ref_ptr.1 in
-    let y : (walk_of 𝓛 En hs c).Ghost =
-    ((κs, qs, bounds, a, (vptr b o ∷ [], (vptr b₁ o₁ ∷ [], (vptr b₂ o₂ ∷ [], (vptr b₃ o₃ ∷ [], tt))))), gh) in
+    let y : (walk_of 𝓛 En hs c).Ghost = (
+      (
+        κs,
+        qs,
+        bounds,
+        a,
+        (vptr b o ∷ [], (vptr b₁ o₁ ∷ [], (vptr b₂ o₂ ∷ [], (vptr b₃ o₃ ∷ [], tt)))),
+      ),
+      gh,
+    ) in
     let Post : Val → SProp 𝓤 = (walk_of 𝓛 En hs c).post y in
     let toks : Fml = fsep (flft κs.0 qs.0) (fsep (flft κs.1.0 qs.1.0)
     (fsep (flft κs.1.1.0 qs.1.1.0) (fsep (flft κs.1.1.1.0 qs.1.1.1.0)
@@ -124,5 +159,11 @@ subtract_spec 𝓤 𝓛 𝓜 𝓡 wired T L =
     move ! (3 ∷ 4 ∷ 0 ∷ []) $ given_back ! b₁ o₁ $ nothing ! $ fjoin ! $
     returns ! (look_at ! 0 refl) $ free_all ! refl $ keep ! (1 ∷ 0 ∷ 2 ∷ []) $
     by ! (ends 𝓛 En hs c y (vint w64 n) n (tt, (gone, (after, (left, tt))))
-    (tt, (tt, (tt, (tt, tt)))) (fact_i 𝓤 _ (emp 𝓤)
-    ((refl, refl, refl, refl), ends_when me seen.number seen.lines own.owner n before (eqb n 1) refl so, refl, refl, refl))))))))))
+    (tt, (tt, (tt, (tt, tt)))) (fact_i 𝓤 _ (emp 𝓤) (
+      (refl, refl, refl, refl),
+      ends_when me seen.number seen.lines own.owner n before (eqb n 1) refl
+          so,
+      refl,
+      refl,
+      refl,
+    ))))))))))

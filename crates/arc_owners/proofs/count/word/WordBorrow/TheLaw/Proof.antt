@@ -9,5 +9,7 @@ use Rattle.arc_owners.proofs.count.Shared.{word_borrow_shr, word_borrow_lends}
 use Rattle.arc_owners.proofs.count.word.WordBorrow.TheLaw.Statement.{statement}
 
 pub shares : statement
-shares = of_Lends C.struct (C.the_codes (marker.the_row unit).coded) C.the_heap C.the_lent (λ d p. word_borrow_shr d.block d.at d.lifetime) (copy_shared (marker.the_field unit) (field_copy (marker.the_type unit) tt), tt)
+shares = of_Lends C.struct (C.the_codes (marker.the_row unit).coded) C.the_heap C.the_lent
+    (λ d p. word_borrow_shr d.block d.at d.lifetime)
+    (copy_shared (marker.the_field unit) (field_copy (marker.the_type unit) tt), tt)
     (λ M 𝓤 𝓛 d p. word_borrow_lends 𝓛 d.block d.at d.lifetime C.the_row.lives)

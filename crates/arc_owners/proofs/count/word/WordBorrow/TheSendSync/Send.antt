@@ -3,4 +3,8 @@ use Rattle.arc_owners.specs.contracts.count.word.WordBorrow.{the_row}
 use Rattle.arc_owners.proofs.count.Shared.{word_borrow_keyless}
 
 pub send : IsSend the_row
-send = record { owned = λ d vs. ((λ vss. (tt, ((λ uss. (tt, tt)), tt))), word_borrow_keyless d.block d.at d.lifetime); leaving = λ k f vs. tt }
+send = record {
+  owned =
+      λ d vs. ((λ vss. (tt, ((λ uss. (tt, tt)), tt))), word_borrow_keyless d.block d.at d.lifetime);
+  leaving = λ k f vs. tt;
+}

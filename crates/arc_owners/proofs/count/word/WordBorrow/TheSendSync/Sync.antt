@@ -6,4 +6,7 @@ use Rattle.arc_owners.proofs.count.Shared.{word_borrow_keyless}
 
 pub sync : IsSync the_row
 sync = let fields : IsSync (Struct (shape the_type)) = search sendable depth 20 in
-    record { shared = λ d b o ν. (fields.shared (tt, tt) b o ν, word_borrow_keyless d.block d.at d.lifetime) }
+    record {
+      shared =
+          λ d b o ν. (fields.shared (tt, tt) b o ν, word_borrow_keyless d.block d.at d.lifetime);
+    }

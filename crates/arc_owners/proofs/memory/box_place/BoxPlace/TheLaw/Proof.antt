@@ -20,7 +20,13 @@ use Rattle.arc_owners.proofs.memory.box_place.BoxPlace.TheLaw.Statement.{stateme
 
 pub shares : (T A : RattleType) (g : Ghosts A.Denot) (L : Laws T) (K : Laws A) → statement T A g L K
 shares T A g L K = let l = (C.the_row T A g).lives in
-    of_Lends (C.struct T A g) (C.the_codes T.Denot A.Denot T.coded A.coded (marker.the_row A).coded) (C.the_heap T A g) (C.the_lent T A g) (λ d p. lent_at_shr_laws T L.shr_laws d.at d.value)
-    (copy_shared RawPtr-field RawPtr-copy, (copy_shared (marker.the_field A) (field_copy (marker.the_type A) tt), tt))
-    (λ M 𝓤 𝓛 d p. Lends-first 𝓛 (lies_at T full_share d.at d.value) (g.dealloc_token d.alloc (bare (lone T.mir)) d.at) (lent_at T d.at d.value) l
-    (Lends-lies 𝓛 T l d.at d.value (Shares-less 𝓛 T T.lives l (Incl-trans (meet_⊑_left (T.lives ++ (A.lives ++ [])) _) (meet_⊑_left T.lives (A.lives ++ []))) (L.shares 𝓛) d.value)))
+    of_Lends (C.struct T A g) (C.the_codes T.Denot A.Denot T.coded A.coded (marker.the_row A).coded)
+    (C.the_heap T A g) (C.the_lent T A g) (λ d p. lent_at_shr_laws T L.shr_laws d.at d.value) (
+      copy_shared RawPtr-field RawPtr-copy,
+      (copy_shared (marker.the_field A) (field_copy (marker.the_type A) tt), tt),
+    )
+    (λ M 𝓤 𝓛 d p. Lends-first 𝓛 (lies_at T full_share d.at d.value)
+    (g.dealloc_token d.alloc (bare (lone T.mir)) d.at) (lent_at T d.at d.value) l
+    (Lends-lies 𝓛 T l d.at d.value
+    (Shares-less 𝓛 T T.lives l (Incl-trans (meet_⊑_left (T.lives ++ (A.lives ++ [])) _)
+    (meet_⊑_left T.lives (A.lives ++ []))) (L.shares 𝓛) d.value)))

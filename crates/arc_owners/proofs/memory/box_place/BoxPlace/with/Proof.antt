@@ -6,7 +6,8 @@ use mir.MapTy.{inst_fn}
 use base.Logic.{SProp, ent, emp, id⊢}
 use base.Fml.{ftrue, fsep, flft}
 use prog.Wp.{WpFn}
-use types.Kit.{‵, raw, ◌⊛◌, ◌$◌, ◌∵◌, !, qed, by, move, keep, split, fsplit, fjoin, suffices, use0, use1, rewrite}
+use types.Kit.{‵, raw, ◌⊛◌, ◌$◌, ◌∵◌, !, qed, by, move, keep, split, fsplit, fjoin, suffices, use0}
+use types.Kit.{use1, rewrite}
 use types.Run.{stop, fld, of_opd, no_more, and_then, returns, enter}
 use types.ByLocal.{alloc_all, pass_all, free_all, look_at, get, get_in, sets}
 use types.Part.{agg, sub, whole}
@@ -32,21 +33,54 @@ use Rattle.arc_owners.proofs.memory.box_place.BoxPlace.with.Code as code
 
 pub with_spec : {M : Type 1} → statement M
 with_spec 𝓤 𝓛 𝓜 𝓡 wired T A L LA g d da allocator glued =
-    let H = 𝓛.H in let 𝓣 = tables 𝓤 H 𝓜 𝓡 𝓡.env in let E : Bx = record { row = T; laws = L; al = record { row = A; laws = LA; g = g; d = d; drops = da } } in
+    let H = 𝓛.H in let 𝓣 = tables 𝓤 H 𝓜 𝓡 𝓡.env in
+    let E : Bx = record {
+      row = T;
+      laws = L;
+      al = record {
+        row = A;
+        laws = LA;
+        g = g;
+        d = d;
+        drops = da;
+      };
+    } in
     let En = f.ended T A g d da in let c = f.clauses T A g d da 𝓛 𝓜.mem 𝓡.returns in
-    let inst = bounded (a_type ∷ a_type ∷ []) (T, (A, tt)) (dcons d (dcons da dnil)) in let fn = inst_fn inst code.function in
-    let hs : Stays En.signature.params En.kept = (stay_dropped (plain (λ _. Row E)) no, (stay_dropped (plain (λ _. P E)) no, tt)) in
-    proved_at 𝓛 En hs c 𝓜 𝓡 (Goes-blank 𝓛 2 (plain (λ _. Row E)) no (λ κs x w. tt), (Goes-blank 𝓛 2 (plain (λ _. P E)) no (λ κs x w. tt), tt)) (f.Key.name inst) fn (code.unfolded 𝓤 H 𝓜 𝓡 wired (T, (A, tt)) d da) (λ y are.
-    let κs = y.0.0 in let qs = y.0.1 in let me : (Row E).Denot = y.0.3.0 in let al : A.Denot = y.0.3.1.0 in let vss = y.0.4 in let Post : Val → SProp 𝓤 = (walk_of 𝓛 En hs c).post y in let Run : List Val → SProp 𝓤 = λ ws. WpFn 𝓤 H 𝓣.C 𝓣.Λ fn ws Post in
-    qed 𝓛 ((‵ (fsep (flft κs.0 qs.0) (fsep (flft κs.1.0 qs.1.0) ftrue)) ⊛ ‵ (owns (types_at En.signature.params κs) y.0.3 vss)) ∷ raw (fact 𝓤 (κs.0 ⊑ T.lives)) ∷ raw (fact 𝓤 (κs.1.0 ⊑ A.lives)) ∷ raw (fact 𝓤 (al ≡ me.alloc)) ∷ []) ∵
-    move ! (3 ∷ []) $ heard ! (al ≡ me.alloc) (λ same. keep ! (0 ∷ []) $ split ! $ move ! (1 ∷ []) $ fsplit ! $ place_out E ! me vss.0 (λ b o at_b is. move ! (2 ∷ []) $ fsplit ! $
+    let inst = bounded (a_type ∷ a_type ∷ []) (T, (A, tt)) (dcons d (dcons da dnil)) in
+    let fn = inst_fn inst code.function in
+    let hs : Stays En.signature.params En.kept =
+    (stay_dropped (plain (λ _. Row E)) no, (stay_dropped (plain (λ _. P E)) no, tt)) in
+    proved_at 𝓛 En hs c 𝓜 𝓡 (
+      Goes-blank 𝓛 2 (plain (λ _. Row E)) no (λ κs x w. tt),
+      (Goes-blank 𝓛 2 (plain (λ _. P E)) no (λ κs x w. tt), tt),
+    ) (f.Key.name inst) fn
+    (code.unfolded 𝓤 H 𝓜 𝓡 wired (T, (A, tt)) d da) (λ y are.
+    let κs = y.0.0 in let qs = y.0.1 in let me : (Row E).Denot = y.0.3.0 in
+    let al : A.Denot = y.0.3.1.0 in let vss = y.0.4 in
+    let Post : Val → SProp 𝓤 = (walk_of 𝓛 En hs c).post y in
+    let Run : List Val → SProp 𝓤 = λ ws. WpFn 𝓤 H 𝓣.C 𝓣.Λ fn ws Post in
+    qed 𝓛 ((‵ (fsep (flft κs.0 qs.0) (fsep (flft κs.1.0 qs.1.0) ftrue)) ⊛ ‵
+    (owns (types_at En.signature.params κs) y.0.3 vss)) ∷ raw (fact 𝓤 (κs.0 ⊑ T.lives)) ∷ raw
+    (fact 𝓤 (κs.1.0 ⊑ A.lives)) ∷ raw (fact 𝓤 (al ≡ me.alloc)) ∷ []) ∵
+    move ! (3 ∷ []) $ heard ! (al ≡ me.alloc) (λ same. keep ! (0 ∷ []) $ split ! $ move ! (1 ∷ []) $
+    fsplit ! $ place_out E ! me vss.0 (λ b o at_b is. move ! (2 ∷ []) $ fsplit ! $
     handle_tells E.al ! al vss.1.0 (λ h ea fits.
     -- [the allocator; no more parameters; what lies there; the right to free it; the tokens]
-    let p : Val = word E (block_ptr b o) in let v : Val = box_word E h b o in let now : (Bare E).Denot = record { at = me.at; alloc = al; value = me.value } in
-    suffices ! (Run (p ∷ h ∷ [])) (subst (λ (us : List Val). ent 𝓤 (Run (p ∷ h ∷ [])) (Run us)) (sym (λ i. is i ++ (ea i ++ []))) (id⊢ 𝓤 (Run (p ∷ h ∷ [])))) $
-    enter ! 𝓣.C 𝓣.Λ fn (p ∷ h ∷ []) Post $ alloc_all ! (λ l. pass_all ! refl ((tt, (tt, (tt, tt))), (fits, tt)) $
-    rewrite ! 3 (λ (k : A.Denot). ‵ (frees E (record me { alloc = k }) b o)) (sym same) refl $ move ! (2 ∷ 3 ∷ 0 ∷ []) $ box_in E ! (boxed E now) b o me.value at_b refl $ use1 𝓛 (‵ ((Bare E).own_val now (v ∷ []))) (as_bare E 𝓛 now (v ∷ [])) $
-    sets ! (of_opd ! (get_in ! (fld ! refl (stop !)) (sub ! 0 refl (whole !)))) refl (tt, tt) $ sets ! (of_opd ! (get ! refl)) refl fits $ sets ! (agg ! (and_then ! (get ! refl) (and_then ! (get ! refl) (no_more !)))) refl (box_typed E h b o fits) $
+    let p : Val = word E (block_ptr b o) in let v : Val = box_word E h b o in
+    let now : (Bare E).Denot = record { at = me.at; alloc = al; value = me.value } in
+    suffices ! (Run (p ∷ h ∷ [])) (subst (λ (us : List Val). ent 𝓤 (Run (p ∷ h ∷ [])) (Run us))
+    (sym (λ i. is i ++ (ea i ++ []))) (id⊢ 𝓤 (Run (p ∷ h ∷ [])))) $
+    enter ! 𝓣.C 𝓣.Λ fn (p ∷ h ∷ []) Post $
+    alloc_all ! (λ l. pass_all ! refl ((tt, (tt, (tt, tt))), (fits, tt)) $
+    rewrite ! 3 (λ (k : A.Denot). ‵ (frees E (record me { alloc = k }) b o)) (sym same) refl $
+    move ! (2 ∷ 3 ∷ 0 ∷ []) $ box_in E ! (boxed E now) b o me.value at_b refl $
+    use1 𝓛 (‵ ((Bare E).own_val now (v ∷ []))) (as_bare E 𝓛 now (v ∷ [])) $
+    sets ! (of_opd ! (get_in ! (fld ! refl (stop !)) (sub ! 0 refl (whole !)))) refl (tt, tt) $
+    sets ! (of_opd ! (get ! refl)) refl fits $
+    sets ! (agg ! (and_then ! (get ! refl) (and_then ! (get ! refl) (no_more !)))) refl
+    (box_typed E h b o fits) $
     let Told : Type 0 = (me.value ≡ me.value) × (me.at ≡ me.at) × (al ≡ al) in
-    use0 𝓛 (raw (fact 𝓤 Told)) (fact_i 𝓤 Told (emp 𝓤) (refl, refl, refl)) $ nothing ! $ nothing ! $ fjoin ! $ nothing ! $ fjoin ! $
-    returns ! (look_at ! 0 refl) $ free_all ! refl $ keep ! (4 ∷ 0 ∷ 2 ∷ 1 ∷ []) $ by ! (leaves 𝓛 En hs c y v now (tt, (tt, tt)) (tt, (tt, tt))))))))
+    use0 𝓛 (raw (fact 𝓤 Told)) (fact_i 𝓤 Told (emp 𝓤) (refl, refl, refl)) $ nothing ! $ nothing ! $
+    fjoin ! $ nothing ! $ fjoin ! $
+    returns ! (look_at ! 0 refl) $ free_all ! refl $ keep ! (4 ∷ 0 ∷ 2 ∷ 1 ∷ []) $
+    by ! (leaves 𝓛 En hs c y v now (tt, (tt, tt)) (tt, (tt, tt))))))))

@@ -9,8 +9,10 @@ use base.Fml.{ftrue, fsep, feq, flft, fat, froom}
 use prog.Wp.{WpFn}
 use types.Kit.{‵, raw, ◌⊛◌, some, given, at_ret, ◌$◌, ◌∵◌, !, qed, by, move, keep, split}
 use types.Kit.{fsplit, fjoin, fpack, feq_i, pick, learn, suffices, use1}
-use types.Run.{look, load, stop, fld, of_opd, no_more, and_then, first, blocks, exec, returns, enter}
-use types.ByLocal.{alloc_all, pass_all, free_all, look_at, get, get_in, through, sets, sets_last, env}
+use types.Run.{look, load, stop, fld, of_opd, no_more, and_then, first, blocks, exec, returns}
+use types.Run.{enter}
+use types.ByLocal.{alloc_all, pass_all, free_all, look_at, get, get_in, through, sets, sets_last}
+use types.ByLocal.{env}
 use types.Part.{agg, sub, whole}
 use contract.Monad.{fact_i}
 use contract.Running.{tables}

@@ -5,7 +5,8 @@ use mir.Val.{Val, vptr}
 use mir.MapTy.{inst_fn}
 use base.Logic.{SProp, emp}
 use base.Fml.{Fml, ftrue, fsep, flft, fhide}
-use types.Kit.{‵, raw, ◌⊛◌, ◌$◌, ◌∵◌, !, qed, by, move, keep, drop, split, fsplit, fjoin, use0, use1}
+use types.Kit.{‵, raw, ◌⊛◌, ◌$◌, ◌∵◌, !, qed, by, move, keep, drop, split, fsplit, fjoin, use0}
+use types.Kit.{use1}
 use types.Run.{no_more, and_then, returns, enter}
 use types.ByLocal.{alloc_all, pass_all, free_all, look_at, get, sets}
 use types.Part.{agg}
@@ -35,21 +36,45 @@ use Rattle.arc_owners.proofs.memory.inheritance.Inheritance.again.Code as code
 
 pub again_spec : {M : Type 1} → statement M
 again_spec 𝓤 𝓛 𝓜 𝓡 wired T A L LA g d da allocator glued =
-    let H = 𝓛.H in let 𝓣 = tables 𝓤 H 𝓜 𝓡 𝓡.env in let R : RattleType = param 0 T in let Z : RattleType = param 1 A in let Both : RattleType = Tuple (R ∷ Z ∷ []) in
+    let H = 𝓛.H in let 𝓣 = tables 𝓤 H 𝓜 𝓡 𝓡.env in let R : RattleType = param 0 T in
+    let Z : RattleType = param 1 A in let Both : RattleType = Tuple (R ∷ Z ∷ []) in
     let En = f.ended T A g d da in let c = f.clauses T A g d da 𝓛 𝓜.mem 𝓡.returns in
-    let inst = bounded (a_type ∷ a_type ∷ []) (T, (A, tt)) (dcons d (dcons da dnil)) in let fn = inst_fn inst code.function in let Row : RattleType = Inheritance.the_row R Z g in
-    let hs : Stays En.signature.params En.kept = (stay_dropped (RefOf (0 ∷ []) tt (plain (λ _. Row)) (λ _. tt)) yes, tt) in
-    proved 𝓛 En hs c 𝓜 𝓡 (Goes-dropped 𝓛 3 (RefOf (0 ∷ []) tt (plain (λ _. Row)) (λ _. tt)) yes (λ κs x w. refl), tt) (f.Key.name inst) fn (code.unfolded 𝓤 H 𝓜 𝓡 wired (T, (A, tt)) d da)
+    let inst = bounded (a_type ∷ a_type ∷ []) (T, (A, tt)) (dcons d (dcons da dnil)) in
+    let fn = inst_fn inst code.function in let Row : RattleType = Inheritance.the_row R Z g in
+    let hs : Stays En.signature.params En.kept =
+    (stay_dropped (RefOf (0 ∷ []) tt (plain (λ _. Row)) (λ _. tt)) yes, tt) in
+    proved 𝓛 En hs c 𝓜 𝓡 (
+      Goes-dropped 𝓛 3 (RefOf (0 ∷ []) tt (plain (λ _. Row)) (λ _. tt)) yes
+          (λ κs x w. refl),
+      tt,
+    ) (f.Key.name inst) fn (code.unfolded 𝓤 H 𝓜 𝓡 wired (T, (A, tt)) d da)
     (λ κs. (shr_vals, tt)) (λ κs. (shr_Tells (named 0) κs.0 Row, tt)) (λ κs qs bounds a gh are.
-    let me = a.0.now in let b = a.0.ref_ptr.0 in let o = a.0.ref_ptr.1 in let Had : Fml = kept (box_owns (g.dealloc_token me.alloc) R me.at me.value) me.lease in
-    let y : (walk_of 𝓛 En hs c).Ghost = ((κs, qs, bounds, a, (vptr b o ∷ [], tt)), gh) in let Post : Val → SProp 𝓤 = (walk_of 𝓛 En hs c).post y in
-    qed 𝓛 ((‵ (fsep (flft κs.0 qs.0) (fsep (flft κs.1.0 qs.1.0) (fsep (flft κs.1.1.0 qs.1.1.0) ftrue))) ⊛ ‵ (owns (types_at En.signature.params κs) a y.0.4)) ∷ raw ((c κs a).requires gh) ∷ []) ∵ keep ! (0 ∷ []) $ split ! $
+    let me = a.0.now in let b = a.0.ref_ptr.0 in let o = a.0.ref_ptr.1 in
+    let Had : Fml = kept (box_owns (g.dealloc_token me.alloc) R me.at me.value) me.lease in
+    let y : (walk_of 𝓛 En hs c).Ghost = ((κs, qs, bounds, a, (vptr b o ∷ [], tt)), gh) in
+    let Post : Val → SProp 𝓤 = (walk_of 𝓛 En hs c).post y in
+    qed 𝓛 ((‵ (fsep (flft κs.0 qs.0)
+    (fsep (flft κs.1.0 qs.1.0) (fsep (flft κs.1.1.0 qs.1.1.0) ftrue))) ⊛ ‵
+    (owns (types_at En.signature.params κs) a y.0.4)) ∷ raw ((c κs a).requires gh) ∷ [])
+    ∵ keep ! (0 ∷ []) $ split ! $
     move ! (1 ∷ []) $ fsplit ! $ fsplit ! $ keep ! (1 ∷ 3 ∷ []) $
     -- [what is lent of it; the tokens]
     enter ! 𝓣.C 𝓣.Λ fn (vptr b o ∷ []) Post $ alloc_all ! (λ l. pass_all ! refl ((tt, tt), tt) $
     use1 𝓛 (‵ (hidden_shr (Token Both) κs.0 (me.marker, tt) b o) ⊛ ‵ (fhide Had))
-    (lent_out 𝓛 (Inheritance.struct R Z g) (Inheritance.the_codes T.Denot A.Denot T.coded A.coded (marker.the_row Both).coded) (Inheritance.the_heap R Z g) (Inheritance.the_lent R Z g) κs.0 me b o) $ split ! $ drop ! $ unhide ! $
-    sets ! (agg ! (no_more !)) refl (tt, tt) $ sets ! (agg ! (and_then ! (get ! refl) (no_more !))) refl (tt, (tt, tt)) $
-    use0 𝓛 (‵ ((Token Both).own_val (record {}, tt) (token ∷ []))) (token_made Both 𝓛) $ fjoin ! $ nothing ! $ nothing ! $ fjoin ! $
+    (lent_out 𝓛 (Inheritance.struct R Z g) (Inheritance.the_codes T.Denot A.Denot T.coded A.coded
+    (marker.the_row Both).coded) (Inheritance.the_heap R Z g) (Inheritance.the_lent R Z g) κs.0
+    me b o) $ split ! $ drop ! $ unhide ! $
+    sets ! (agg ! (no_more !)) refl (tt, tt) $ sets ! (agg ! (and_then ! (get ! refl) (no_more !)))
+    refl (tt, (tt, tt)) $
+    use0 𝓛 (‵ ((Token Both).own_val (record {}, tt) (token ∷ []))) (token_made Both 𝓛) $ fjoin ! $
+    nothing ! $ nothing ! $ fjoin ! $
     returns ! (look_at ! 0 refl) $ free_all ! refl $ keep ! (2 ∷ 0 ∷ 1 ∷ []) $
-    by ! (ends 𝓛 En hs c y token (record { marker = record {}; value = me.value; alloc = me.alloc; at = me.at; lease = me.lease }) (tt, tt) (tt, tt) (fact_i 𝓤 _ (emp 𝓤) (refl, refl, refl, refl)))))
+    by ! (ends 𝓛 En hs c y token
+    (record {
+      marker = record {};
+      value = me.value;
+      alloc = me.alloc;
+      at = me.at;
+      lease =
+          me.lease;
+    }) (tt, tt) (tt, tt) (fact_i 𝓤 _ (emp 𝓤) (refl, refl, refl, refl)))))

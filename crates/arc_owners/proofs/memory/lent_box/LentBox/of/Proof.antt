@@ -7,7 +7,8 @@ use base.Logic.{SProp, ent, emp, id⊢}
 use base.Fml.{Fml, Lft, ftrue, fsep, feq, flft, finv}
 use prog.Wp.{WpFn}
 use types.Tokens.{bor_new}
-use types.Kit.{‵, raw, ◌⊛◌, later, ◌$◌, ◌∵◌, !, qed, by, move, keep, drop, split, fsplit, fjoin, fpack, suffices, use0, use1, await, feq_i, feq_l}
+use types.Kit.{‵, raw, ◌⊛◌, later, ◌$◌, ◌∵◌, !, qed, by, move, keep, drop, split, fsplit, fjoin}
+use types.Kit.{fpack, suffices, use0, use1, await, feq_i, feq_l}
 use types.Run.{stop, fld, of_opd, no_more, and_then, returns, enter}
 use types.ByLocal.{alloc_all, pass_all, free_all, look_at, get, get_in, sets}
 use types.Part.{agg, sub, whole}
@@ -40,35 +41,117 @@ use Rattle.arc_owners.proofs.memory.lent_box.LentBox.of.Code as code
 
 pub of_spec : {M : Type 1} → statement M
 of_spec 𝓤 𝓛 𝓜 𝓡 wired T A Q L LA LQ g d da allocator glued =
-    let H = 𝓛.H in let 𝓣 = tables 𝓤 H 𝓜 𝓡 𝓡.env in let E : Bx = record { row = T; laws = L; al = record { row = A; laws = LA; g = g; d = d; drops = da } } in
-    let Own : RattleType = OwnerToken.the_row (param 2 Q) in let En = f.ended T A Q g d da in let c = f.clauses T A Q g d da 𝓛 𝓜.mem 𝓡.returns in
-    let inst = bounded (a_type ∷ a_type ∷ a_type ∷ []) (T, (A, (Q, tt))) (dcons d (dcons da dnil)) in let fn = inst_fn inst code.function in
-    let Both : RattleType = Tuple (R E ∷ P E ∷ []) in let K : RattleType = Inheritance.the_row (R E) (P E) g in let N : RattleType = LentBox.the_row (R E) (P E) g in
-    let hs : Stays En.signature.params En.kept = (stay_dropped (plain (λ _. Row E)) no, (stay_dropped (RefOf (0 ∷ []) tt (plain (λ _. Own)) (λ _. tt)) yes, tt)) in
-    proved_at 𝓛 En hs c 𝓜 𝓡
-    (Goes-blank 𝓛 4 (plain (λ _. Row E)) no (λ κs x w. tt), (Goes-dropped 𝓛 4 (RefOf (0 ∷ []) tt (plain (λ _. Own)) (λ _. tt)) yes (λ κs x w. refl), tt))
+    let H = 𝓛.H in let 𝓣 = tables 𝓤 H 𝓜 𝓡 𝓡.env in
+    let E : Bx = record {
+      row = T;
+      laws = L;
+      al = record {
+        row = A;
+        laws = LA;
+        g = g;
+        d = d;
+        drops = da;
+      };
+    } in
+    let Own : RattleType = OwnerToken.the_row (param 2 Q) in let En = f.ended T A Q g d da in
+    let c = f.clauses T A Q g d da 𝓛 𝓜.mem 𝓡.returns in
+    let inst = bounded (a_type ∷ a_type ∷ a_type ∷ []) (T, (A, (Q, tt))) (dcons d (dcons da dnil))
+    in let fn = inst_fn inst code.function in
+    let Both : RattleType = Tuple (R E ∷ P E ∷ []) in
+    let K : RattleType = Inheritance.the_row (R E) (P E) g in
+    let N : RattleType = LentBox.the_row (R E) (P E) g in
+    let hs : Stays En.signature.params En.kept = (
+      stay_dropped (plain (λ _. Row E)) no,
+      (stay_dropped (RefOf (0 ∷ []) tt (plain (λ _. Own)) (λ _. tt)) yes, tt),
+    ) in
+    proved_at 𝓛 En hs c 𝓜 𝓡 (
+      Goes-blank 𝓛 4 (plain (λ _. Row E)) no (λ κs x w. tt),
+      (
+        Goes-dropped 𝓛 4 (RefOf (0 ∷ []) tt (plain (λ _. Own)) (λ _. tt)) yes (λ κs x w. refl),
+        tt,
+      ),
+    )
     (f.Key.name inst) fn (code.unfolded 𝓤 H 𝓜 𝓡 wired (T, (A, (Q, tt))) d da) (λ y are.
-    let κs = y.0.0 in let qs = y.0.1 in let a = y.0.3 in let vss = y.0.4 in let was : (Row E).Denot = a.0 in let own = a.1.0.now in let b₁ = a.1.0.ref_ptr.0 in let o₁ = a.1.0.ref_ptr.1 in let l : Lease = own.lease in let α : Lft = l.lifetime ∷ [] in
-    let Post : Val → SProp 𝓤 = (walk_of 𝓛 En hs c).post y in let Run : List Val → SProp 𝓤 = λ ws. WpFn 𝓤 H 𝓣.C 𝓣.Λ fn ws Post in
-    qed 𝓛 ((‵ (fsep (flft κs.0 qs.0) (fsep (flft κs.1.0 qs.1.0) (fsep (flft κs.1.1.0 qs.1.1.0) (fsep (flft κs.1.1.1.0 qs.1.1.1.0) ftrue)))) ⊛ ‵ (owns (types_at En.signature.params κs) a vss)) ∷ raw ((c κs a).requires y.1) ∷ []) ∵
-    keep ! (0 ∷ []) $ split ! $ move ! (1 ∷ []) $ fsplit ! $ move ! (1 ∷ []) $ fsplit ! $ fsplit ! $ feq_l ! (λ e₁. drop ! $ drop ! $
+    let κs = y.0.0 in let qs = y.0.1 in let a = y.0.3 in let vss = y.0.4 in
+    let was : (Row E).Denot = a.0 in let own = a.1.0.now in let b₁ = a.1.0.ref_ptr.0 in
+    let o₁ = a.1.0.ref_ptr.1 in let l : Lease = own.lease in let α : Lft = l.lifetime ∷ [] in
+    let Post : Val → SProp 𝓤 = (walk_of 𝓛 En hs c).post y in
+    let Run : List Val → SProp 𝓤 = λ ws. WpFn 𝓤 H 𝓣.C 𝓣.Λ fn ws Post in
+    qed 𝓛 ((‵ (fsep (flft κs.0 qs.0)
+    (fsep (flft κs.1.0 qs.1.0)
+    (fsep (flft κs.1.1.0 qs.1.1.0) (fsep (flft κs.1.1.1.0 qs.1.1.1.0) ftrue)))) ⊛ ‵
+    (owns (types_at En.signature.params κs) a vss)) ∷ raw ((c κs a).requires y.1) ∷ []) ∵
+    keep ! (0 ∷ []) $ split ! $ move ! (1 ∷ []) $ fsplit ! $ move ! (1 ∷ []) $ fsplit ! $ fsplit ! $
+    feq_l ! (λ e₁. drop ! $ drop ! $
     -- [the box; the tokens]
-    use1 𝓛 (‵ ((B E).own_val (boxed E was) vss.0)) (as_box E 𝓛 was vss.0) $ box_out E ! (boxed E was) vss.0 (λ b o h at_b is fits. fjoin ! $
-    let p : Ptr = block_ptr b o in let Was : Fml = box_owns (frees E.al was.alloc) (R E) p was.value in
-    let v : Val = word E h b o in let typed = box_typed E h b o fits in let ws : List Val = v ∷ vptr b₁ o₁ ∷ [] in
-    suffices ! (Run ws) (subst (λ (us : List Val). ent 𝓤 (Run ws) (Run us)) (sym (λ i. is i ++ (e₁ i ++ []))) (id⊢ 𝓤 (Run ws))) $
+    use1 𝓛 (‵ ((B E).own_val (boxed E was) vss.0)) (as_box E 𝓛 was vss.0) $
+    box_out E ! (boxed E was) vss.0 (λ b o h at_b is fits. fjoin ! $
+    let p : Ptr = block_ptr b o in let Was : Fml = box_owns (frees E.al was.alloc) (R E) p was.value
+    in
+    let v : Val = word E h b o in let typed = box_typed E h b o fits in
+    let ws : List Val = v ∷ vptr b₁ o₁ ∷ [] in
+    suffices ! (Run ws) (subst (λ (us : List Val). ent 𝓤 (Run ws) (Run us))
+    (sym (λ i. is i ++ (e₁ i ++ []))) (id⊢ 𝓤 (Run ws))) $
     enter ! 𝓣.C 𝓣.Λ fn ws Post $ alloc_all ! (λ at. pass_all ! refl (typed, ((tt, tt), tt)) $
-    bor_new ! tt α $ move ! (1 ∷ []) $ use1 𝓛 (later (‵ (finv (kept_for Was l)))) (keeps 𝓛 Was l) $ await ! tt $
+    bor_new ! tt α $ move ! (1 ∷ []) $ use1 𝓛 (later (‵ (finv (kept_for Was l)))) (keeps 𝓛 Was l) $
+    await ! tt $
     -- [that it comes back; the borrow; the allocator; the tokens]
-    sets ! (of_opd ! (get_in ! (fld ! refl (stop !)) (sub ! 0 refl (whole !)))) refl (tt, tt) $ sets ! (of_opd ! (get_in ! (fld ! refl (stop !)) (sub ! 1 refl (whole !)))) refl fits $
-    sets ! (agg ! (no_more !)) refl (tt, tt) $ sets ! (agg ! (and_then ! (get ! refl) (no_more !))) refl (tt, (tt, tt)) $ sets ! (agg ! (no_more !)) refl (tt, tt) $ sets ! (agg ! (and_then ! (get ! refl) (no_more !))) refl (tt, (tt, tt)) $
-    sets ! (of_opd ! (get ! refl)) refl fits $ sets ! (of_opd ! (get ! refl)) refl (tt, (tt, tt)) $ sets ! (of_opd ! (get ! refl)) refl (tt, (tt, tt)) $ sets ! (agg ! (and_then ! (get ! refl) (and_then ! (get ! refl) (and_then ! (get ! refl) (and_then ! (get ! refl) (no_more !)))))) refl (typed.0, (tt, (typed.1.1.0, ((tt, tt), ((tt, tt), tt))))) $
-    use0 𝓛 (‵ ((Token Both).own_val (record {}, tt) (token ∷ []))) (token_made Both 𝓛) $ fjoin ! $ use0 𝓛 (‵ ((Token Both).own_val (record {}, tt) (token ∷ []))) (token_made Both 𝓛) $ move ! (0 ∷ 2 ∷ []) $ fjoin ! $
+    sets ! (of_opd ! (get_in ! (fld ! refl (stop !)) (sub ! 0 refl (whole !)))) refl (tt, tt) $
+    sets ! (of_opd ! (get_in ! (fld ! refl (stop !)) (sub ! 1 refl (whole !)))) refl fits $
+    sets ! (agg ! (no_more !)) refl (tt, tt) $ sets ! (agg ! (and_then ! (get ! refl) (no_more !)))
+    refl (tt, (tt, tt)) $ sets ! (agg ! (no_more !)) refl (tt, tt) $
+    sets ! (agg ! (and_then ! (get ! refl) (no_more !))) refl (tt, (tt, tt)) $
+    sets ! (of_opd ! (get ! refl)) refl fits $ sets ! (of_opd ! (get ! refl)) refl (tt, (tt, tt)) $
+    sets ! (of_opd ! (get ! refl)) refl (tt, (tt, tt)) $
+    sets ! (agg ! (and_then ! (get ! refl)
+    (and_then ! (get ! refl) (and_then ! (get ! refl) (and_then ! (get ! refl) (no_more !))))))
+    refl (typed.0, (tt, (typed.1.1.0, ((tt, tt), ((tt, tt), tt))))) $
+    use0 𝓛 (‵ ((Token Both).own_val (record {}, tt) (token ∷ []))) (token_made Both 𝓛) $ fjoin ! $
+    use0 𝓛 (‵ ((Token Both).own_val (record {}, tt) (token ∷ []))) (token_made Both 𝓛) $
+    move ! (0 ∷ 2 ∷ []) $ fjoin ! $
     -- [what is lent; what is kept; the allocator; the tokens]
-    let lent' : N.Denot = record { marker = record {}; value = was.value; alloc = was.alloc; at = p; lifetime = l.lifetime } in let kept' : K.Denot = record { marker = record {}; value = was.value; alloc = was.alloc; at = p; lease = l } in
-    let Rs : List RattleType = RawPtr ∷ P E ∷ N ∷ K ∷ [] in let u : Val = vstruct (vcons (vptr b o) (vcons h (vcons token (vcons token vnil)))) in
-    nothing ! $ move ! (2 ∷ 0 ∷ []) $ fjoin ! $ move ! (1 ∷ 0 ∷ []) $ fjoin ! $ move ! (1 ∷ 0 ∷ []) $ fjoin ! $ feq_i ! (List Val) (vptr b o ∷ []) (vptr b o ∷ []) refl $ fjoin ! $ feq_i ! (List Val) (u ∷ []) (u ∷ []) refl $ fjoin ! $
-    fpack ! (Valss Rs) (λ uss. fsep (feq (List Val) (u ∷ []) (vstruct (of_list (uss.0 ++ (uss.1.0 ++ (uss.1.1.0 ++ (uss.1.1.1.0 ++ []))))) ∷ [])) (owns Rs (p, (was.alloc, (lent', (kept', tt)))) uss)) (vptr b o ∷ [], (h ∷ [], (token ∷ [], (token ∷ [], tt)))) $
-    let Told : Type 0 = (p ≡ was.at) × InBlock p × (was.alloc ≡ was.alloc) × (was.value ≡ was.value) × (was.alloc ≡ was.alloc) × (p ≡ was.at) × (l.lifetime ≡ l.lifetime) × (was.value ≡ was.value) × (was.alloc ≡ was.alloc) × (p ≡ was.at) × (l ≡ l) in
-    use0 𝓛 (raw (fact 𝓤 Told)) (fact_i 𝓤 Told (emp 𝓤) (sym at_b, tt, refl, refl, refl, sym at_b, refl, refl, refl, sym at_b, refl)) $ nothing ! $ nothing ! $ fjoin ! $ nothing ! $ fjoin ! $
-    returns ! (look_at ! 0 refl) $ free_all ! refl $ keep ! (3 ∷ 0 ∷ 2 ∷ 1 ∷ []) $ by ! (leaves 𝓛 En hs c y u (p, was.alloc, lent', kept') ((tt, (tt, tt)), (tt, tt)) (tt, (tt, tt)))))))
+    let lent' : N.Denot = record {
+      marker = record {};
+      value = was.value;
+      alloc = was.alloc;
+      at = p;
+      lifetime = l.lifetime;
+    } in
+    let kept' : K.Denot = record {
+      marker = record {};
+      value = was.value;
+      alloc = was.alloc;
+      at = p;
+      lease = l;
+    } in
+    let Rs : List RattleType = RawPtr ∷ P E ∷ N ∷ K ∷ [] in
+    let u : Val = vstruct (vcons (vptr b o) (vcons h (vcons token (vcons token vnil)))) in
+    nothing ! $ move ! (2 ∷ 0 ∷ []) $ fjoin ! $ move ! (1 ∷ 0 ∷ []) $ fjoin ! $
+    move ! (1 ∷ 0 ∷ []) $ fjoin ! $ feq_i ! (List Val) (vptr b o ∷ []) (vptr b o ∷ []) refl $
+    fjoin ! $ feq_i ! (List Val) (u ∷ []) (u ∷ []) refl $ fjoin ! $
+    fpack ! (Valss Rs)
+    (λ uss. fsep (feq (List Val) (u ∷ [])
+    (vstruct (of_list (uss.0 ++ (uss.1.0 ++ (uss.1.1.0 ++ (uss.1.1.1.0 ++ []))))) ∷ []))
+    (owns Rs (p, (was.alloc, (lent', (kept', tt)))) uss))
+    (vptr b o ∷ [], (h ∷ [], (token ∷ [], (token ∷ [], tt)))) $
+    let Told : Type 0 = (p ≡ was.at) × InBlock p × (was.alloc ≡ was.alloc) × (was.value ≡ was.value)
+    × (was.alloc ≡ was.alloc) × (p ≡ was.at) × (l.lifetime ≡ l.lifetime)
+    × (was.value ≡ was.value) × (was.alloc ≡ was.alloc) × (p ≡ was.at) × (l ≡ l) in
+    use0 𝓛 (raw (fact 𝓤 Told))
+    (fact_i 𝓤 Told (emp 𝓤) (
+      sym at_b,
+      tt,
+      refl,
+      refl,
+      refl,
+      sym at_b,
+      refl,
+      refl,
+      refl,
+      sym
+          at_b,
+      refl,
+    )) $ nothing ! $ nothing ! $ fjoin ! $ nothing ! $ fjoin ! $
+    returns ! (look_at ! 0 refl) $ free_all ! refl $ keep ! (3 ∷ 0 ∷ 2 ∷ 1 ∷ []) $
+    by ! (leaves 𝓛 En hs c y u (p, was.alloc, lent', kept') ((tt, (tt, tt)), (tt, tt))
+    (tt, (tt, tt)))))))

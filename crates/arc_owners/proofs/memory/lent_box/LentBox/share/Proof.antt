@@ -9,7 +9,8 @@ use base.Fml.{Fml, Lft, Share, ftrue, fsep, fhide, fbor, flft}
 use prog.Wp.{WpFn}
 use types.Within.{tokens_halve}
 use types.Tokens.{shr_bor-open, obor_close}
-use types.Kit.{‵, raw, ◌⊛◌, later, ◌$◌, ◌∵◌, !, qed, by, move, keep, drop, split, split3, fsplit, fjoin, suffices, use0, use1, use3, await, rewrite, feq_l}
+use types.Kit.{‵, raw, ◌⊛◌, later, ◌$◌, ◌∵◌, !, qed, by, move, keep, drop, split, split3, fsplit}
+use types.Kit.{fjoin, suffices, use0, use1, use3, await, rewrite, feq_l}
 use types.Run.{no_more, and_then, returns, enter}
 use types.ByLocal.{alloc_all, pass_all, free_all, look_at, get, sets}
 use types.Part.{agg}
@@ -45,37 +46,88 @@ use Rattle.arc_owners.proofs.memory.lent_box.LentBox.share.Code as code
 
 pub share_spec : {M : Type 1} → statement M
 share_spec 𝓤 𝓛 𝓜 𝓡 wired T A Q L LA LQ g d da allocator glued =
-    let H = 𝓛.H in let 𝓣 = tables 𝓤 H 𝓜 𝓡 𝓡.env in let E : Bx = record { row = T; laws = L; al = record { row = A; laws = LA; g = g; d = d; drops = da } } in let LR : Laws (R E) = param_laws 0 T L in
-    let R₂ : RattleType = param 2 Q in let Own : RattleType = OwnerToken.the_row R₂ in let En = f.ended T A Q g d da in let c = f.clauses T A Q g d da 𝓛 𝓜.mem 𝓡.returns in
-    let inst = bounded (a_type ∷ a_type ∷ a_type ∷ []) (T, (A, (Q, tt))) (dcons d (dcons da dnil)) in let fn = inst_fn inst code.function in let N : RattleType = LentBox.the_row (R E) (P E) g in
-    let hs : Stays En.signature.params En.kept = (stay_dropped (plain (λ _. N)) no, (stay_dropped (RefOf (0 ∷ []) tt (plain (λ _. Own)) (λ _. tt)) yes, tt)) in
-    proved_at 𝓛 En hs c 𝓜 𝓡
-    (Goes-blank 𝓛 4 (plain (λ _. N)) no (λ κs x w. tt), (Goes-dropped 𝓛 4 (RefOf (0 ∷ []) tt (plain (λ _. Own)) (λ _. tt)) yes (λ κs x w. refl), tt))
+    let H = 𝓛.H in let 𝓣 = tables 𝓤 H 𝓜 𝓡 𝓡.env in
+    let E : Bx = record {
+      row = T;
+      laws = L;
+      al = record {
+        row = A;
+        laws = LA;
+        g = g;
+        d = d;
+        drops = da;
+      };
+    } in let LR : Laws (R E) = param_laws 0 T L in
+    let R₂ : RattleType = param 2 Q in let Own : RattleType = OwnerToken.the_row R₂ in
+    let En = f.ended T A Q g d da in let c = f.clauses T A Q g d da 𝓛 𝓜.mem 𝓡.returns in
+    let inst = bounded (a_type ∷ a_type ∷ a_type ∷ []) (T, (A, (Q, tt))) (dcons d (dcons da dnil))
+    in let fn = inst_fn inst code.function in
+    let N : RattleType = LentBox.the_row (R E) (P E) g in
+    let hs : Stays En.signature.params En.kept = (
+      stay_dropped (plain (λ _. N)) no,
+      (stay_dropped (RefOf (0 ∷ []) tt (plain (λ _. Own)) (λ _. tt)) yes, tt),
+    ) in
+    proved_at 𝓛 En hs c 𝓜 𝓡 (
+      Goes-blank 𝓛 4 (plain (λ _. N)) no (λ κs x w. tt),
+      (
+        Goes-dropped 𝓛 4 (RefOf (0 ∷ []) tt (plain (λ _. Own)) (λ _. tt)) yes (λ κs x w. refl),
+        tt,
+      ),
+    )
     (f.Key.name inst) fn (code.unfolded 𝓤 H 𝓜 𝓡 wired (T, (A, (Q, tt))) d da) (λ y are.
-    let κs = y.0.0 in let qs = y.0.1 in let a = y.0.3 in let vss = y.0.4 in let was : N.Denot = a.0 in let own = a.1.0.now in let b₁ = a.1.0.ref_ptr.0 in let o₁ = a.1.0.ref_ptr.1 in
-    let κ : Lft = κs.0 in let τ : Lft = κs.1.0 in let p : Share = qs.1.0 in let n : ℕ = own.lease.lifetime in let α : Lft = n ∷ [] in let D : Fml = frees E.al was.alloc (bare (lone (R E).mir)) was.at in
-    let Post : Val → SProp 𝓤 = (walk_of 𝓛 En hs c).post y in let Run : List Val → SProp 𝓤 = λ ws. WpFn 𝓤 H 𝓣.C 𝓣.Λ fn ws Post in
+    let κs = y.0.0 in let qs = y.0.1 in let a = y.0.3 in let vss = y.0.4 in
+    let was : N.Denot = a.0 in let own = a.1.0.now in let b₁ = a.1.0.ref_ptr.0 in
+    let o₁ = a.1.0.ref_ptr.1 in
+    let κ : Lft = κs.0 in let τ : Lft = κs.1.0 in let p : Share = qs.1.0 in
+    let n : ℕ = own.lease.lifetime in let α : Lft = n ∷ [] in
+    let D : Fml = frees E.al was.alloc (bare (lone (R E).mir)) was.at in
+    let Post : Val → SProp 𝓤 = (walk_of 𝓛 En hs c).post y in
+    let Run : List Val → SProp 𝓤 = λ ws. WpFn 𝓤 H 𝓣.C 𝓣.Λ fn ws Post in
     let Asked : Type 0 = (own.held ≡ true) × (own.lease.is_lent ≡ true) × (n ≡ was.lifetime) in
-    qed 𝓛 ((‵ (fsep (flft κ qs.0) (fsep (flft τ p) (fsep (flft κs.1.1.0 qs.1.1.0) (fsep (flft κs.1.1.1.0 qs.1.1.1.0) ftrue)))) ⊛ ‵ (owns (types_at En.signature.params κs) a vss)) ∷ raw (fact 𝓤 (τ ⊑ T.lives)) ∷ raw (fact 𝓤 (κs.1.1.0 ⊑ A.lives)) ∷ raw (fact 𝓤 (κs.1.1.1.0 ⊑ Q.lives)) ∷ raw (fact 𝓤 Asked) ∷ []) ∵
-    move ! (4 ∷ 1 ∷ []) $ heard ! Asked (λ asked. heard ! (τ ⊑ T.lives) (λ inc. keep ! (0 ∷ []) $ split ! $ fsplit ! $ move ! (1 ∷ []) $ fsplit ! $ move ! (3 ∷ []) $ fsplit ! $ fsplit ! $ drop ! $ move ! (1 ∷ []) $ fsplit ! $ fsplit ! $ feq_l ! (λ e₁.
+    qed 𝓛 ((‵ (fsep (flft κ qs.0)
+    (fsep (flft τ p) (fsep (flft κs.1.1.0 qs.1.1.0) (fsep (flft κs.1.1.1.0 qs.1.1.1.0) ftrue))))
+    ⊛ ‵ (owns (types_at En.signature.params κs) a vss)) ∷ raw (fact 𝓤 (τ ⊑ T.lives)) ∷ raw
+    (fact 𝓤 (κs.1.1.0 ⊑ A.lives)) ∷ raw (fact 𝓤 (κs.1.1.1.0 ⊑ Q.lives)) ∷ raw
+    (fact 𝓤 Asked) ∷ []) ∵
+    move ! (4 ∷ 1 ∷ []) $
+    heard ! Asked (λ asked. heard ! (τ ⊑ T.lives) (λ inc. keep ! (0 ∷ []) $ split ! $ fsplit ! $
+    move ! (1 ∷ []) $ fsplit ! $ move ! (3 ∷ []) $ fsplit ! $ fsplit ! $ drop ! $
+    move ! (1 ∷ []) $ fsplit ! $ fsplit ! $ feq_l ! (λ e₁.
     -- [what is lent of the owner; no more parameters; what is lent; the tokens of T and A, and of
     -- the owner]
-    let ws : List Val = token ∷ vptr b₁ o₁ ∷ [] in let e₀ : vss.0 ≡ token ∷ [] = token_told (Tuple (R E ∷ P E ∷ [])) vss.0 are.0.0 in
-    suffices ! (Run ws) (subst (λ (us : List Val). ent 𝓤 (Run ws) (Run us)) (sym (λ i. e₀ i ++ (e₁ i ++ []))) (id⊢ 𝓤 (Run ws))) $
-    enter ! 𝓣.C 𝓣.Λ fn ws Post $ alloc_all ! (λ l. pass_all ! refl ((tt, (tt, tt)), ((tt, tt), tt)) $
-    use1 𝓛 (‵ (hidden_shr (Token R₂) κ (own.marker, tt) b₁ o₁) ⊛ ‵ (fhide (right_shares own.held own.block own.owner own.lease own.born κ)))
-    (lent_out 𝓛 (OwnerToken.struct R₂) (OwnerToken.the_codes R₂.Denot R₂.coded (marker.the_row R₂).coded) (OwnerToken.the_heap R₂) (OwnerToken.the_lent R₂) κ own b₁ o₁) $ split ! $ drop ! $ unhide ! $
-    rewrite ! 0 (λ (k : Bool). ‵ (right_shares k own.block own.owner own.lease own.born κ)) asked.0 refl $ fsplit ! $ drop ! $ fsplit ! $ drop ! $
-    rewrite ! 0 (λ (k : Bool). ‵ (tokens k own.lease κ)) asked.1 refl $ rewrite ! 2 (λ (k : ℕ). ‵ (fbor (k ∷ []) (box_owns (frees E.al was.alloc) (R E) was.at was.value))) (sym asked.2) refl $
+    let ws : List Val = token ∷ vptr b₁ o₁ ∷ [] in
+    let e₀ : vss.0 ≡ token ∷ [] = token_told (Tuple (R E ∷ P E ∷ [])) vss.0 are.0.0 in
+    suffices ! (Run ws) (subst (λ (us : List Val). ent 𝓤 (Run ws) (Run us))
+    (sym (λ i. e₀ i ++ (e₁ i ++ []))) (id⊢ 𝓤 (Run ws))) $
+    enter ! 𝓣.C 𝓣.Λ fn ws Post $
+    alloc_all ! (λ l. pass_all ! refl ((tt, (tt, tt)), ((tt, tt), tt)) $
+    use1 𝓛 (‵ (hidden_shr (Token R₂) κ (own.marker, tt) b₁ o₁) ⊛ ‵
+    (fhide (right_shares own.held own.block own.owner own.lease own.born κ)))
+    (lent_out 𝓛 (OwnerToken.struct R₂)
+    (OwnerToken.the_codes R₂.Denot R₂.coded (marker.the_row R₂).coded) (OwnerToken.the_heap R₂)
+    (OwnerToken.the_lent R₂) κ own b₁ o₁) $ split ! $ drop ! $ unhide ! $
+    rewrite ! 0 (λ (k : Bool). ‵ (right_shares k own.block own.owner own.lease own.born κ)) asked.0
+    refl $ fsplit ! $ drop ! $ fsplit ! $ drop ! $
+    rewrite ! 0 (λ (k : Bool). ‵ (tokens k own.lease κ)) asked.1 refl $
+    rewrite ! 2 (λ (k : ℕ).
+    ‵ (fbor (k ∷ []) (box_owns (frees E.al was.alloc) (R E) was.at was.value))) (sym asked.2)
+    refl $
     move ! (0 ∷ 5 ∷ []) $ shr_bor-open ! tt (tokens_halve 𝓛 α) (λ s.
-    -- [the open borrow of the lease's token; the token; no more parameters; what is lent; the tokens
-    -- of T and A]
-    move ! (3 ∷ 1 ∷ 4 ∷ []) $ use3 𝓛 (later (‵ (lent_at (R E) was.at was.value α) ⊛ ‵ (flft α s) ⊛ ‵ (flft τ p))) (box_loan (R E) LR 𝓛 was.at was.value D n s τ p inc) $ await ! tt $ split3 ! $
+    -- [the open borrow of the lease's token; the token; no more parameters; what is lent; the
+    -- tokens of T and A]
+    move ! (3 ∷ 1 ∷ 4 ∷ []) $
+    use3 𝓛 (later (‵ (lent_at (R E) was.at was.value α) ⊛ ‵ (flft α s) ⊛ ‵ (flft τ p)))
+    (box_loan (R E) LR 𝓛 was.at was.value D n s τ p inc) $ await ! tt $ split3 ! $
     move ! (3 ∷ 1 ∷ []) $ obor_close ! tt $
     -- [the borrow of the lease's token; the token of the owner; the loan; the tokens of T; no more
     -- parameters; the token of A]
-    sets ! (agg ! (no_more !)) refl (tt, tt) $ sets ! (agg ! (and_then ! (get ! refl) (no_more !))) refl (tt, (tt, tt)) $
-    use0 𝓛 (‵ ((Token (R E)).own_val (record {}, tt) (token ∷ []))) (token_made (R E) 𝓛) $ move ! (0 ∷ 3 ∷ []) $ fjoin ! $
-    move ! (3 ∷ 5 ∷ []) $ fjoin ! $ move ! (3 ∷ 0 ∷ []) $ fjoin ! $ nothing ! $ nothing ! $ fjoin ! $ nothing ! $ fjoin ! $
+    sets ! (agg ! (no_more !)) refl (tt, tt) $ sets ! (agg ! (and_then ! (get ! refl) (no_more !)))
+    refl (tt, (tt, tt)) $
+    use0 𝓛 (‵ ((Token (R E)).own_val (record {}, tt) (token ∷ []))) (token_made (R E) 𝓛) $
+    move ! (0 ∷ 3 ∷ []) $ fjoin ! $
+    move ! (3 ∷ 5 ∷ []) $ fjoin ! $ move ! (3 ∷ 0 ∷ []) $ fjoin ! $ nothing ! $ nothing ! $
+    fjoin ! $ nothing ! $ fjoin ! $
     returns ! (look_at ! 0 refl) $ free_all ! refl $ keep ! (1 ∷ 0 ∷ 2 ∷ []) $
-    by ! (ends 𝓛 En hs c y token (record { marker = record {}; value = was.value; at = was.at; lifetime = n }) (tt, (tt, tt)) (tt, (tt, tt)) (fact_i 𝓤 _ (emp 𝓤) (refl, refl, asked.2)))))))))
+    by ! (ends 𝓛 En hs c y token
+    (record { marker = record {}; value = was.value; at = was.at; lifetime = n }) (tt, (tt, tt))
+    (tt, (tt, tt)) (fact_i 𝓤 _ (emp 𝓤) (refl, refl, asked.2)))))))))

@@ -8,4 +8,7 @@ use Rattle.arc_owners.specs.contracts.memory.shared_borrow.SharedBorrow.{the_row
 
 pub sync : (T : RattleType) → IsSync T → IsSync (the_row T)
 sync T y = let fields : IsSync (Struct (shape (the_type T))) = search sendable depth 20 in
-    record { shared = λ d b o ν. (fields.shared (tt, tt) b o ν, seen T y d.at d.value (d.lifetime ∷ [])) }
+    record {
+      shared =
+          λ d b o ν. (fields.shared (tt, tt) b o ν, seen T y d.at d.value (d.lifetime ∷ []));
+    }

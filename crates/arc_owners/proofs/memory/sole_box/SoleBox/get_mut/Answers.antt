@@ -6,13 +6,15 @@ use Rattle.arc_owners.proofs.memory.sole_box.SoleBox.get_mut.Goals as goal
 
 pub returns : goal.returns
 returns g c =
-    let inner = c.get_mut-inner.ensures.value in let housed = c.value_mut.ensures.value ∙ ap (λ x. x.value) inner in (
+    let inner = c.get_mut-inner.ensures.value in let housed = c.value_mut.ensures.value
+    ∙ ap (λ x. x.value) inner in (
       (
         refl,
-        λ w. same_box g.row.A.coded (with_sole_value c.args.self.now w) _ (λ i. with_value c.args.self.now.memory (record {
-          word = (sym inner i).word;
-          value = record { value = w; alloc = (sym housed i).alloc };
-        })) _ _ _,
+        λ w. same_box g.row.A.coded (with_sole_value c.args.self.now w) _
+            (λ i. with_value c.args.self.now.memory (record {
+              word = (sym inner i).word;
+              value = record { value = w; alloc = (sym housed i).alloc };
+            })) _ _ _,
       ),
       record { writes_back = tt; value = c.value_mut-2.ensures.value ∙ ap (λ x. x.value) housed },
     )

@@ -5,4 +5,5 @@ use Rattle.std.proofs.lemmas.Str.{IsUtf8-had}
 use Rattle.arc_read.proofs.borrow.part.ArcSliceBorrow+Text+L+B+M+A+H.as_str.Goals as goal
 
 pub from_utf8_unchecked-requires : goal.from_utf8_unchecked-requires
-from_utf8_unchecked-requires g c = subst IsUtf8 (sym c.as_slice.ensures) (IsUtf8-had _ c.has_part.ensures.legal)
+from_utf8_unchecked-requires g c =
+    subst IsUtf8 (sym c.as_slice.ensures) (IsUtf8-had _ c.has_part.ensures.legal)

@@ -6,4 +6,6 @@ use Rattle.arc_parts.specs.Window.{Window}
 use Rattle.arc_read.proofs.slice.text.ArcSlice+Text+L+B+M+A+H.as_str.Goals as goal
 
 pub from_utf8_unchecked-requires : goal.from_utf8_unchecked-requires
-from_utf8_unchecked-requires g c = subst IsUtf8 (ap (λ (w : Window ℕ g.row.M.Denot). w.items) c.self.view_is ∙ sym c.as_slice.ensures) (IsUtf8-had _ c.self.invariant.2)
+from_utf8_unchecked-requires g c =
+    subst IsUtf8 (ap (λ (w : Window ℕ g.row.M.Denot). w.items) c.self.view_is
+    ∙ sym c.as_slice.ensures) (IsUtf8-had _ c.self.invariant.2)

@@ -4,7 +4,12 @@ use Rattle.arc_write.proofs.adapters.buf_mut.ArcSliceMutBufMut.put_bytes.Goals a
 
 pub returns-clause-max_spare : goal.returns-clause-max_spare
 returns-clause-max_spare g c = (
-  omega (arith, c.if-count-capacity_of_either.false, c.capacity_of_either.ensures.capacity, c.len_of_either.ensures),
+  omega (
+    arith,
+    c.if-count-capacity_of_either.false,
+    c.capacity_of_either.ensures.capacity,
+    c.len_of_either.ensures,
+  ),
   ap (λ n. Some n)
       (spare_more c.args.count c.args.byte c.args.self.now c.fill.new.self c.fill.ensures),
 )

@@ -10,5 +10,6 @@ returns-clause-writes g c = λ plain ok.
 pub returns-clause-styled : goal.returns-clause-styled
 returns-clause-styled g c = λ flush ok.
     subst (λ (xs : List ℕ). HasWrittenStyled {W = g.row.W.Denot} g.W.Write.write_str_gives
-    c.args.f.now (styled_text (formatter_spec c.args.f.now) xs) c.pad.new.self) c.str_of_either.ensures
+    c.args.f.now (styled_text (formatter_spec c.args.f.now) xs) c.pad.new.self)
+    c.str_of_either.ensures
     (c.pad.ensures.text flush ok)

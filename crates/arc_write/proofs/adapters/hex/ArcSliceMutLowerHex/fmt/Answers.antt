@@ -5,4 +5,5 @@ use Rattle.arc_write.proofs.adapters.hex.ArcSliceMutLowerHex.fmt.Goals as goal
 
 pub returns : goal.returns
 returns g c = subst (λ (xs : List ℕ). WritesOnOk g.W.Write.write_str_gives c.args.f.now
-    c.write_hex.result (hex_bytes false xs) c.write_hex.new.f) c.slice_of_either.ensures c.write_hex.ensures
+    c.write_hex.result (hex_bytes false xs) c.write_hex.new.f) c.slice_of_either.ensures
+    c.write_hex.ensures

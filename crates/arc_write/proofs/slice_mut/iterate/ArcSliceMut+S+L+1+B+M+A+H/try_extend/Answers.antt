@@ -19,7 +19,8 @@ loop-item-preserved g c =
           (type_size g.row.S-Item) g.B.Buffer.list g.B.Buffer.places g.B.BufferMut.grows
           g.B.BufferMut.refuses) at.yielded item c.args.self.now at.self c.try_push.new.self
           said.2 (record { pushed = c.in-Ok.ensures.pushed; own = c.in-Ok.ensures.own }),
-      items_more c.args.self.now.items at.yielded item at.self.items c.try_push.new.self.items said.3
+      items_more c.args.self.now.items at.yielded item at.self.items c.try_push.new.self.items
+          said.3
           c.in-Ok.ensures.items,
     )
 

@@ -6,8 +6,11 @@ use Rattle.arc_write.proofs.slice_mut.several.change.ArcSliceMut+S+L+0+B+M+A+H.t
 
 pub returns-in-Ok-clause-made : goal.returns-in-Ok-clause-made
 returns-in-Ok-clause-made g c =
-    subst (λ s. ¬ IsOnBlock s.place → Makes g.K.Layout.STATIC g.S.Slice.DROPS g.H.Mark.whole s.items c.from_parts.result
-    × Begins c.from_parts.result c.args.pass.now c.try_freeze_as.new.pass) c.into_shared_parts.ensures.parts
+    subst (λ s. ¬ IsOnBlock s.place → Makes g.K.Layout.STATIC g.S.Slice.DROPS g.H.Mark.whole s.items
+    c.from_parts.result
+    × Begins c.from_parts.result c.args.pass.now c.try_freeze_as.new.pass)
+    c.into_shared_parts.ensures.parts
     (subst (λ w. ¬ IsOnBlock c.into_shared_parts.result.place
     → Makes g.K.Layout.STATIC g.S.Slice.DROPS g.H.Mark.whole c.into_shared_parts.result.items w
-    × Begins w c.args.pass.now c.try_freeze_as.new.pass) (sym c.from_parts.ensures) c.in-Ok.ensures.made)
+    × Begins w c.args.pass.now c.try_freeze_as.new.pass) (sym c.from_parts.ensures)
+    c.in-Ok.ensures.made)

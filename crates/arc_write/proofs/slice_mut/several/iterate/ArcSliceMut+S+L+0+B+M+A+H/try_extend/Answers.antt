@@ -18,7 +18,8 @@ loop-item-preserved g c =
       pushed_more (PushesOneShared g.row.H.Denot g.H.Mark.real g.H.Mark.whole
           (type_size g.row.S-Item)) at.yielded item c.args.self.now at.self c.try_push.new.self
           said.2 (record { pushed = c.in-Ok.ensures.pushed }),
-      items_more c.args.self.now.items at.yielded item at.self.items c.try_push.new.self.items said.3
+      items_more c.args.self.now.items at.yielded item at.self.items c.try_push.new.self.items
+          said.3
           c.in-Ok.ensures.items,
     )
 

@@ -7,7 +7,8 @@ use Rattle.arc_write.proofs.HeldSeveral.{split_off_held}
 use Rattle.arc_write.proofs.LegalSeveral.{split_off_legal}
 use Rattle.arc_write.proofs.Parts.{held_as, seen_as}
 use Rattle.arc_write.proofs.slice_mut.several.splits.ArcSliceMut+S+L+0+B+M+A+H.try_split_off_as.Goals as goal
-use Rattle.arc_write.proofs.slice_mut.several.splits.ArcSliceMut+S+L+0+B+M+A+H.try_split_off_as.Goals.{in-Ok, in-Err}
+use Rattle.arc_write.proofs.slice_mut.several.splits.ArcSliceMut+S+L+0+B+M+A+H.try_split_off_as.Goals.{in-Ok}
+use Rattle.arc_write.proofs.slice_mut.several.splits.ArcSliceMut+S+L+0+B+M+A+H.try_split_off_as.Goals.{in-Err}
 
 pub from_shared_parts-requires : goal.from_shared_parts-requires
 from_shared_parts-requires g c =
@@ -35,7 +36,8 @@ invariant_of-self g c =
       | in-Ok w ↦
           let held = split_off_held layout g.H.Mark.real g.H.Mark.whole c.args.at c.in-Several.parts
           _ _ _ _ w.in-Ok.ensures.made before.1 in
-          let parts = split_off_legal g.H.Mark.real g.H.Mark.whole legal boundary laws.range_is_legal
+          let parts = split_off_legal g.H.Mark.real g.H.Mark.whole legal boundary
+          laws.range_is_legal
           laws.ends_are_edges c.args.at _ c.in-Several.parts _ _ _ _ can before.2
           w.in-Ok.ensures.made in (refl, held.0, parts.0)
       | in-Err w ↦ subst (λ (p : PartsView g.row.S-Item.Denot g.row.M.Denot). (◌≡◌ {A = ℕ} 0 0)

@@ -7,7 +7,8 @@ use Rattle.arc_write.proofs.HeldSeveral.{split_to_held}
 use Rattle.arc_write.proofs.LegalSeveral.{split_to_legal}
 use Rattle.arc_write.proofs.Parts.{held_as, seen_as}
 use Rattle.arc_write.proofs.slice_mut.several.splits.ArcSliceMut+S+L+0+B+M+A+H.try_split_to_as.Goals as goal
-use Rattle.arc_write.proofs.slice_mut.several.splits.ArcSliceMut+S+L+0+B+M+A+H.try_split_to_as.Goals.{in-Ok, in-Err}
+use Rattle.arc_write.proofs.slice_mut.several.splits.ArcSliceMut+S+L+0+B+M+A+H.try_split_to_as.Goals.{in-Ok}
+use Rattle.arc_write.proofs.slice_mut.several.splits.ArcSliceMut+S+L+0+B+M+A+H.try_split_to_as.Goals.{in-Err}
 
 pub from_shared_parts-requires : goal.from_shared_parts-requires
 from_shared_parts-requires g c =

@@ -6,7 +6,8 @@ use Rattle.arc_parts.specs.Window.{PartsView, IsBlockHeld}
 use Rattle.arc_write.proofs.LegalSeveral.{joined_legal}
 use Rattle.arc_write.proofs.Parts.{held_as, seen_as}
 use Rattle.arc_write.proofs.slice_mut.several.splits.ArcSliceMut+S+L+0+B+M+A+H.try_unsplit_as.Goals as goal
-use Rattle.arc_write.proofs.slice_mut.several.splits.ArcSliceMut+S+L+0+B+M+A+H.try_unsplit_as.Goals.{in-Ok, in-Err}
+use Rattle.arc_write.proofs.slice_mut.several.splits.ArcSliceMut+S+L+0+B+M+A+H.try_unsplit_as.Goals.{in-Ok}
+use Rattle.arc_write.proofs.slice_mut.several.splits.ArcSliceMut+S+L+0+B+M+A+H.try_unsplit_as.Goals.{in-Err}
 
 pub try_unsplit_as-requires : goal.try_unsplit_as-requires
 try_unsplit_as-requires g c =
