@@ -208,7 +208,6 @@ where
 
     /// Writes into the window: room is made, and what is written goes behind its items. Refused, it
     /// is let go.
-    #[inline(always)]
     pub(crate) fn fill(
         &mut self,
         what: Writing<Vec<S::Item, A>, S::Item>,
