@@ -280,6 +280,24 @@ abbrev pub other_of : {C X F B M T : Type 0} → Cmd C X F B M T → Option ℕ
 other_of (Join i j) = Some j
 other_of command = None
 
+-- whether a command may make a window beside the one on which it is
+abbrev pub makes_beside : {C X F B M T : Type 0} → Cmd C X F B M T → Bool
+makes_beside (Clone i) = true
+makes_beside (Sub i start end) = true
+makes_beside (Off i at) = true
+makes_beside (To i at) = true
+makes_beside command = false
+
+-- whether the window on which a command is may be gone afterwards
+abbrev pub may_end : {C X F B M T : Type 0} → Cmd C X F B M T → Bool
+may_end (Drop i) = true
+may_end (Take i) = true
+may_end (TakeBox i) = true
+may_end (TakeBuf i) = true
+may_end (TakeRaw i) = true
+may_end (TakeStatic i) = true
+may_end command = false
+
 -- what a row knows of its table, and of a caller's buffer that has so many places
 abbrev pub around_of : {T M : Type 0} → (places : ℕ) → Table T M → Row T M → Around
 around_of places t row = record {

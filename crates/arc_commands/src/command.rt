@@ -193,7 +193,7 @@ pub enum Cmd<C: Carried> {
 
 impl<C: Carried> Cmd<C> {
     ghost use Rattle.std.specs.Prelude.{◌≡◌};
-    ghost use Rattle.arc_commands.specs.Step.{other_of, window_of};
+    ghost use Rattle.arc_commands.specs.Step.{makes_beside, may_end, other_of, window_of};
 
     /// The window on which it is, `None` of those that make one of what they bring. Of a join the
     /// first.
@@ -252,10 +252,28 @@ impl<C: Carried> Cmd<C> {
     }
 
     /// Whether it makes another window beside the one on which it is.
-    pub fn makes_beside(&self) -> bool {
+    pub fn makes_beside(&self) -> bool
+        ensures { result ≡ makes_beside self.now }
+    {
         matches!(
             self,
             Cmd::Clone { .. } | Cmd::Sub { .. } | Cmd::Off { .. } | Cmd::To { .. }
+        )
+    }
+
+    /// Whether the window on which it is may have gone afterwards: it ends, or is taken back.
+    #[inline(always)]
+    pub fn may_end(&self) -> bool
+        ensures { result ≡ may_end self.now }
+    {
+        matches!(
+            self,
+            Cmd::Drop { .. }
+                | Cmd::Take { .. }
+                | Cmd::TakeBox { .. }
+                | Cmd::TakeBuf { .. }
+                | Cmd::TakeRaw { .. }
+                | Cmd::TakeStatic { .. }
         )
     }
 }

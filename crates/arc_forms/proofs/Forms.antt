@@ -414,8 +414,22 @@ pub read_some : {V : Type 0} (see : V → ByteCmd) (line : List ℕ) (o : Option
 read_some see line None fits e = tt
 read_some see line (Some c) fits e = line_says line (see c) fits (sym e)
 
+pub read_ok_some : {V E : Type 0} (see : V → ByteCmd) (line : List ℕ) (r : Result (Option V) E)
+    → length line ≤ longest_line
+    → IfOk r (λ said. option_map see said ≡ command_of (words_of_line line))
+    → IfOk r (λ said. IfSome said (λ c. Says line (see c)))
+read_ok_some see line (Ok said) fits e = read_some see line said fits e
+read_ok_some see line (Err error) fits e = e
+
 pub read_err : {V E : Type 0} (line : List ℕ) (r : Result V E) → length line ≤ longest_line
     → OnErr r (IsSomeAnd (command_of (words_of_line line)) BringsItems)
     → OnErr r ((c : ByteCmd) × Says line c × BringsItems c)
 read_err line (Ok v) fits e = e
 read_err line (Err error) fits e = line_says_and BringsItems line fits e
+
+pub read_if_some : {V : Type 0} (see : V → ByteCmd) (line : List ℕ) (o : Option V)
+    → length line ≤ longest_line
+    → IfSome o (λ c. Some (see c) ≡ command_of (words_of_line line))
+    → IfSome o (λ c. Says line (see c))
+read_if_some see line None fits e = tt
+read_if_some see line (Some c) fits e = line_says line (see c) fits (sym e)

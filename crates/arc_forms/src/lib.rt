@@ -1,5 +1,6 @@
 //! The forms of a script: a line as a command, and what it is answered as a text.
 #![tactic(auto)]
 
+mod hex;
 pub mod parse;
 pub mod text;

@@ -2,24 +2,22 @@
 //! values, and the command is made of these. What isn't there leaves by `let .. else`, since a `?`
 //! makes the proof of its function longer by a third.
 ghost use Rattle.std.specs.Prelude.{◌≡◌, ◌+◌, ◌*◌, ◌<◌, ℕ, List, [], ◌∷◌, length, IfOk};
-ghost use Rattle.std.specs.Prelude.{MatchOption, IfSome, IsSomeAnd, OnErr, IsTrue};
+ghost use Rattle.std.specs.Prelude.{MatchOption, IfSome, IsSomeAnd, OnErr};
 ghost use Rattle.std.specs.Option.{option_map};
-ghost use Rattle.std.specs.Char.{digit_value};
-ghost use Rattle.std.specs.List.{list_all};
-ghost use Rattle.std.specs.Vec.{vec_items};
 ghost use Rattle.arc_forms.specs.Text.{Number, Byte, Items, Says, IsBad};
 ghost use Rattle.arc_forms.specs.Seen.{line_command};
 ghost use Rattle.arc_forms.specs.Commands.{ByteCmd};
 ghost use Rattle.arc_forms.specs.Reading.{ANumber, SomeItems, BringsItems, command_of, first_by};
-ghost use Rattle.arc_forms.specs.Reading.{is_hex_digit, items_of, number_of, operand_of};
+ghost use Rattle.arc_forms.specs.Reading.{number_of, operand_of};
 ghost use Rattle.arc_forms.specs.Reading.{operands_of, pairs, words_in, named, read_behind};
 ghost use Rattle.arc_forms.specs.Reading.{buffer_verbs, cut_verbs, making_verbs, other_verbs};
 ghost use Rattle.arc_forms.specs.Reading.{last_verbs, rare_verbs, turning_verbs, usual_verbs};
 ghost use Rattle.arc_forms.specs.Reading.{verbs};
 ghost use Rattle.arc_forms.specs.Reading.{number_form, numbers_form};
-ghost use Rattle.arc_forms.specs.Reading.{AByte, byte_of, read_as};
+ghost use Rattle.arc_forms.specs.Reading.{AByte, read_as};
 ghost use Rattle.arc_forms.specs.Reading.{words_of_line};
 
+use crate::hex::{Hex, byte_in, decoded, digits_in};
 use arc_block::static_slice::StaticSlice;
 use arc_commands::command::{Carries, Cmd};
 use arc_owners::error::AllocError;
@@ -120,13 +118,6 @@ enum ItemsAndNumber {
 /// What is left of a line behind a word: `None` behind the last.
 type Rest<'a> = Option<&'a [u8]>;
 
-/// Hex digits, which say items: two digits an item.
-#[derive(Clone, Copy)]
-struct Hex<'a> {
-    digits: &'a [u8],
-    ghost are_digits: { IsTrue (list_all is_hex_digit digits.now) },
-}
-
 /// The first word of a line, and what is left behind it.
 #[inline(always)]
 fn word(line: &[u8]) -> (&[u8], Rest)
@@ -208,52 +199,6 @@ fn two_numbers(rest: Rest) -> Option<(usize, usize)>
     Some((first, second))
 }
 
-/// Whether a byte is a hex digit. Only lower case is.
-fn is_digit(byte: u8) -> bool
-    ensures { result ≡ is_hex_digit byte }
-{
-    matches!(byte, b'0'..=b'9' | b'a'..=b'f')
-}
-
-/// Whether each byte is a hex digit.
-#[inline(always)]
-fn are_digits(word: &[u8]) -> bool
-    ensures { result ≡ list_all is_hex_digit word.now }
-{
-    // Each byte is tested, whatever stands before it, so that many are tested at once.
-    let mut all = true;
-    for byte in word {
-        all = all & is_digit(*byte);
-    }
-    all
-}
-
-/// What a hex digit stands for.
-fn value_of(digit: u8) -> u8
-    requires { IsTrue (is_hex_digit digit) }
-    ensures value { result ≡ digit_value digit }
-    ensures small { result < 16 }
-{
-    match digit {
-        b'0'..=b'9' => digit - b'0',
-        _ => digit - b'a' + 10,
-    }
-}
-
-/// The byte that a word says, in two digits.
-#[inline(always)]
-fn byte_in(word: &[u8]) -> Option<u8>
-    ensures { result ≡ byte_of word.now }
-{
-    let [high, low] = word else {
-        return None;
-    };
-    if !are_digits(word) {
-        return None;
-    }
-    Some(16 * value_of(*high) + value_of(*low))
-}
-
 /// The one byte that is left.
 #[inline(always)]
 #[tactic(auto, using(crate::proofs::Forms::last_operand, crate::proofs::Forms::none_left))]
@@ -267,33 +212,8 @@ fn one_byte(rest: Rest) -> Option<u8>
     }
 }
 
-/// The digits of the items that a word says.
-fn digits_in(word: &[u8]) -> Option<Hex<'_>>
-    ensures { option_map (λ hex. pairs hex.digits.now) result ≡ items_of word.now }
-{
-    if word == b"-".as_slice() {
-        return Some(Hex { digits: &[] });
-    }
-    if word.is_empty() || word.len() % 2 != 0 || !are_digits(word) {
-        return None;
-    }
-    Some(Hex { digits: word })
-}
-
-/// The items, in one block of their length.
-fn decoded<A: Allocator>(alloc: A, hex: Hex) -> Result<Vec<u8, A>, AllocError>
-    ensures { IfOk result (λ v. v.items ≡ pairs hex.entry.digits.now) }
-{
-    let mut rest = hex.digits;
-    let mut items = Vec::with_capacity(alloc, rest.len() / 2)?;
-    while let [high, low, behind @ ..] = rest {
-        items.push_reserved(16 * value_of(*high) + value_of(*low));
-        rest = behind;
-    }
-    Ok(items)
-}
-
 /// The digits of the items that are left, in one word.
+#[inline(always)]
 #[tactic(auto, using(crate::proofs::Forms::last_operand, crate::proofs::Forms::none_left))]
 fn one_hex(rest: Rest) -> Option<Hex>
     ensures { option_map (λ hex. Items (pairs hex.digits.now) ∷ []) result
@@ -648,6 +568,7 @@ fn with_items<A: Allocator>(
 }
 
 /// The command `Ext`. `Err` where memory is refused for its items.
+#[inline(always)]
 #[tactic(auto, unfolding(crate::specs::Reading::operands_of, crate::specs::Reading::read_as))]
 fn ext<A: Allocator>(alloc: A, rest: Rest) -> Result<Option<Command<A>>, AllocError>
     ensures ok { IfOk result (λ said. option_map line_command said
@@ -663,6 +584,20 @@ fn ext<A: Allocator>(alloc: A, rest: Rest) -> Result<Option<Command<A>>, AllocEr
     match decoded(alloc, hex) {
         Ok(items) => Ok(Some(Cmd::Ext { window, items })),
         Err(error) => Err(error),
+    }
+}
+
+/// The command of a line that is one word, if many lines are that word.
+#[inline(always)]
+#[tactic(auto, unfolding(crate::specs::Reading::command_of, crate::specs::Reading::operands_of))]
+fn usual_bare<A: Allocator>(line: &[u8]) -> Option<Command<A>>
+    ensures { IfSome result (λ c. Some (line_command c) ≡ command_of (words_of_line line.now)) }
+{
+    match line {
+        [b's', b't', b'a', b't', b'i', b'c'] => {
+            Some(Cmd::Static(StaticSlice::new(STATIC_BYTES)))
+        }
+        _ => None,
     }
 }
 
@@ -746,22 +681,33 @@ pub fn parse<A: Allocator + Copy>(alloc: A, line: &[u8]) -> Result<Option<Comman
     command(alloc, line)
 }
 
-/// The command that a line says, if it is one of those that many lines say and that bring no items:
-/// its form is one of `usual_verb`, with numbers or a byte behind its first word. `None` tells
-/// nothing of the line. Takes no memory.
+/// The command that a line says, if it is one of those that many lines say: its form is one of
+/// `usual_verb` with numbers, a byte or items to be put behind a window's, or it is `static`.
+/// `None` tells nothing of the line.
+///
+/// # Errors
+///
+/// `AllocError` where memory is refused for the items that it brings.
+///
+/// # Allocates
+///
+/// For the items that are put behind a window's, once, for their number of bytes.
 #[inline(always)]
-pub fn parse_usual<A: Allocator>(line: &[u8]) -> Option<Command<A>>
-    ensures { IfSome result (λ c. Says line.now (line_command c)) }
+pub fn parse_usual<A: Allocator>(alloc: A, line: &[u8]) -> Result<Option<Command<A>>, AllocError>
+    ensures ok { IfOk result (λ said. IfSome said (λ c. Says line.now (line_command c))) }
+    ensures err { OnErr result ((c : ByteCmd) × Says line.now c × BringsItems c) }
 {
     if line.len() > LONGEST_LINE {
-        return None;
+        return Ok(None);
     }
     match usual_verb(line) {
-        Some((Verb::Number(verb), rest)) => with_number(verb, Some(rest)),
-        Some((Verb::Numbers(verb), rest)) => with_numbers(verb, Some(rest)),
-        Some((Verb::Sub, rest)) => sub(Some(rest)),
-        Some((Verb::Push, rest)) => push(Some(rest)),
-        _ => None,
+        Some((Verb::Number(verb), rest)) => Ok(with_number(verb, Some(rest))),
+        Some((Verb::Numbers(verb), rest)) => Ok(with_numbers(verb, Some(rest))),
+        Some((Verb::Sub, rest)) => Ok(sub(Some(rest))),
+        Some((Verb::Push, rest)) => Ok(push(Some(rest))),
+        Some((Verb::Ext, rest)) => ext(alloc, Some(rest)),
+        Some(_) => Ok(None),
+        None => Ok(usual_bare(line)),
     }
 }
 

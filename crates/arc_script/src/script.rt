@@ -283,9 +283,10 @@ where
             (MayEnd L.named line.now false self.old.table self.new.table) }
     {
         self.table.agree();
-        match parse_usual(line) {
-            Some(command) => answer(&mut self.table, rt, Some(command), &mut self.out),
-            None => self.answer_any(rt, line),
+        match parse_usual(self.alloc, line) {
+            Ok(Some(command)) => answer(&mut self.table, rt, Some(command), &mut self.out),
+            Ok(None) => self.answer_any(rt, line),
+            Err(error) => Err(error),
         }
     }
 

@@ -11,7 +11,7 @@ use Rattle.arc_owners.specs.declared.history.entry.Entry.{Entry}
 use Rattle.arc_owners.specs.declared.history.entry.Entry.TheVariants as entry
 use Rattle.arc_owners.specs.declared.error.OwnerError.{OwnerError}
 use Rattle.arc_owners.specs.declared.error.OwnerError.TheVariants.{AllocError, CountFull}
-use Rattle.arc_owners.specs.history.Histories.{is_counted, is_promoted}
+use Rattle.arc_owners.specs.history.Histories.{is_promoted}
 use Rattle.arc_owners.specs.history.Histories.{owners_ever}
 use Rattle.arc_owners.specs.count.Invariant.{BlockId, Line, entries_of}
 use Rattle.arc_owners.specs.count.Calls.{Owner, Appends, Asks, MakesAnother, FindsFull, MayJoin}

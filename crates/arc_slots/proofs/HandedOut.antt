@@ -20,7 +20,7 @@ use Rattle.arc_commands.specs.Changes.{in_range, is_now}
 use Rattle.arc_commands.specs.Step.{is_allowed}
 use Rattle.arc_commands.specs.Changes.{parted}
 use Rattle.arc_commands.specs.Changes.{with_made}
-use Rattle.arc_commands.specs.Blocks.{is_several}
+use Rattle.arc_commands.specs.Blocks.{is_several, is_writer}
 use Rattle.arc_commands.specs.Several.{split_off_change, split_to_change}
 use Rattle.arc_commands.specs.Commands.{ListCmd, ListReply}
 use Rattle.arc_commands.specs.declared.command.Cmd.TheVariants as command
@@ -30,6 +30,7 @@ use Rattle.arc_slots.specs.Calls.{Beside, FindsFullAt, RefusesAt}
 use Rattle.arc_slots.specs.Parts.{is_itself, is_part_of, part_answer, part_command, part_row}
 use Rattle.arc_slots.specs.Parts.{rest_of}
 use Rattle.arc_slots.specs.Slots.{IsSlotRole, SlotView, row_of, stand_of}
+use Rattle.arc_slots.specs.Several.{is_split}
 use Rattle.arc_slots.specs.Splits.{IsSplit}
 use Rattle.arc_slots.specs.Stands.{HasPassFor}
 use Rattle.arc_slots.specs.declared.part.Part.{Part}
@@ -40,6 +41,19 @@ use Rattle.arc_slots.proofs.Added.{refuses-at}
 use Rattle.arc_slots.proofs.Told.{full-told, many-beside, many-refused, why-refused-at}
 use Rattle.arc_slots.proofs.Told.{room-beside, row-block}
 use Rattle.arc_slots.proofs.Answered.{for-role, not-for, same}
+
+-- a window that isn't written has clones and ranges
+pub unwritten-has : (role : Role) (part : Part) → IsSlotRole role → is_writer role ≡ false
+    → is_split part ≡ false → is_part_of role part ≡ true
+unwritten-has reader part known other one = refl
+unwritten-has (sole_writer places) part known other one = absurd (false≢true (sym other))
+unwritten-has (one_writer_of_several places) part known other one =
+    absurd (false≢true (sym other))
+unwritten-has inline All known other one = refl
+unwritten-has inline (Range start end) known other one = refl
+unwritten-has inline (Back at) known other one = absurd (false≢true (sym one))
+unwritten-has inline (Front at) known other one = absurd (false≢true (sym one))
+unwritten-has forgotten part known other one = absurd known
 
 module _ {T M : Type 0} (setting : Setting T) (windows : ℕ) (s : SlotView T M)
     (passes : List (Pass Whole)) where
@@ -105,6 +119,21 @@ module _ {T M : Type 0} (setting : Setting T) (windows : ℕ) (s : SlotView T M)
   part-one inline part is = refl
   part-one forgotten part is = refl
 
+  -- a clone or a range is handed out of no writer's
+  written-not : (i : ℕ) (role : Role) (part : Part) → is_writer role ≡ true
+      → is_split part ≡ false → allowed (part_command i part) role ≡ false
+  written-not i reader part is one = absurd (false≢true is)
+  written-not i (sole_writer places) All is one = refl
+  written-not i (sole_writer places) (Range start end) is one = refl
+  written-not i (sole_writer places) (Back at) is one = absurd (false≢true (sym one))
+  written-not i (sole_writer places) (Front at) is one = absurd (false≢true (sym one))
+  written-not i (one_writer_of_several places) All is one = refl
+  written-not i (one_writer_of_several places) (Range start end) is one = refl
+  written-not i (one_writer_of_several places) (Back at) is one = absurd (false≢true (sym one))
+  written-not i (one_writer_of_several places) (Front at) is one = absurd (false≢true (sym one))
+  written-not i inline part is one = absurd (false≢true is)
+  written-not i forgotten part is one = absurd (false≢true is)
+
   module _ (i : ℕ) (part : Part) where
     abbrev c : Command
     c = part_command i part
@@ -144,6 +173,26 @@ module _ {T M : Type 0} (setting : Setting T) (windows : ℕ) (s : SlotView T M)
       by (Front at) not =
           same setting windows s passes (command.To i at) reply.Kind (none (Front at) not)
           (refl, refl, refl)
+
+  pub written-kind : (i : ℕ) (part : Part) → is_writer s.role ≡ true → is_split part ≡ false
+      → Said (part_command i part) reply.Kind (Some s) None passes
+  written-kind i part is one = by part one
+    where
+      none : (p : Part) → is_split p ≡ false
+          → answer_any setting no_shortage around (part_command i p) row ≡ is_now reply.Kind row
+      none p whole = not-for setting windows s passes no_shortage (part_command i p)
+          (written-not i s.role p is whole)
+
+      by : (p : Part) → is_split p ≡ false
+          → Said (part_command i p) reply.Kind (Some s) None passes
+      by All whole = same setting windows s passes (command.Clone i) reply.Kind (none All whole)
+          (refl, refl, refl)
+      by (Range start end) whole =
+          same setting windows s passes (command.Sub i start end) reply.Kind (none
+          (Range start end) whole)
+          (refl, refl, refl)
+      by (Back at) whole = absurd (false≢true (sym whole))
+      by (Front at) whole = absurd (false≢true (sym whole))
 
   module _ (i : ℕ) where
     back-is : (at : ℕ) (short : Shortage) → is_part_of s.role (Back at) ≡ true

@@ -1,5 +1,5 @@
 -- The roles of a slot's windows.
-use Rattle.std.proofs.Common.{◌≡◌, ℕ, true, false, sym}
+use Rattle.std.proofs.Common.{◌≡◌, ℕ, true}
 use Rattle.std.proofs.lemmas.Bool.{false≢true}
 use Rattle.arc_block.specs.Table.{Role, reader, sole_writer, one_writer_of_several, inline}
 use Rattle.arc_block.specs.Table.{forgotten}

@@ -17,7 +17,7 @@ use Rattle.arc_commands.specs.Commands.{ListReply}
 use Rattle.arc_commands.specs.Several.{are_apart, can_share, is_memory, join_answer}
 use Rattle.arc_commands.specs.declared.command.Reply.TheVariants as reply
 use Rattle.arc_slots.specs.Calls.{Along}
-use Rattle.arc_slots.specs.Slots.{SlotView, row_of, stand_of, writer_slot}
+use Rattle.arc_slots.specs.Slots.{SlotView, row_of, writer_slot}
 use Rattle.arc_slots.specs.Stands.{HasPassFor, TakenOut, is_numbered, numbered, put_back, stand_at}
 use Rattle.arc_slots.proofs.Added.{Ended}
 use Rattle.arc_slots.proofs.Filled.{numbered_each}

@@ -17,7 +17,7 @@ use Rattle.arc_block.specs.Place.{Place}
 use Rattle.arc_parts.specs.Shared.{CanSplit, as_shared, extended, front_of, is_vector_at}
 use Rattle.arc_parts.specs.Shared.{on_native, split_answer}
 use Rattle.arc_block.specs.Table.{Row, RowOf}
-use Rattle.arc_parts.specs.Writers.{Reclaims, after_advance, capacity_of, new_writer, with_room}
+use Rattle.arc_parts.specs.Writers.{Reclaims, after_advance, new_writer, with_room}
 use Rattle.arc_commands.specs.Additions.{Founds}
 use Rattle.arc_slots.specs.Calls.{AddsNothing, Along, Beside, RefusesAt}
 use Rattle.arc_slots.specs.Slots.{SlotView, row_of, stand_of}

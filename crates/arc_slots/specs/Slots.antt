@@ -12,6 +12,8 @@ use Rattle.arc_commands.specs.State.{State}
 use Rattle.arc_slots.specs.Stands.{numbered, stand_at}
 use Rattle.arc_slots.specs.declared.window.Held.{Held}
 use Rattle.arc_slots.specs.declared.window.Held.TheVariants.{Read, Several, Small, Write}
+use Rattle.arc_slots.specs.declared.window.ReadOnly.{ReadOnly}
+use Rattle.arc_slots.specs.declared.window.ReadOnly.TheVariants as read_only
 
 -- what is seen of a slot: its window, what that may do, and the number of the block on which it
 -- stands
@@ -31,6 +33,11 @@ IsSlotRole forgotten = ⊥
 -- the window that a slot holds, of small ones K
 abbrev pub AnyWindow : (T M K : Type 0) → Type 0
 AnyWindow T M K = Held (Window T M) (PartsView T M) (PartsView T M) K
+
+-- one that isn't written, as a slot holds it
+abbrev pub as_held : {T M K : Type 0} → ReadOnly (Window T M) K → AnyWindow T M K
+as_held (read_only.Read window) = Read window
+as_held (read_only.Small window) = Small window
 
 module _ {T M K : Type 0} where
   -- the window by itself, where a small one is seen as these parts

@@ -4,7 +4,6 @@ ghost use Rattle.std.specs.Mem.{FitsInMemory, type_size};
 ghost use Rattle.arc_block.specs.LayoutFacts.{layout_facts};
 
 use crate::kinds::{CallsOf, Commands, SmallOf, TableKind, TableReply};
-use crate::part::Part;
 use crate::passes::Passes;
 use crate::slot::{Slot, Writing};
 use arc_block::layout::{Layout, LayoutMut};
@@ -13,7 +12,6 @@ use arc_buffer::kinds::Slice;
 use arc_commands::command::Reply;
 use arc_owners::error::TryReserveError;
 use std::alloc::Allocator;
-use std::sync::Wait;
 
 impl<S: Commands<A>, L: Layout, B: BufferMut<S::Item> + Drop, M: Drop, A: Allocator + Copy> Slot<
     S,
@@ -31,80 +29,9 @@ where
     ghost use Rattle.arc_commands.specs.Seen.{seen_reply};
     ghost use Rattle.arc_commands.specs.declared.command.Cmd.TheVariants as command;
     ghost use Rattle.arc_slots.specs.Answers.{Answers};
-    ghost use Rattle.arc_slots.specs.Parts.{part_command};
     ghost use Rattle.arc_slots.specs.Slots.{stand_of};
     ghost use Rattle.arc_slots.specs.Stands.{HasPassFor};
     ghost use Rattle.arc_slots.specs.Writing.{IsLegal, can_write, seen_writing, write_command};
-
-    /// Hands out a part of the window under the next number, if there is room for it. Clones and
-    /// ranges of a window that is read have a way of their own, on which a window is moved less.
-    #[inline(always)]
-    pub(crate) fn hand_out(
-        &mut self,
-        rt: &impl Wait,
-        part: Part,
-        next: usize,
-        has_room: bool,
-        passes: &mut Passes<A>,
-    ) -> (TableReply<S, B, M, A>, Option<Self>)
-        requires { HasPassFor passes.old.of_blocks.items (stand_of (Some self.old)) }
-        ensures answer { (i : ℕ) → Answers (setting_of (layout_facts L.Layout) L.Writable.ANY
-            L.clone_wants S.DROPS S.boundary
-            (type_size S.Item.row) S.Zero.zero S.Calls.calls) next (part_command i part)
-            self.old passes.old.of_blocks.items (seen_reply S.items_in S.items_in_box B.list
-            result.0)
-            (Some self.new) result.1 passes.new.of_blocks.items }
-        ensures room { is_some result.1 ≡ true → has_room ≡ true }
-    {
-        if self.is_read() {
-            match part {
-                Part::Whole => return self.hand_out_clone(rt, next, has_room, passes),
-                Part::Range { start, end } => {
-                    return self.hand_out_range(rt, start, end, next, has_room, passes);
-                }
-                Part::Back(_) | Part::Front(_) => (),
-            }
-        }
-        self.hand_out_any(rt, part, next, has_room, passes)
-    }
-
-    /// The same of any window, whatever it is handed out of.
-    #[inline(always)]
-    fn hand_out_any(
-        &mut self,
-        rt: &impl Wait,
-        part: Part,
-        next: usize,
-        has_room: bool,
-        passes: &mut Passes<A>,
-    ) -> (TableReply<S, B, M, A>, Option<Self>)
-        requires { HasPassFor passes.old.of_blocks.items (stand_of (Some self.old)) }
-        ensures answer { (i : ℕ) → Answers (setting_of (layout_facts L.Layout) L.Writable.ANY
-            L.clone_wants S.DROPS S.boundary
-            (type_size S.Item.row) S.Zero.zero S.Calls.calls) next (part_command i part)
-            self.old passes.old.of_blocks.items (seen_reply S.items_in S.items_in_box B.list
-            result.0)
-            (Some self.new) result.1 passes.new.of_blocks.items }
-        ensures room { is_some result.1 ≡ true → has_room ≡ true }
-    {
-        self.known_role();
-        if self.is_several() {
-            return self.hand_out_places(rt, part, next, has_room, passes);
-        }
-        if !self.has_part(part) {
-            return (Reply::Kind, None);
-        }
-        if let Err(e) = self.check_part(part) {
-            return (Reply::Range(e), None);
-        }
-        if !has_room {
-            return (Reply::Alloc, None);
-        }
-        match self.try_part(rt, part, passes) {
-            Ok(slot) => (Reply::New(next), Some(slot)),
-            Err(e) => (Reply::Owner(e), None),
-        }
-    }
 
     /// Whether the window is the only owner of its block.
     pub(crate) fn uniq(&self, passes: &mut Passes<A>) -> TableReply<S, B, M, A>

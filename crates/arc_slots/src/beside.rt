@@ -25,8 +25,8 @@ where
     L::Writable: LayoutMut,
     S::Small: SmallOf<S, L, B, M, A>,
 {
-    ghost use Rattle.std.specs.Prelude.{◌≡◌, ◌<◌, ℕ, None, Some, true, is_some, length};
-    ghost use Rattle.std.specs.Prelude.{IfErr, IfOk};
+    ghost use Rattle.std.specs.Prelude.{◌≡◌, ◌<◌, ℕ, None, Some, true, length};
+    ghost use Rattle.std.specs.Prelude.{IfErr, IfOk, IsOk};
     ghost use Rattle.std.specs.Vec.{vec_capacity};
     ghost use Rattle.arc_parts.specs.Shared.{is_vector_at};
     ghost use Rattle.arc_parts.specs.Writers.{capacity_of};
@@ -34,6 +34,7 @@ where
     ghost use Rattle.arc_commands.specs.Changes.{setting_of};
     ghost use Rattle.arc_commands.specs.Seen.{seen_reply};
     ghost use Rattle.arc_commands.specs.declared.command.Cmd.TheVariants as command;
+    ghost use Rattle.arc_commands.specs.declared.command.Reply.TheVariants as reply;
     ghost use Rattle.arc_slots.specs.Answers.{Answers};
     ghost use Rattle.arc_slots.specs.Calls.{AddsNothing, Along};
     ghost use Rattle.arc_slots.specs.Parts.{part_command};
@@ -133,43 +134,51 @@ where
         }
     }
 
-    /// Splits the places of the window, which is one of several, and hands out a part under the
-    /// next number, if there is room for it.
+    /// Splits the places of the window, which is one of several, and hands out a part, if there is
+    /// room for it.
+    ///
+    /// # Errors
+    ///
+    /// What the command is answered instead.
+    #[inline(never)]
     pub(crate) fn hand_out_places(
         &mut self,
         rt: &impl Wait,
         part: Part,
-        next: usize,
         has_room: bool,
         passes: &mut Passes<A>,
-    ) -> (TableReply<S, B, M, A>, Option<Self>)
+    ) -> Result<Self, TableReply<S, B, M, A>>
         requires role { is_several self.old.role ≡ true }
         requires pass { HasPassFor passes.old.of_blocks.items (stand_of (Some self.old)) }
-        ensures answer { (i : ℕ) → Answers (setting_of (layout_facts L.Layout) L.Writable.ANY
-            L.clone_wants S.DROPS S.boundary
+        ensures made { IfOk result (λ made. (next i : ℕ) → Answers
+            (setting_of (layout_facts L.Layout) L.Writable.ANY L.clone_wants S.DROPS S.boundary
             (type_size S.Item.row) S.Zero.zero S.Calls.calls) next (part_command i part)
-            self.old passes.old.of_blocks.items (seen_reply S.items_in S.items_in_box B.list
-            result.0)
-            (Some self.new) result.1 passes.new.of_blocks.items }
-        ensures room { is_some result.1 ≡ true → has_room ≡ true }
+            self.old passes.old.of_blocks.items (reply.New next)
+            (Some self.new) (Some made) passes.new.of_blocks.items) }
+        ensures refused { IfErr result (λ r. (next i : ℕ) → Answers
+            (setting_of (layout_facts L.Layout) L.Writable.ANY L.clone_wants S.DROPS S.boundary
+            (type_size S.Item.row) S.Zero.zero S.Calls.calls) next (part_command i part)
+            self.old passes.old.of_blocks.items (seen_reply S.items_in S.items_in_box B.list r)
+            (Some self.new) None passes.new.of_blocks.items) }
+        ensures room { IsOk result → has_room ≡ true }
     {
         self.known_undropped();
         if !part.is_split() {
-            return (Reply::Kind, None);
+            return Err(Reply::Kind);
         }
         if let Err(e) = self.check_places(part) {
-            return (Reply::Range(e), None);
+            return Err(Reply::Range(e));
         }
         if !has_room {
-            return (Reply::Alloc, None);
+            return Err(Reply::Alloc);
         }
         if passes.reserve_for(self.is_on_vector()).is_err() {
             self.adds_nothing(passes);
-            return (Reply::Owner(OwnerError::AllocError), None);
+            return Err(Reply::Owner(OwnerError::AllocError));
         }
         match self.try_split_beside(rt, part, passes) {
-            Ok(slot) => (Reply::New(next), Some(slot)),
-            Err(e) => (Reply::Owner(e), None),
+            Ok(slot) => Ok(slot),
+            Err(e) => Err(Reply::Owner(e)),
         }
     }
 

@@ -1,5 +1,6 @@
 //! A command on the window under one number of a table.
-ghost use Rattle.std.specs.Prelude.{◌≡◌, ℕ, None, Some, true, is_some, length, IfSome};
+ghost use Rattle.std.specs.Prelude.{◌≡◌, ℕ, None, Some, true, length, IfSome};
+ghost use Rattle.std.specs.Prelude.{Err, IfErr, IfOk, IsOk};
 ghost use Rattle.arc_block.specs.LayoutFacts.{layout_facts};
 ghost use Rattle.std.specs.Mem.{FitsInMemory, type_size};
 ghost use Rattle.arc_commands.specs.Seen.{map_command, seen_reply};
@@ -195,8 +196,12 @@ where
     reply
 }
 
-/// Carries out a command on the window that is here, if there is one: its reply, and the window
-/// that was made beside it, if one was. That goes under the next number, where there is room.
+/// Carries out a command on the window that is here, if there is one: the window that was made
+/// beside it, where there is room for it. That is to go under the next number, which is the reply.
+///
+/// # Errors
+///
+/// The reply, where no window was made.
 #[inline(always)]
 #[tactic(auto, using(crate::proofs::Taken::has_block, crate::proofs::Taken::has_life))]
 pub fn answer<
@@ -210,72 +215,70 @@ pub fn answer<
     rt: &impl Wait,
     alloc: A,
     command: TableCmd<S, B, M, A>,
-    next: usize,
     has_room: bool,
     passes: &mut Passes<A>,
-) -> (TableReply<S, B, M, A>, Option<Slot<S, L, B, M, A>>)
+) -> Result<Slot<S, L, B, M, A>, TableReply<S, B, M, A>>
 where
     L::Writable: LayoutMut,
     S::Small: SmallOf<S, L, B, M, A>,
     requires item { FitsInMemory S.Item.row }
     requires pass { HasPassFor passes.old.of_blocks.items (stand_of place.old) }
-    ensures there { IfSome place.old (λ s. Answers (setting_of (layout_facts L.Layout)
-        L.Writable.ANY L.clone_wants S.DROPS
-        S.boundary (type_size S.Item.row) S.Zero.zero S.Calls.calls) next
-        (map_command S.items_in S.static_in B.list command)
-        s passes.old.of_blocks.items (seen_reply S.items_in S.items_in_box B.list result.0)
-        place.new result.1 passes.new.of_blocks.items) }
-    ensures none { place.old ≡ None
-        → (result.0 ≡ reply.NoWindow) × (result.1 ≡ None) × (place.new ≡ None)
+    ensures made { IfOk result (λ made. IfSome place.old (λ s. (next : ℕ) → Answers
+        (setting_of (layout_facts L.Layout) L.Writable.ANY L.clone_wants S.DROPS S.boundary
+        (type_size S.Item.row) S.Zero.zero S.Calls.calls) next
+        (map_command S.items_in S.static_in B.list command) s passes.old.of_blocks.items
+        (reply.New next) place.new (Some made) passes.new.of_blocks.items)) }
+    ensures told { IfErr result (λ r. IfSome place.old (λ s. (next : ℕ) → Answers
+        (setting_of (layout_facts L.Layout) L.Writable.ANY L.clone_wants S.DROPS S.boundary
+        (type_size S.Item.row) S.Zero.zero S.Calls.calls) next
+        (map_command S.items_in S.static_in B.list command) s passes.old.of_blocks.items
+        (seen_reply S.items_in S.items_in_box B.list r) place.new None
+        passes.new.of_blocks.items)) }
+    ensures none { place.old ≡ None → (result ≡ Err reply.NoWindow) × (place.new ≡ None)
         × (passes.new.of_blocks.items ≡ passes.old.of_blocks.items) }
-    ensures room { is_some result.1 ≡ true → has_room ≡ true }
+    ensures room { IsOk result → has_room ≡ true }
 {
     let Some(slot) = place else {
-        return (Reply::NoWindow, None);
+        return Err(Reply::NoWindow);
     };
     match command {
-        Cmd::Clone { .. } => slot.hand_out(rt, Part::Whole, next, has_room, passes),
-        Cmd::Sub { start, end, .. } => {
-            slot.hand_out(rt, Part::Range { start, end }, next, has_room, passes)
-        }
-        Cmd::Off { at, .. } => slot.hand_out(rt, Part::Back(at), next, has_room, passes),
-        Cmd::To { at, .. } => slot.hand_out(rt, Part::Front(at), next, has_room, passes),
-        Cmd::Uniq { .. } => (slot.uniq(passes), None),
-        Cmd::Show { .. } => (slot.show(alloc, passes), None),
-        Cmd::Meta { .. } => (slot.meta(passes), None),
-        Cmd::Len { .. } => (slot.count(passes), None),
-        Cmd::Room { .. } => (slot.room(passes), None),
-        Cmd::Res { additional, .. } => (slot.fill(Writing::Nothing(additional), passes), None),
-        Cmd::Push { item, .. } => (slot.fill(Writing::Item(item), passes), None),
-        Cmd::Ext { items, .. } => (
-            slot.fill(Writing::Items(vec_of::<S, A>(items)), passes),
-            None,
-        ),
-        Cmd::Rec { additional, .. } => (slot.reclaim(additional, passes), None),
-        Cmd::Adv { by, .. } => (slot.skip(by, passes), None),
-        Cmd::Trunc { len, .. } => (slot.cut(len, passes), None),
-        Cmd::Freeze { .. } => (freeze_at(place, passes), None),
-        Cmd::Mut { .. } => (mut_at(place, passes), None),
-        Cmd::Share { .. } => (share_at(place, passes), None),
-        Cmd::Unique { .. } => (unique_at(place, passes), None),
-        Cmd::Join { .. } => (slot.join(passes), None),
-        Cmd::Drop { .. } => (drop_at(place, passes), None),
-        Cmd::Take { .. } => (take_at(place, Taking::Vector, passes), None),
-        Cmd::TakeBox { .. } => (take_at(place, Taking::Boxed, passes), None),
-        Cmd::TakeBuf { .. } => (take_at(place, Taking::Buffer, passes), None),
-        Cmd::TakeRaw { .. } => (take_at(place, Taking::Raw, passes), None),
-        Cmd::TakeStatic { .. } => (static_at(place, passes), None),
+        Cmd::Clone { .. } => slot.hand_out_clone(rt, has_room, passes),
+        Cmd::Sub { start, end, .. } => slot.hand_out_range(rt, start, end, has_room, passes),
+        Cmd::Off { at, .. } => slot.hand_out_split(rt, Part::Back(at), has_room, passes),
+        Cmd::To { at, .. } => slot.hand_out_split(rt, Part::Front(at), has_room, passes),
+        Cmd::Uniq { .. } => Err(slot.uniq(passes)),
+        Cmd::Show { .. } => Err(slot.show(alloc, passes)),
+        Cmd::Meta { .. } => Err(slot.meta(passes)),
+        Cmd::Len { .. } => Err(slot.count(passes)),
+        Cmd::Room { .. } => Err(slot.room(passes)),
+        Cmd::Res { additional, .. } => Err(slot.fill(Writing::Nothing(additional), passes)),
+        Cmd::Push { item, .. } => Err(slot.fill(Writing::Item(item), passes)),
+        Cmd::Ext { items, .. } => Err(slot.fill(Writing::Items(vec_of::<S, A>(items)), passes)),
+        Cmd::Rec { additional, .. } => Err(slot.reclaim(additional, passes)),
+        Cmd::Adv { by, .. } => Err(slot.skip(by, passes)),
+        Cmd::Trunc { len, .. } => Err(slot.cut(len, passes)),
+        Cmd::Freeze { .. } => Err(freeze_at(place, passes)),
+        Cmd::Mut { .. } => Err(mut_at(place, passes)),
+        Cmd::Share { .. } => Err(share_at(place, passes)),
+        Cmd::Unique { .. } => Err(unique_at(place, passes)),
+        Cmd::Join { .. } => Err(slot.join(passes)),
+        Cmd::Drop { .. } => Err(drop_at(place, passes)),
+        Cmd::Take { .. } => Err(take_at(place, Taking::Vector, passes)),
+        Cmd::TakeBox { .. } => Err(take_at(place, Taking::Boxed, passes)),
+        Cmd::TakeBuf { .. } => Err(take_at(place, Taking::Buffer, passes)),
+        Cmd::TakeRaw { .. } => Err(take_at(place, Taking::Raw, passes)),
+        Cmd::TakeStatic { .. } => Err(static_at(place, passes)),
         // These are on no window.
-        Cmd::Slice(_) => (Reply::Kind, None),
-        Cmd::Small(_) => (Reply::Kind, None),
-        Cmd::Vec(_) => (Reply::Kind, None),
-        Cmd::Static(_) => (Reply::Kind, None),
-        Cmd::Raw(_) => (Reply::Kind, None),
-        Cmd::Buf { .. } => (Reply::Kind, None),
-        Cmd::MBuf { .. } => (Reply::Kind, None),
-        Cmd::New => (Reply::Kind, None),
-        Cmd::Cap { .. } => (Reply::Kind, None),
-        Cmd::Zero { .. } => (Reply::Kind, None),
-        Cmd::MSlice(_) => (Reply::Kind, None),
+        Cmd::Slice(_) => Err(Reply::Kind),
+        Cmd::Small(_) => Err(Reply::Kind),
+        Cmd::Vec(_) => Err(Reply::Kind),
+        Cmd::Static(_) => Err(Reply::Kind),
+        Cmd::Raw(_) => Err(Reply::Kind),
+        Cmd::Buf { .. } => Err(Reply::Kind),
+        Cmd::MBuf { .. } => Err(Reply::Kind),
+        Cmd::New => Err(Reply::Kind),
+        Cmd::Cap { .. } => Err(Reply::Kind),
+        Cmd::Zero { .. } => Err(Reply::Kind),
+        Cmd::MSlice(_) => Err(Reply::Kind),
     }
 }

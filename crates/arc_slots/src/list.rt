@@ -129,14 +129,18 @@ impl<X, A: Allocator> Slots<X, A> {
         Some(place)
     }
 
-    /// Gives the place of a window that has gone, if it is one, to the list of places to be given
-    /// again.
-    pub fn settle(&mut self, place: usize)
+    /// Gives a place to the list of those to be given again, where that is wanted and the window
+    /// that was there has gone.
+    #[inline(always)]
+    pub fn settle(&mut self, wanted: bool, place: usize)
         ensures index { self.new.index.items ≡ self.old.index.items }
         ensures numbers { self.new.numbers.items ≡ self.old.numbers.items }
         ensures places { self.new.places.items ≡ self.old.places.items }
+        ensures listed { wanted ≡ true → slice_get self.old.places.items place ≡ Some None
+            → length self.old.free.items < vec_capacity self.old.free
+            → self.new.free.items ≡ self.old.free.items ++ place ∷ [] }
     {
-        if place >= self.places.len() {
+        if !wanted || place >= self.places.len() {
             return;
         }
         if self.places[place].is_some() {

@@ -9,7 +9,9 @@ ghost use Rattle.arc_slots.specs.Writing.{additional_of};
 
 use crate::kinds::{CallsOf, Commands, SmallOf, TableKind};
 use crate::passes::Passes;
-use crate::window::{AnyWindow, Held, clone_window, cut_window, end_window};
+use crate::window::{
+    AnyWindow, Held, ReadOnly, ReadOnlyWindow, clone_window, cut_window, end_window,
+};
 use arc_block::layout::{Layout, LayoutMut, stands_on_nothing};
 use arc_block::static_slice::StaticSlice;
 use arc_buffer::buffer::BufferMut;
@@ -158,7 +160,7 @@ where
     ghost use Rattle.arc_slots.specs.Splits.{IsSplit};
     ghost use Rattle.arc_commands.specs.Blocks.{is_reader, is_several, is_small, is_sole};
     ghost use Rattle.arc_commands.specs.Blocks.{is_writer};
-    ghost use Rattle.arc_slots.specs.Slots.{IsSlotRole, row_of, stand_of};
+    ghost use Rattle.arc_slots.specs.Slots.{IsSlotRole, as_held, held, row_of, stand_of, window_in};
     ghost use Rattle.arc_slots.specs.Writing.{Fills, is_fresh};
     ghost use Rattle.arc_parts.specs.Writers.{Reclaims};
     ghost use Rattle.std.specs.Vec.{vec_capacity};
@@ -195,6 +197,24 @@ where
         Slot {
             window: Held::Write(window),
             block,
+        }
+    }
+
+    /// A window that isn't written, on the block with this number.
+    #[inline(always)]
+    pub fn read_only(window: ReadOnlyWindow<S, L, B, M, A>, block: Option<usize>) -> Self
+        requires { is_numbered block (window_in S.Small.seen (as_held window)).place ≡ true }
+        ensures { result ≡ held S.Small.seen (as_held window) block }
+    {
+        match window {
+            ReadOnly::Read(window) => Slot {
+                window: Held::Read(window),
+                block,
+            },
+            ReadOnly::Small(window) => Slot {
+                window: Held::Small(window),
+                block,
+            },
         }
     }
 
@@ -404,6 +424,7 @@ where
     /// # History
     ///
     /// On a block Up, or Full where refused.
+    #[inline(always)]
     pub fn try_clone(&self, rt: &impl Wait, passes: &mut Passes<A>) -> Result<Self, OwnerError>
         requires cuts { is_writer self.now.role ≡ false }
         requires pass { HasPassFor passes.old.of_blocks.items (stand_of (Some self.now)) }
@@ -418,10 +439,7 @@ where
         let made = clone_window(&self.window, rt, &mut pass);
         passes.give_back(self.block, pass);
         match made {
-            Ok(window) => Ok(Slot {
-                window,
-                block: self.block,
-            }),
+            Ok(window) => Ok(Slot::read_only(window, self.block)),
             Err(e) => Err(e),
         }
     }
@@ -440,6 +458,7 @@ where
     /// # History
     ///
     /// Where the part stands on a block Up, or Full where refused.
+    #[inline(always)]
     pub fn try_subslice(
         &self,
         rt: &impl Wait,
@@ -464,10 +483,7 @@ where
         let made = cut_window(&self.window, rt, start, end, &mut pass);
         passes.give_back(self.block, pass);
         match made {
-            Ok(window) => Ok(Slot {
-                window,
-                block: part_block::<L>(self.block, end - start),
-            }),
+            Ok(window) => Ok(Slot::read_only(window, part_block::<L>(self.block, end - start))),
             Err(e) => Err(e),
         }
     }

@@ -6,7 +6,7 @@ ghost use Rattle.arc_block.specs.Place.{at_owner};
 ghost use Rattle.arc_parts.specs.Steps.{IsPassAt, Refuses, Shares};
 ghost use Rattle.arc_commands.specs.Blocks.{is_writer};
 ghost use Rattle.arc_read.specs.Cuts.{sub_place};
-ghost use Rattle.arc_slots.specs.Slots.{may_be_shared, role_fits, role_in, window_in};
+ghost use Rattle.arc_slots.specs.Slots.{as_held, role_fits, role_in, window_in};
 
 use crate::kinds::{SmallOf, TableKind};
 use arc_block::layout::{Layout, LayoutMut};
@@ -40,7 +40,21 @@ pub type AnyWindow<S, L, K, B, M, A> = Held<
 /// A small window of kind S, if S has any.
 pub type SmallWindow<S, L, B, M, A> = <<S as TableKind>::Small as SmallOf<S, L, B, M, A>>::Window;
 
+/// A window that isn't written: one that is read, or a small one. What is cloned or cut of a slot's
+/// window is one, and smaller than what a slot holds.
+pub enum ReadOnly<R, K> {
+    Read(R),
+    Small(K),
+}
+
+/// The window that a clone or a cut of a slot's is.
+pub type ReadOnlyWindow<S, L, B, M, A> = ReadOnly<
+    ArcSlice<S, L, B, M, A, Whole>,
+    SmallWindow<S, L, B, M, A>,
+>;
+
 /// Another window with the same items, by `try_clone_as` of a reader's or of a small one.
+#[inline(always)]
 pub(crate) fn clone_window<
     S: TableKind,
     L: Layout,
@@ -52,29 +66,27 @@ pub(crate) fn clone_window<
     window: &AnyWindow<S, L, K, B, M, A>,
     rt: &impl Wait,
     pass: &mut Pass<Whole>,
-) -> Result<AnyWindow<S, L, K, B, M, A>, OwnerError>
+) -> Result<ReadOnlyWindow<S, L, B, M, A>, OwnerError>
 where
     S::Small: SmallOf<S, L, B, M, A>,
     requires cuts { is_writer (role_in window.now) ≡ false }
     requires fits { role_fits window.now ≡ true }
     requires pass { IsPassAt (window_in S.Small.seen window.now).place pass.old }
-    ensures items { IfOk result (λ made. (window_in S.Small.seen made).items
+    ensures items { IfOk result (λ made. (window_in S.Small.seen (as_held made)).items
         ≡ (window_in S.Small.seen window.now).items) }
-    ensures role { IfOk result (λ made. role_in made ≡ role_in window.now) }
+    ensures role { IfOk result (λ made. role_in (as_held made) ≡ role_in window.now) }
     ensures place { IfOk result (λ made. Shares (window_in S.Small.seen window.now).place
-        pass.old pass.new (window_in S.Small.seen made).place) }
-    ensures fits { IfOk result (λ made. role_fits made ≡ true) }
-    ensures shared { IfOk result (λ made. may_be_shared S.SHARES made ≡ true) }
+        pass.old pass.new (window_in S.Small.seen (as_held made)).place) }
     ensures refused { IfErr result (λ e. Refuses L.clone_wants
         (window_in S.Small.seen window.now).place pass.old pass.new e) }
 {
     match window {
         Held::Read(window) => match window.try_clone_as(rt, pass) {
-            Ok(made) => Ok(Held::Read(made)),
+            Ok(made) => Ok(ReadOnly::Read(made)),
             Err(e) => Err(e),
         },
         Held::Small(window) => match S::Small::try_clone_as(window, rt, pass) {
-            Ok(made) => Ok(Held::Small(made)),
+            Ok(made) => Ok(ReadOnly::Small(made)),
             Err(e) => Err(e),
         },
         Held::Write(_) | Held::Several(_) => unreachable!(),
@@ -83,6 +95,7 @@ where
 
 /// A window over the items from `start` to `end`, by `try_subslice_as` of a reader's or of a small
 /// one.
+#[inline(always)]
 pub(crate) fn cut_window<
     S: TableKind,
     L: Layout,
@@ -96,32 +109,30 @@ pub(crate) fn cut_window<
     start: usize,
     end: usize,
     pass: &mut Pass<Whole>,
-) -> Result<AnyWindow<S, L, K, B, M, A>, OwnerError>
+) -> Result<ReadOnlyWindow<S, L, B, M, A>, OwnerError>
 where
     S::Small: SmallOf<S, L, B, M, A>,
     requires cuts { is_writer (role_in window.now) ≡ false }
     requires fits { role_fits window.now ≡ true }
     requires range { IsRange S.boundary (window_in S.Small.seen window.now).items start end }
     requires pass { IsPassAt (window_in S.Small.seen window.now).place pass.old }
-    ensures items { IfOk result (λ made. (window_in S.Small.seen made).items
+    ensures items { IfOk result (λ made. (window_in S.Small.seen (as_held made)).items
         ≡ sub (window_in S.Small.seen window.now).items start end) }
-    ensures role { IfOk result (λ made. role_in made ≡ role_in window.now) }
+    ensures role { IfOk result (λ made. role_in (as_held made) ≡ role_in window.now) }
     ensures place { IfOk result (λ made. Shares
         (sub_place L.STATIC (window_in S.Small.seen window.now) start end)
-        pass.old pass.new (window_in S.Small.seen made).place) }
-    ensures fits { IfOk result (λ made. role_fits made ≡ true) }
-    ensures shared { IfOk result (λ made. may_be_shared S.SHARES made ≡ true) }
+        pass.old pass.new (window_in S.Small.seen (as_held made)).place) }
     ensures refused { IfErr result (λ e. Refuses L.clone_wants
         (sub_place L.STATIC (window_in S.Small.seen window.now) start end)
         pass.old pass.new e) }
 {
     match window {
         Held::Read(window) => match window.try_subslice_as(rt, start, end, pass) {
-            Ok(made) => Ok(Held::Read(made)),
+            Ok(made) => Ok(ReadOnly::Read(made)),
             Err(e) => Err(e),
         },
         Held::Small(window) => match S::Small::try_subslice_as(window, rt, start, end, pass) {
-            Ok(made) => Ok(Held::Small(made)),
+            Ok(made) => Ok(ReadOnly::Small(made)),
             Err(e) => Err(e),
         },
         Held::Write(_) | Held::Several(_) => unreachable!(),

@@ -694,3 +694,9 @@ set-swap (w ∷ ws) zero (suc j) x y z far = ap (λ vs. y ∷ vs) (set-twice ws 
 set-swap (w ∷ ws) (suc i) zero x y z far = refl
 set-swap (w ∷ ws) (suc i) (suc j) x y z far =
     ap (λ vs. w ∷ vs) (set-swap ws i j x y z (λ e. far (ap suc e)))
+
+-- what is said of each number of windows is said of this one
+pub at-next : {X : Type 0} (P : ℕ → X → Type 0) (x : Option X) (n : ℕ)
+    → IfSome x (λ s. (next : ℕ) → P next s) → IfSome x (P n)
+at-next P None n said = tt
+at-next P (Some s) n said = said n

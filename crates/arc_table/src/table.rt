@@ -130,6 +130,7 @@ where
     /// # History
     ///
     /// What `Adds` says of the command and its reply.
+    #[inline(always)]
     pub fn step(&mut self, rt: &impl Wait, command: TableCmd<S, B, M, A>) -> TableReply<S, B, M, A>
         requires item { FitsInMemory S.Item.row }
         ensures { CarriesOut (setting_of (layout_facts L.Layout) L.Writable.ANY L.clone_wants
@@ -283,16 +284,23 @@ where
             (seen_reply S.items_in S.items_in_box B.list result) self.new.standing }
     {
         let has_room = self.slots.room_if(command.makes_beside());
+        let may_end = command.may_end();
         let next = self.slots.index.len();
         let Some(place) = self.slots.place_of(i) else {
             return Reply::NoWindow;
         };
         let slot = &mut self.slots.places[place];
         let passes = &mut self.passes;
-        let (reply, made) = answer(slot, rt, self.alloc, command, next, has_room, passes);
-        self.slots.push_made(made);
-        self.slots.settle(place);
-        reply
+        match answer(slot, rt, self.alloc, command, has_room, passes) {
+            Ok(window) => {
+                self.slots.push_made(Some(window));
+                Reply::New(next)
+            }
+            Err(reply) => {
+                self.slots.settle(may_end, place);
+                reply
+            }
+        }
     }
 
     /// Carries out a `Cmd::Join` of the windows under these numbers, which are two: joined, the
@@ -321,7 +329,7 @@ where
         let window = &mut self.slots.places[here];
         let reply = join_at(window, &mut other, &mut self.passes);
         set_slot(&mut self.slots.places[there], other);
-        self.slots.settle(there);
+        self.slots.settle(true, there);
         reply
     }
 
@@ -425,7 +433,7 @@ where
         // The window is there, so the reply is `Ok`: it is asked for as one without values, so that
         // nothing of it is left to be dropped.
         let _: Reply<Gives<(), (), (), (), (), (), ()>> = drop_at(window, passes);
-        self.slots.settle(place);
+        self.slots.settle(true, place);
         Reply::Ok
     }
 }

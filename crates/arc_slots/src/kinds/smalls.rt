@@ -293,6 +293,7 @@ impl<S: SmallKind, L: Layout, B: BufferMut<u8> + Drop, M: Drop, A: Allocator + C
         window.advance(by);
     }
 
+    #[inline(always)]
     fn try_clone_as(
         window: &SmallArcSlice<S, L, B, M, A, Whole>,
         rt: &impl Wait,
@@ -301,6 +302,7 @@ impl<S: SmallKind, L: Layout, B: BufferMut<u8> + Drop, M: Drop, A: Allocator + C
         window.try_clone_as(rt, pass)
     }
 
+    #[inline(always)]
     fn try_subslice_as(
         window: &SmallArcSlice<S, L, B, M, A, Whole>,
         rt: &impl Wait,
@@ -311,6 +313,7 @@ impl<S: SmallKind, L: Layout, B: BufferMut<u8> + Drop, M: Drop, A: Allocator + C
         window.try_subslice_as(rt, start, end, pass)
     }
 
+    #[inline(always)]
     fn release_as(window: SmallArcSlice<S, L, B, M, A, Whole>, pass: &mut Pass<Whole>) {
         window.release_as(pass);
     }

@@ -1,33 +1,57 @@
 -- What stands behind the first word is read as its form wants it.
-use Rattle.std.proofs.Common.{◌∙◌}
+use Rattle.std.proofs.Common.{◌≡◌, ◌∙◌, subst}
+use Rattle.std.specs.Prelude.{IfOk, OnErr, IsSomeAnd}
+use Rattle.std.specs.Option.{option_map}
 use Rattle.arc_forms.specs.Seen.{line_command}
-use Rattle.arc_forms.proofs.Forms.{read_some}
+use Rattle.arc_forms.specs.Reading.{BringsItems}
+use Rattle.arc_forms.proofs.Forms.{read_err, read_if_some, read_ok_some, read_some}
 use Rattle.arc_forms.proofs.parse.parse_usual.Goals as goal
 
-pub returns-in-Some-Number-default : goal.returns-in-Some-Number-default
-returns-in-Some-Number-default g c =
+pub returns-in-Some-Number-default-clause-ok : goal.returns-in-Some-Number-default-clause-ok
+returns-in-Some-Number-default-clause-ok g c =
     let here = c.in-Some-Number-default in
     read_some (line_command {A = g.row.A.Denot}) c.args.line.now c.with_number.result
     c.if-line-gt-LONGEST_LINE.false
     (c.with_number.ensures ∙ cc (here.ensures, here.field-0-0-is))
 
-pub returns-in-Some-Sub-default : goal.returns-in-Some-Sub-default
-returns-in-Some-Sub-default g c =
+pub returns-in-Some-Sub-default-clause-ok : goal.returns-in-Some-Sub-default-clause-ok
+returns-in-Some-Sub-default-clause-ok g c =
     let here = c.in-Some-Sub-default in
     read_some (line_command {A = g.row.A.Denot}) c.args.line.now c.sub.result
     c.if-line-gt-LONGEST_LINE.false
     (c.sub.ensures ∙ cc (here.ensures, here.field-0-0-is))
 
-pub returns-in-Some-Numbers-default : goal.returns-in-Some-Numbers-default
-returns-in-Some-Numbers-default g c =
+pub returns-in-Some-Numbers-default-clause-ok : goal.returns-in-Some-Numbers-default-clause-ok
+returns-in-Some-Numbers-default-clause-ok g c =
     let here = c.in-Some-Numbers-default in
     read_some (line_command {A = g.row.A.Denot}) c.args.line.now c.with_numbers.result
     c.if-line-gt-LONGEST_LINE.false
     (c.with_numbers.ensures ∙ cc (here.ensures, here.field-0-0-is))
 
-pub returns-in-Some-Push-default : goal.returns-in-Some-Push-default
-returns-in-Some-Push-default g c =
+pub returns-in-Some-Push-default-clause-ok : goal.returns-in-Some-Push-default-clause-ok
+returns-in-Some-Push-default-clause-ok g c =
     let here = c.in-Some-Push-default in
     read_some (line_command {A = g.row.A.Denot}) c.args.line.now c.push.result
     c.if-line-gt-LONGEST_LINE.false
     (c.push.ensures ∙ cc (here.ensures, here.field-0-0-is))
+
+pub returns-in-Some-Ext-default-clause-ok : goal.returns-in-Some-Ext-default-clause-ok
+returns-in-Some-Ext-default-clause-ok g c =
+    let here = c.in-Some-Ext-default in
+    read_ok_some (line_command {A = g.row.A.Denot}) c.args.line.now c.ext.result
+    c.if-line-gt-LONGEST_LINE.false
+    (subst
+    (λ read. IfOk c.ext.result (λ said. option_map (line_command {A = g.row.A.Denot}) said ≡ read))
+    (cc (here.ensures, here.field-0-0-is)) c.ext.ensures.ok)
+
+pub returns-in-Some-Ext-default-clause-err : goal.returns-in-Some-Ext-default-clause-err
+returns-in-Some-Ext-default-clause-err g c =
+    let here = c.in-Some-Ext-default in
+    read_err c.args.line.now c.ext.result c.if-line-gt-LONGEST_LINE.false
+    (subst (λ read. OnErr c.ext.result (IsSomeAnd read BringsItems))
+    (cc (here.ensures, here.field-0-0-is)) c.ext.ensures.err)
+
+pub returns-in-None-clause-ok : goal.returns-in-None-clause-ok
+returns-in-None-clause-ok g c =
+    read_if_some (line_command {A = g.row.A.Denot}) c.args.line.now c.usual_bare.result
+    c.if-line-gt-LONGEST_LINE.false c.usual_bare.ensures

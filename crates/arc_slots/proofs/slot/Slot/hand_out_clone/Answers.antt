@@ -1,13 +1,11 @@
 -- The clone is a part that is handed out beside the window.
-use Rattle.std.proofs.Common.{Some, refl, sym, ap, subst, ◌∙◌}
+use Rattle.std.proofs.Common.{refl, sym, ◌∙◌}
 use Rattle.std.specs.Mem.{type_size}
 use Rattle.arc_block.specs.LayoutFacts.{layout_facts}
 use Rattle.arc_commands.specs.Changes.{Setting, setting_of}
-use Rattle.arc_slots.specs.Calls.{Beside}
-use Rattle.arc_slots.specs.Parts.{is_part_of}
-use Rattle.arc_slots.specs.Slots.{row_of, stand_of}
 use Rattle.arc_slots.specs.declared.part.Part.TheVariants as part
-use Rattle.arc_slots.proofs.HandedOut.{beside, part-alloc, part-refused}
+use Rattle.arc_slots.proofs.HandedOut.{beside, part-alloc, part-refused, unwritten-has}
+use Rattle.arc_slots.proofs.HandedOut.{written-kind}
 use Rattle.arc_slots.proofs.slot.Slot.hand_out_clone.Given.{Over}
 use Rattle.arc_slots.proofs.slot.Slot.hand_out_clone.Goals as goal
 
@@ -17,30 +15,37 @@ setting g =
     g.S.Slice.DROPS g.S.Subsliceable.boundary
     (type_size g.row.S-Item) g.S.Zero.ZeroOf.zero g.S.Calls.CallsOf.calls
 
-pub returns-in-Ok-clause-answer : goal.returns-in-Ok-clause-answer
-returns-in-Ok-clause-answer g c i =
+pub returns-then-is_writer-clause-refused : goal.returns-then-is_writer-clause-refused
+returns-then-is_writer-clause-refused g c next i =
+    written-kind (setting g) next c.args.self.now c.args.passes.now.of_blocks.items i
+    part.Whole (sym c.is_writer.ensures ∙ c.if-is_writer.true) refl
+
+pub returns-in-Ok-clause-made : goal.returns-in-Ok-clause-made
+returns-in-Ok-clause-made g c next i =
     let s = c.args.self.now in
-    let passes = c.args.passes.now.of_blocks.items in
-    let after = c.clone_read.new.passes.of_blocks.items in
-    beside (setting g) c.args.next s passes i c.requires.pass after part.Whole
-    (ap (λ r. is_part_of r part.Whole) c.requires.reads) refl c.read.result s refl
+    let for = unwritten-has s.role part.Whole c.known_role.ensures
+    (sym c.is_writer.ensures ∙ c.if-is_writer.false) refl in
+    beside (setting g) next s c.args.passes.now.of_blocks.items i c.requires
+    c.try_clone.new.passes.of_blocks.items part.Whole for refl c.in-Ok.slot s refl
     record {
       same_is = refl;
-      made_is = ap row_of c.read.ensures ∙ c.in-Ok.ensures.row;
+      made_is = c.in-Ok.ensures.row;
       owner = refl;
-      added =
-          subst (λ x. Beside (stand_of (Some s)) passes after (stand_of (Some x)))
-          (sym c.read.ensures) c.in-Ok.ensures.stand;
+      added = c.in-Ok.ensures.stand;
     }
 
-pub returns-in-Err-clause-answer : goal.returns-in-Err-clause-answer
-returns-in-Err-clause-answer g c i =
-    part-refused (setting g) c.args.next c.args.self.now c.args.passes.now.of_blocks.items i
-    c.requires.pass c.clone_read.new.passes.of_blocks.items part.Whole
-    (ap (λ r. is_part_of r part.Whole) c.requires.reads) refl c.in-Err.e c.in-Err.ensures.refused
+pub returns-in-Err-clause-refused : goal.returns-in-Err-clause-refused
+returns-in-Err-clause-refused g c next i =
+    let s = c.args.self.now in
+    let for = unwritten-has s.role part.Whole c.known_role.ensures
+    (sym c.is_writer.ensures ∙ c.if-is_writer.false) refl in
+    part-refused (setting g) next s c.args.passes.now.of_blocks.items i c.requires
+    c.try_clone.new.passes.of_blocks.items part.Whole for refl c.in-Err.e
+    c.in-Err.ensures.refused
 
-pub returns-then-not-has_room-clause-answer : goal.returns-then-not-has_room-clause-answer
-returns-then-not-has_room-clause-answer g c i =
-    part-alloc (setting g) c.args.next c.args.self.now c.args.passes.now.of_blocks.items i
-    part.Whole
-    (ap (λ r. is_part_of r part.Whole) c.requires.reads) refl
+pub returns-then-not-has_room-clause-refused : goal.returns-then-not-has_room-clause-refused
+returns-then-not-has_room-clause-refused g c next i =
+    let s = c.args.self.now in
+    let for = unwritten-has s.role part.Whole c.known_role.ensures
+    (sym c.is_writer.ensures ∙ c.if-is_writer.false) refl in
+    part-alloc (setting g) next s c.args.passes.now.of_blocks.items i part.Whole for refl

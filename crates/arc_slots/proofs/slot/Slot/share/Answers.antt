@@ -1,7 +1,7 @@
 use Rattle.arc_block.specs.LayoutFacts.{layout_facts}
 use Rattle.std.specs.Mem.{type_size}
 use Rattle.arc_commands.specs.Changes.{Setting, setting_of}
-use Rattle.std.proofs.Common.{Some, None, ap, subst, sym, ◌∙◌}
+use Rattle.std.proofs.Common.{Some, None, subst, sym, ◌∙◌}
 use Rattle.arc_commands.specs.declared.command.Cmd.TheVariants as command
 use Rattle.arc_commands.specs.declared.command.Reply.TheVariants as reply
 use Rattle.arc_slots.specs.Answers.{Answers}

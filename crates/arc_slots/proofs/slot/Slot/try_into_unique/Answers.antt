@@ -1,12 +1,11 @@
 -- What asking adds to the pass that was lent for it, it adds to the passes.
-use Rattle.std.proofs.Common.{◌≡◌, true, false, Some, sym, ap, subst, ◌∙◌}
+use Rattle.std.proofs.Common.{true, false, Some, sym, ap, subst, ◌∙◌}
 use Rattle.arc_slots.specs.Several.{AsksAt}
 use Rattle.arc_slots.specs.Slots.{SlotView, row_of, stand_of}
 use Rattle.arc_slots.specs.Stands.{stand_at}
 use Rattle.arc_slots.proofs.FilledBeside.{asked-at, beside-fits, beside-has, beside-left}
 use Rattle.arc_slots.proofs.FilledBeside.{beside-pass, beside-seen}
 use Rattle.arc_slots.proofs.Shared.{unique-row}
-use Rattle.arc_slots.proofs.slot.Slot.try_into_unique.Given.{Over}
 use Rattle.arc_slots.proofs.slot.Slot.try_into_unique.Goals as goal
 
 pub try_into_unique_as-made-requires : goal.try_into_unique_as-made-requires

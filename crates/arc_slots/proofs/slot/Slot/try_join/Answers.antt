@@ -1,6 +1,6 @@
 -- Two windows are joined where their rows are, and the end of the other goes through the pass that
 -- was lent for this one.
-use Rattle.std.proofs.Common.{◌≡◌, ◌∙◌}
+use Rattle.std.proofs.Common.{◌∙◌}
 use Rattle.arc_slots.proofs.FilledBeside.{beside-left}
 use Rattle.arc_slots.proofs.Taken.{back-same}
 use Rattle.arc_slots.proofs.slot.Slot.try_join.Goals as goal

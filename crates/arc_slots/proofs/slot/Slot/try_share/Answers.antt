@@ -2,8 +2,7 @@
 use Rattle.std.proofs.Common.{◌≡◌, Option, true, sym, ap, ◌∙◌, subst}
 use Rattle.std.specs.Prelude.{IfNone}
 use Rattle.arc_parts.specs.Window.{IsOfBuffer, PartsView}
-use Rattle.arc_slots.specs.Slots.{SlotView, row_of, stand_of, writer_slot}
-use Rattle.arc_slots.specs.Stands.{is_numbered}
+use Rattle.arc_slots.specs.Slots.{row_of}
 use Rattle.arc_slots.proofs.Filled.{writes-fits, writes-view}
 use Rattle.arc_slots.proofs.Shared.{may-not-share, may-share, shared-row}
 use Rattle.arc_slots.proofs.slot.Slot.try_share.Goals as goal

@@ -6,7 +6,7 @@ use Rattle.arc_buffer.proofs.Sub.{length-sub}
 use Rattle.arc_block.specs.Place.{part_place}
 use Rattle.arc_commands.specs.Changes.{part_of}
 use Rattle.arc_slots.specs.Calls.{Beside, RefusesAt}
-use Rattle.arc_slots.specs.Slots.{SlotView, row_of, stand_of, window_in, role_in}
+use Rattle.arc_slots.specs.Slots.{SlotView, as_held, row_of, stand_of, window_in}
 use Rattle.arc_slots.specs.Stands.{HasPassFor, is_numbered, numbered, stand_at, put_back}
 use Rattle.arc_slots.proofs.Slots.{still-number, shares-part, refuses-part, part-fits}
 use Rattle.arc_slots.proofs.Slots.{part_at, part-numbered, shares-numbered, same-row}
@@ -22,11 +22,11 @@ give_back-requires g c =
     still-number passes c.lend-pass.new.self.of_blocks.items c.lend-pass.result
     b w.place c.self.invariant.0 has c.lend-pass.ensures.taken
 
-pub invariant_of-result : goal.invariant_of-result
-invariant_of-result g c =
+pub read_only-requires : goal.read_only-requires
+read_only-requires g c =
     let b = c.self.inside.block in
     let w = window_in g.S.Small.SmallOf.seen c.self.inside.window in
-    let made = window_in g.S.Small.SmallOf.seen c.in-Ok.window in
+    let made = window_in g.S.Small.SmallOf.seen (as_held c.in-Ok.window) in
     let start = c.args.start in
     let end = c.args.end in
     let nothing = g.L.Layout.STATIC && (length (sub w.items start end) == 0) in
@@ -37,14 +37,10 @@ invariant_of-result g c =
     c.requires.range.within in
     let block : c.part_block.result ≡ (if nothing then None else b) =
     c.part_block.ensures
-    ∙ ap (λ n. if g.L.Layout.STATIC && (n == 0) then None else b) (sym long) in (
-      ap (λ o. is_numbered o made.place) block
-          ∙ part-fits c.lend-pass.result c.cut_window-made.new.pass nothing start b w.place
-          made.place
-          c.self.invariant.0 c.in-Ok.ensures.place,
-      c.in-Ok.ensures.fits,
-      c.in-Ok.ensures.shared,
-    )
+    ∙ ap (λ n. if g.L.Layout.STATIC && (n == 0) then None else b) (sym long) in
+    ap (λ o. is_numbered o made.place) block
+    ∙ part-fits c.lend-pass.result c.cut_window-made.new.pass nothing start b w.place made.place
+    c.self.invariant.0 c.in-Ok.ensures.place
 
 pub returns-in-Err-clause-refused : goal.returns-in-Err-clause-refused
 returns-in-Err-clause-refused g c =
@@ -73,7 +69,7 @@ pub returns-in-Ok-clause-stand : goal.returns-in-Ok-clause-stand
 returns-in-Ok-clause-stand g c =
     let b = c.self.inside.block in
     let w = window_in g.S.Small.SmallOf.seen c.self.inside.window in
-    let made = window_in g.S.Small.SmallOf.seen c.in-Ok.window in
+    let made = window_in g.S.Small.SmallOf.seen (as_held c.in-Ok.window) in
     let start = c.args.start in
     let end = c.args.end in
     let nothing = g.L.Layout.STATIC && (length (sub w.items start end) == 0) in
@@ -92,19 +88,22 @@ returns-in-Ok-clause-stand g c =
     subst (λ s. HasPassFor passes (stand_of (Some s))) (sym c.self.view_is) c.requires.pass in
     subst (λ (s : SlotView g.row.S-Item.Denot g.row.M.Denot).
     Beside (stand_at s.block s.window.place) passes c.give_back.new.self.of_blocks.items
-    (stand_at c.part_block.result made.place)) c.self.view_is
+    (stand_of (Some c.read_only.result))) c.self.view_is
+    (subst (λ (x : SlotView g.row.S-Item.Denot g.row.M.Denot).
+    Beside (stand_at b w.place) passes c.give_back.new.self.of_blocks.items (stand_of (Some x)))
+    (sym c.read_only.ensures)
     (subst (λ ps. Beside (stand_at b w.place) passes ps (stand_at c.part_block.result made.place))
     (sym c.give_back.ensures)
     (subst (λ o. Beside (stand_at b w.place) passes (put_back left b new) (stand_at o made.place))
     (sym block)
     (shares-part passes left c.lend-pass.result new nothing start b w.place made.place
-    c.self.invariant.0 has c.lend-pass.ensures.taken c.in-Ok.ensures.place)))
+    c.self.invariant.0 has c.lend-pass.ensures.taken c.in-Ok.ensures.place))))
 
 pub returns-in-Ok-clause-row : goal.returns-in-Ok-clause-row
 returns-in-Ok-clause-row g c =
     let b = c.self.inside.block in
     let w = window_in g.S.Small.SmallOf.seen c.self.inside.window in
-    let made = window_in g.S.Small.SmallOf.seen c.in-Ok.window in
+    let made = window_in g.S.Small.SmallOf.seen (as_held c.in-Ok.window) in
     let start = c.args.start in
     let end = c.args.end in
     let nothing = g.L.Layout.STATIC && (length (sub w.items start end) == 0) in
@@ -116,13 +115,12 @@ returns-in-Ok-clause-row g c =
     let block : c.part_block.result ≡ (if nothing then None else b) =
     c.part_block.ensures
     ∙ ap (λ n. if g.L.Layout.STATIC && (n == 0) then None else b) (sym long) in
-    let one : SlotView g.row.S-Item.Denot g.row.M.Denot =
-    record { window = made; role = role_in c.in-Ok.window; block = c.part_block.result } in
     let there =
     ap (λ o. numbered o made.place) block
     ∙ shares-numbered c.lend-pass.result c.cut_window-made.new.pass (if nothing then None else b)
     (part_at nothing start w.place) made.place c.in-Ok.ensures.place
     ∙ part-numbered nothing start b w.place in
     subst (λ (s : SlotView g.row.S-Item.Denot g.row.M.Denot).
-    row_of one ≡ part_of g.L.Layout.STATIC (row_of s) start end) c.self.view_is
-    (same-row c.in-Ok.ensures.items there c.in-Ok.ensures.role)
+    row_of c.read_only.result ≡ part_of g.L.Layout.STATIC (row_of s) start end) c.self.view_is
+    (ap row_of c.read_only.ensures
+    ∙ same-row c.in-Ok.ensures.items there c.in-Ok.ensures.role)

@@ -1,5 +1,5 @@
 -- What is taken out by the pass that was lent for it is taken out of the table.
-use Rattle.std.proofs.Common.{◌≡◌, true, sym, ◌∙◌}
+use Rattle.std.proofs.Common.{◌≡◌, true}
 use Rattle.arc_parts.specs.Window.{window_of}
 use Rattle.arc_slots.specs.Slots.{SlotView}
 use Rattle.arc_slots.specs.Stands.{is_numbered}

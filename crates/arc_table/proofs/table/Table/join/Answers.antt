@@ -2,7 +2,7 @@
 -- is settled.
 use Rattle.arc_block.specs.LayoutFacts.{layout_facts}
 use Rattle.std.specs.Mem.{type_size}
-use Rattle.std.proofs.Common.{◌≡◌, ◌<◌, ℕ, Bool, true, false, ◌==◌, List, Option, None, Some}
+use Rattle.std.proofs.Common.{◌≡◌, ◌<◌, ℕ, true, false, ◌==◌, List, Option, Some}
 use Rattle.std.proofs.Common.{is_some, length, slice_index_or}
 use Rattle.std.proofs.Common.{slice_get, slice_set, inl, inr, sym, ap, ◌∙◌, subst, arith}
 use Rattle.std.proofs.lemmas.List.{length-set}

@@ -1,4 +1,5 @@
--- The window under the number is answered, and what it made is put behind the others.
+-- The window under the number is answered, and what it made, if it made one, is put behind the
+-- others.
 use Rattle.arc_block.specs.LayoutFacts.{layout_facts}
 use Rattle.std.specs.Mem.{type_size}
 use Rattle.arc_commands.specs.State.{State}
@@ -6,20 +7,19 @@ use Rattle.arc_commands.specs.Changes.{Setting, setting_of}
 use Rattle.arc_slots.specs.Index.{windows_of}
 use Rattle.arc_slots.specs.Slots.{state_of}
 use Rattle.arc_table.proofs.Done.{Done}
-use Rattle.std.proofs.Common.{length, slice_get, slice_set, sym, ap, ◌∙◌, subst}
+use Rattle.std.proofs.Common.{None, Some, length, slice_get, slice_set, refl, sym, ap, ◌∙◌}
+use Rattle.std.proofs.Common.{subst}
 use Rattle.std.proofs.Common.{arith}
-use Rattle.std.specs.Prelude.{IfSome}
 use Rattle.std.specs.Option.{option_flatten}
 use Rattle.std.proofs.lemmas.List.{length-set}
 use Rattle.arc_commands.specs.Seen.{map_command, seen_reply}
 use Rattle.arc_commands.specs.declared.command.Reply.TheVariants as reply
-use Rattle.arc_slots.specs.Answers.{Answers}
 use Rattle.arc_slots.specs.Slots.{with_slot}
 use Rattle.arc_slots.proofs.Index.{many-windows, same-indexed, same-parts, set-indexed, set-window}
 use Rattle.arc_slots.proofs.Index.{window-there}
-use Rattle.arc_table.proofs.Stepped.{at-place, carried, known, unanswered}
+use Rattle.arc_table.proofs.Stepped.{at-next, at-place, carried, known, unanswered}
 use Rattle.arc_table.proofs.table.Table.on_window.Given.{Over}
-use Rattle.arc_table.proofs.table.Table.on_window.Goals.{After-settle, In_default}
+use Rattle.arc_table.proofs.table.Table.on_window.Goals.{After-push_made, After-settle, In_default}
 use Rattle.arc_table.proofs.table.Table.on_window.Goals as goal
 
 abbrev setting : (g : Over) → Setting g.row.S-Item.Denot
@@ -36,14 +36,14 @@ place_of-requires g c =
     same-indexed mid.index.items s.index.items mid.numbers.items s.numbers.items mid.places.items
     s.places.items kept.index kept.numbers kept.places c.self.invariant.1
 
-did : (g : Over) (c : After-settle g)
+-- it made one
+made : (g : Over) (c : After-push_made g)
     → Done (setting g) c.args.self.now
     (map_command g.S.Commands.items_in g.S.Commands.static_in g.B.Buffer.list c.args.command)
-    (seen_reply g.S.Commands.items_in g.S.Commands.items_in_box
-    g.B.Buffer.list c.answer-reply.result.0) (windows_of c.settle.new.self.index.items
-    c.settle.new.self.numbers.items c.settle.new.self.places.items)
-    c.answer-reply.new.passes.of_blocks.items
-did g c =
+    (reply.New c.len-next.result) (windows_of c.push_made.new.self.index.items
+    c.push_made.new.self.numbers.items c.push_made.new.self.places.items)
+    c.answer.new.passes.of_blocks.items
+made g c =
     let s = c.self.inside.slots in
     let mid = c.room_if-has_room.new.self in
     let kept = c.room_if-has_room.ensures in
@@ -61,42 +61,89 @@ did g c =
     let slots = windows_of s.index.items s.numbers.items s.places.items in
     let passes = c.self.inside.passes.of_blocks.items in
     let i = c.args.i in
-    let after = c.answer-reply.new.passes.of_blocks.items in
+    let after = c.answer.new.passes.of_blocks.items in
     let command = map_command g.S.Commands.items_in g.S.Commands.static_in g.B.Buffer.list
     c.args.command in
-    let reply = seen_reply g.S.Commands.items_in g.S.Commands.items_in_box g.B.Buffer.list
-    c.answer-reply.result.0 in
-    let new = c.answer-reply.new.place in
-    let made = c.answer-reply.result.1 in
-    let put = c.push_made.new.self in
-    let end = c.settle.new.self in
+    let new = c.answer.new.place in
+    let window = c.in-Ok.window in
+    let end = c.push_made.new.self in
     let next =
     c.len-next.ensures ∙ mid.index.ok.0 ∙ ap length c.room_if-has_room.ensures.index
     ∙ sym (many-windows s.index.items s.numbers.items s.places.items) in
     let ends =
-    same-parts end.index.items put.index.items end.numbers.items put.numbers.items
-    end.places.items put.places.items c.settle.ensures.index c.settle.ensures.numbers
-    c.settle.ensures.places
-    ∙ c.push_made.ensures.windows
-    ∙ ap (λ ws. with_slot ws made) (set-window mid.index.items mid.numbers.items mid.places.items i
-    c.in-Some.place c.in-Some.ensures.told c.in-Some.ensures.whose old stands new)
-    ∙ ap (λ ws. with_slot (slice_set ws i new) made) same in
-    subst (λ (o : State g.row.S-Item.Denot g.row.M.Denot). Done (setting g) o command reply
+    c.push_made.ensures.windows
+    ∙ ap (λ ws. with_slot ws (Some window)) (set-window mid.index.items mid.numbers.items
+    mid.places.items i c.in-Some.place c.in-Some.ensures.told c.in-Some.ensures.whose old stands
+    new)
+    ∙ ap (λ ws. with_slot (slice_set ws i new) (Some window)) same in
+    subst (λ (o : State g.row.S-Item.Denot g.row.M.Denot). Done (setting g) o command
+    (reply.New c.len-next.result)
     (windows_of end.index.items end.numbers.items end.places.items) after) c.self.view_is
-    (subst (λ ss. Done (setting g) (state_of slots passes) command reply ss after) (sym ends)
+    (subst (λ ss. Done (setting g) (state_of slots passes) command (reply.New c.len-next.result) ss
+    after) (sym ends)
+    (subst (λ n. Done (setting g) (state_of slots passes) command (reply.New n)
+    (with_slot (slice_set slots i new) (Some window)) after) (sym next)
     (carried (setting g) slots passes c.self.invariant.0 i old stood command c.requires.on
-    c.requires.one reply new made after
-    (subst (λ n. IfSome old (λ s. Answers (setting g) n command s passes reply new made after))
-    next c.answer-reply.ensures.there)
-    (λ none. let so = c.answer-reply.ensures.none none in (
-      ap (seen_reply g.S.Commands.items_in g.S.Commands.items_in_box g.B.Buffer.list) so.0,
+    c.requires.one (reply.New (length slots)) new (Some window) after
+    (at-next _ old (length slots) c.in-Ok.ensures.made)
+    (λ none. absurd (cc (c.in-Ok.is, (c.answer.ensures.none none).0))))))
+
+-- it made none
+told : (g : Over) (c : After-settle g)
+    → Done (setting g) c.args.self.now
+    (map_command g.S.Commands.items_in g.S.Commands.static_in g.B.Buffer.list c.args.command)
+    (seen_reply g.S.Commands.items_in g.S.Commands.items_in_box
+    g.B.Buffer.list c.in-Err.reply) (windows_of c.settle.new.self.index.items
+    c.settle.new.self.numbers.items c.settle.new.self.places.items)
+    c.answer.new.passes.of_blocks.items
+told g c =
+    let s = c.self.inside.slots in
+    let mid = c.room_if-has_room.new.self in
+    let kept = c.room_if-has_room.ensures in
+    let old = c.index_mut-slot.result.now in
+    let stands =
+    at-place mid.places.items c.in-Some.place old c.in-Some.ensures.within
+    c.index_mut-slot.ensures.value in
+    let same =
+    same-parts mid.index.items s.index.items mid.numbers.items s.numbers.items mid.places.items
+    s.places.items kept.index kept.numbers kept.places in
+    let stood =
+    ap (λ ws. slice_get ws c.args.i) (sym same)
+    ∙ window-there mid.index.items mid.numbers.items mid.places.items c.args.i c.in-Some.place
+    c.in-Some.ensures.told c.in-Some.ensures.whose old stands in
+    let slots = windows_of s.index.items s.numbers.items s.places.items in
+    let passes = c.self.inside.passes.of_blocks.items in
+    let i = c.args.i in
+    let after = c.answer.new.passes.of_blocks.items in
+    let command = map_command g.S.Commands.items_in g.S.Commands.static_in g.B.Buffer.list
+    c.args.command in
+    let new = c.answer.new.place in
+    let said = seen_reply g.S.Commands.items_in g.S.Commands.items_in_box g.B.Buffer.list
+    c.in-Err.reply in
+    let end = c.settle.new.self in
+    let put = slice_set mid.places.items c.in-Some.place new in
+    let ends =
+    same-parts end.index.items mid.index.items end.numbers.items mid.numbers.items
+    end.places.items put c.settle.ensures.index c.settle.ensures.numbers
+    c.settle.ensures.places
+    ∙ set-window mid.index.items mid.numbers.items mid.places.items i c.in-Some.place
+    c.in-Some.ensures.told c.in-Some.ensures.whose old stands new
+    ∙ ap (λ ws. slice_set ws i new) same in
+    subst (λ (o : State g.row.S-Item.Denot g.row.M.Denot). Done (setting g) o command said
+    (windows_of end.index.items end.numbers.items end.places.items) after) c.self.view_is
+    (subst (λ ss. Done (setting g) (state_of slots passes) command said ss after) (sym ends)
+    (carried (setting g) slots passes c.self.invariant.0 i old stood command c.requires.on
+    c.requires.one said new None after (at-next _ old (length slots) c.in-Err.ensures.told)
+    (λ none. let so = c.answer.ensures.none none in (
+      ap (seen_reply g.S.Commands.items_in g.S.Commands.items_in_box g.B.Buffer.list)
+          {y = reply.NoWindow} (cc (c.in-Err.is, so.0)),
+      refl,
       so.1,
       so.2,
-      so.3,
     ))))
 
-pub answer-reply-requires-clause-pass : goal.answer-reply-requires-clause-pass
-answer-reply-requires-clause-pass g c =
+pub answer-requires-clause-pass : goal.answer-requires-clause-pass
+answer-requires-clause-pass g c =
     let s = c.self.inside.slots in
     let mid = c.room_if-has_room.new.self in
     let kept = c.room_if-has_room.ensures in
@@ -124,43 +171,69 @@ push_made-requires-clause-indexed g c =
     at-place mid.places.items c.in-Some.place old c.in-Some.ensures.within
     c.index_mut-slot.ensures.value in
     set-indexed mid.index.items mid.numbers.items mid.places.items c.args.i c.in-Some.place
-    c.in-Some.ensures.told c.in-Some.ensures.whose old stands c.answer-reply.new.place
+    c.in-Some.ensures.told c.in-Some.ensures.whose old stands c.answer.new.place
     (same-indexed mid.index.items s.index.items mid.numbers.items s.numbers.items mid.places.items
     s.places.items kept.index kept.numbers kept.places c.self.invariant.1)
 
 pub push_made-requires-clause-room : goal.push_made-requires-clause-room
 push_made-requires-clause-room g c some =
-    c.room_if-has_room.ensures.room (c.answer-reply.ensures.room some)
+    c.room_if-has_room.ensures.room (c.in-Ok.ensures.room refl)
 
 pub push_made-requires-clause-more : goal.push_made-requires-clause-more
 push_made-requires-clause-more g c some =
-    c.room_if-has_room.ensures.more (c.answer-reply.ensures.room some)
+    c.room_if-has_room.ensures.more (c.in-Ok.ensures.room refl)
 
 pub push_made-requires-clause-further : goal.push_made-requires-clause-further
 push_made-requires-clause-further g c some =
-    let room = c.room_if-has_room.ensures.further (c.answer-reply.ensures.room some) in
+    let room = c.room_if-has_room.ensures.further (c.in-Ok.ensures.room refl) in
     omega (
       arith,
       room,
-      length-set c.room_if-has_room.new.self.places.items c.in-Some.place
-          c.answer-reply.new.place,
+      length-set c.room_if-has_room.new.self.places.items c.in-Some.place c.answer.new.place,
     )
 
-pub invariant_of-self-2 : goal.invariant_of-self-2
-invariant_of-self-2 g c =
-    let put = c.push_made.new.self in
+pub invariant_of-self-in-Ok : goal.invariant_of-self-in-Ok
+invariant_of-self-in-Ok g c = (
+  (made g (goal.at.invariant_of-self-in-Ok g c).After-push_made).kept,
+  c.push_made.ensures.indexed,
+)
+
+pub invariant_of-self-in-Err : goal.invariant_of-self-in-Err
+invariant_of-self-in-Err g c =
+    let s = c.self.inside.slots in
+    let mid = c.room_if-has_room.new.self in
+    let kept = c.room_if-has_room.ensures in
+    let old = c.index_mut-slot.result.now in
+    let stands =
+    at-place mid.places.items c.in-Some.place old c.in-Some.ensures.within
+    c.index_mut-slot.ensures.value in
     let end = c.settle.new.self in (
-      (did g (goal.at.invariant_of-self-2 g c).After-settle).kept,
-      same-indexed end.index.items put.index.items end.numbers.items put.numbers.items
-          end.places.items put.places.items c.settle.ensures.index c.settle.ensures.numbers
-          c.settle.ensures.places c.push_made.ensures.indexed,
+      (told g (goal.at.invariant_of-self-in-Err g c).After-settle).kept,
+      same-indexed end.index.items mid.index.items end.numbers.items mid.numbers.items
+          end.places.items (slice_set mid.places.items c.in-Some.place c.answer.new.place)
+          c.settle.ensures.index c.settle.ensures.numbers c.settle.ensures.places
+          (set-indexed mid.index.items mid.numbers.items mid.places.items c.args.i c.in-Some.place
+          c.in-Some.ensures.told c.in-Some.ensures.whose old stands c.answer.new.place
+          (same-indexed mid.index.items s.index.items mid.numbers.items s.numbers.items
+          mid.places.items s.places.items kept.index kept.numbers kept.places
+          c.self.invariant.1)),
     )
 
-pub returns-clause-rows : goal.returns-clause-rows
-returns-clause-rows g c = (did g (goal.at.returns-clause-rows g c).After-settle).rows
+pub returns-in-Ok-clause-rows : goal.returns-in-Ok-clause-rows
+returns-in-Ok-clause-rows g c =
+    (made g (goal.at.returns-in-Ok-clause-rows g c).After-push_made).rows
 
-pub returns-clause-passes : goal.returns-clause-passes
-returns-clause-passes g c = (did g (goal.at.returns-clause-passes g c).After-settle).passes_are
+pub returns-in-Ok-clause-passes : goal.returns-in-Ok-clause-passes
+returns-in-Ok-clause-passes g c =
+    (made g (goal.at.returns-in-Ok-clause-passes g c).After-push_made).passes_are
+
+pub returns-in-Err-clause-rows : goal.returns-in-Err-clause-rows
+returns-in-Err-clause-rows g c =
+    (told g (goal.at.returns-in-Err-clause-rows g c).After-settle).rows
+
+pub returns-in-Err-clause-passes : goal.returns-in-Err-clause-passes
+returns-in-Err-clause-passes g c =
+    (told g (goal.at.returns-in-Err-clause-passes g c).After-settle).passes_are
 
 -- no window has the number
 none : (g : Over) (c : In_default g)

@@ -1,7 +1,7 @@
 use Rattle.std.proofs.Common.{◌∙◌, arith, sym}
 use Rattle.std.proofs.lemmas.Bool.{both_ways}
 use Rattle.arc_forms.proofs.Words.{byte_of_digits, byte_refused, two_digits}
-use Rattle.arc_forms.proofs.parse.byte_in.Goals as goal
+use Rattle.arc_forms.proofs.hex.byte_in.Goals as goal
 
 pub returns-then-not-are_digits : goal.returns-then-not-are_digits
 returns-then-not-are_digits c =

@@ -1,6 +1,6 @@
 use Rattle.std.proofs.Common.{arith}
 use Rattle.arc_forms.proofs.Words.{two_digits, one_item_more, TwoDigits}
-use Rattle.arc_forms.proofs.parse.decoded.Goals as goal
+use Rattle.arc_forms.proofs.hex.decoded.Goals as goal
 
 pub value_of-requires : goal.value_of-requires
 value_of-requires g c =

@@ -1,7 +1,7 @@
 use Rattle.std.proofs.Common.{◌≡◌, take}
 use Rattle.std.specs.List.{list_all}
 use Rattle.arc_forms.specs.Reading.{is_hex_digit}
-use Rattle.arc_forms.proofs.parse.are_digits.Given as goal
+use Rattle.arc_forms.proofs.hex.are_digits.Given as goal
 
 abbrev pub invariant-loop-byte : goal.invariant-loop-byte
 invariant-loop-byte l = l.all ≡ list_all is_hex_digit (take l.byte-index l.word)

@@ -2,7 +2,7 @@ use Rattle.std.proofs.Common.{◌≡◌, ◌++◌, ◌+◌, ◌/◌, ◌≤◌, 
 use Rattle.std.specs.List.{list_all}
 use Rattle.std.specs.Vec.{vec_len, vec_capacity}
 use Rattle.arc_forms.specs.Reading.{is_hex_digit, pairs}
-use Rattle.arc_forms.proofs.parse.decoded.Given as goal
+use Rattle.arc_forms.proofs.hex.decoded.Given as goal
 
 abbrev pub invariant-loop-rest : goal.invariant-loop-rest
 invariant-loop-rest g l = record {

@@ -1,0 +1,166 @@
+//! Clones, ranges and parts of a slot's window, as they are handed out.
+ghost use Rattle.std.specs.Mem.{type_size};
+ghost use Rattle.arc_block.specs.LayoutFacts.{layout_facts};
+
+use crate::kinds::{CallsOf, Commands, SmallOf, TableKind, TableReply};
+use crate::part::Part;
+use crate::passes::Passes;
+use crate::slot::Slot;
+use arc_block::layout::{Layout, LayoutMut};
+use arc_buffer::buffer::BufferMut;
+use arc_buffer::kinds::Slice;
+use arc_commands::command::Reply;
+use std::alloc::Allocator;
+use std::sync::Wait;
+
+impl<S: Commands<A>, L: Layout, B: BufferMut<S::Item> + Drop, M: Drop, A: Allocator + Copy> Slot<
+    S,
+    L,
+    B,
+    M,
+    A,
+>
+where
+    L::Writable: LayoutMut,
+    S::Small: SmallOf<S, L, B, M, A>,
+{
+    ghost use Rattle.std.specs.Prelude.{◌≡◌, ℕ, None, Some, true, IfErr, IfOk, IsOk};
+    ghost use Rattle.arc_commands.specs.Changes.{setting_of};
+    ghost use Rattle.arc_commands.specs.Seen.{seen_reply};
+    ghost use Rattle.arc_commands.specs.declared.command.Cmd.TheVariants as command;
+    ghost use Rattle.arc_commands.specs.declared.command.Reply.TheVariants as reply;
+    ghost use Rattle.arc_slots.specs.Answers.{Answers};
+    ghost use Rattle.arc_slots.specs.Parts.{part_command};
+    ghost use Rattle.arc_slots.specs.Slots.{stand_of};
+    ghost use Rattle.arc_slots.specs.Stands.{HasPassFor};
+
+    /// Hands out a clone of the window, if that isn't written and there is room for it. As each way
+    /// to hand out it is a call of its own, so that no place is cleared for what another would hand
+    /// out.
+    ///
+    /// # Errors
+    ///
+    /// What the command is answered instead.
+    #[inline(never)]
+    pub(crate) fn hand_out_clone(
+        &self,
+        rt: &impl Wait,
+        has_room: bool,
+        passes: &mut Passes<A>,
+    ) -> Result<Self, TableReply<S, B, M, A>>
+        requires { HasPassFor passes.old.of_blocks.items (stand_of (Some self.now)) }
+        ensures made { IfOk result (λ made. (next i : ℕ) → Answers
+            (setting_of (layout_facts L.Layout) L.Writable.ANY L.clone_wants S.DROPS S.boundary
+            (type_size S.Item.row) S.Zero.zero S.Calls.calls) next (command.Clone i)
+            self.now passes.old.of_blocks.items (reply.New next)
+            (Some self.now) (Some made) passes.new.of_blocks.items) }
+        ensures refused { IfErr result (λ r. (next i : ℕ) → Answers
+            (setting_of (layout_facts L.Layout) L.Writable.ANY L.clone_wants S.DROPS S.boundary
+            (type_size S.Item.row) S.Zero.zero S.Calls.calls) next (command.Clone i)
+            self.now passes.old.of_blocks.items (seen_reply S.items_in S.items_in_box B.list r)
+            (Some self.now) None passes.new.of_blocks.items) }
+        ensures room { IsOk result → has_room ≡ true }
+    {
+        self.known_role();
+        if self.is_writer() {
+            return Err(Reply::Kind);
+        }
+        if !has_room {
+            return Err(Reply::Alloc);
+        }
+        match self.try_clone(rt, passes) {
+            Ok(slot) => Ok(slot),
+            Err(e) => Err(Reply::Owner(e)),
+        }
+    }
+
+    /// Hands out the items from `start` to `end` of the window, if that isn't written and has them,
+    /// and there is room.
+    ///
+    /// # Errors
+    ///
+    /// What the command is answered instead.
+    #[inline(never)]
+    pub(crate) fn hand_out_range(
+        &self,
+        rt: &impl Wait,
+        start: usize,
+        end: usize,
+        has_room: bool,
+        passes: &mut Passes<A>,
+    ) -> Result<Self, TableReply<S, B, M, A>>
+        requires { HasPassFor passes.old.of_blocks.items (stand_of (Some self.now)) }
+        ensures made { IfOk result (λ made. (next i : ℕ) → Answers
+            (setting_of (layout_facts L.Layout) L.Writable.ANY L.clone_wants S.DROPS S.boundary
+            (type_size S.Item.row) S.Zero.zero S.Calls.calls) next (command.Sub i start end)
+            self.now passes.old.of_blocks.items (reply.New next)
+            (Some self.now) (Some made) passes.new.of_blocks.items) }
+        ensures refused { IfErr result (λ r. (next i : ℕ) → Answers
+            (setting_of (layout_facts L.Layout) L.Writable.ANY L.clone_wants S.DROPS S.boundary
+            (type_size S.Item.row) S.Zero.zero S.Calls.calls) next (command.Sub i start end)
+            self.now passes.old.of_blocks.items (seen_reply S.items_in S.items_in_box B.list r)
+            (Some self.now) None passes.new.of_blocks.items) }
+        ensures room { IsOk result → has_room ≡ true }
+    {
+        self.known_role();
+        if self.is_writer() {
+            return Err(Reply::Kind);
+        }
+        if let Err(e) = self.check_range(start, end) {
+            return Err(Reply::Range(e));
+        }
+        if !has_room {
+            return Err(Reply::Alloc);
+        }
+        match self.try_subslice(rt, start, end, passes) {
+            Ok(slot) => Ok(slot),
+            Err(e) => Err(Reply::Owner(e)),
+        }
+    }
+
+    /// Hands out any part of the window, if it has that and there is room: the places of one of
+    /// several writers are split.
+    ///
+    /// # Errors
+    ///
+    /// What the command is answered instead.
+    #[inline(never)]
+    pub(crate) fn hand_out_split(
+        &mut self,
+        rt: &impl Wait,
+        part: Part,
+        has_room: bool,
+        passes: &mut Passes<A>,
+    ) -> Result<Self, TableReply<S, B, M, A>>
+        requires { HasPassFor passes.old.of_blocks.items (stand_of (Some self.old)) }
+        ensures made { IfOk result (λ made. (next i : ℕ) → Answers
+            (setting_of (layout_facts L.Layout) L.Writable.ANY L.clone_wants S.DROPS S.boundary
+            (type_size S.Item.row) S.Zero.zero S.Calls.calls) next (part_command i part)
+            self.old passes.old.of_blocks.items (reply.New next)
+            (Some self.new) (Some made) passes.new.of_blocks.items) }
+        ensures refused { IfErr result (λ r. (next i : ℕ) → Answers
+            (setting_of (layout_facts L.Layout) L.Writable.ANY L.clone_wants S.DROPS S.boundary
+            (type_size S.Item.row) S.Zero.zero S.Calls.calls) next (part_command i part)
+            self.old passes.old.of_blocks.items (seen_reply S.items_in S.items_in_box B.list r)
+            (Some self.new) None passes.new.of_blocks.items) }
+        ensures room { IsOk result → has_room ≡ true }
+    {
+        self.known_role();
+        if self.is_several() {
+            return self.hand_out_places(rt, part, has_room, passes);
+        }
+        if !self.has_part(part) {
+            return Err(Reply::Kind);
+        }
+        if let Err(e) = self.check_part(part) {
+            return Err(Reply::Range(e));
+        }
+        if !has_room {
+            return Err(Reply::Alloc);
+        }
+        match self.try_part(rt, part, passes) {
+            Ok(slot) => Ok(slot),
+            Err(e) => Err(Reply::Owner(e)),
+        }
+    }
+}
