@@ -23,4 +23,3 @@ pub mod Asked
 pub mod Reclaimed
 pub mod Roomed
 pub mod Keeps
-pub mod Made

@@ -31,7 +31,8 @@ use Rattle.arc_commands.specs.Several.{is_vector_at as on_vector}
 use Rattle.arc_commands.specs.Changes.{is_vector as is_vector_sort}
 use Rattle.arc_commands.proofs.Roles.{several-with}
 use Rattle.arc_slots.specs.Calls.{AddsNothing, Along, Beside, FindsFullAt, Through}
-use Rattle.arc_slots.specs.Several.{MovesTo, RefusesPlaces, SplitsThere, handed_places, is_any}
+use Rattle.arc_kinds.specs.Passes.{is_any}
+use Rattle.arc_slots.specs.Several.{MovesTo, RefusesPlaces, SplitsThere, handed_places}
 use Rattle.arc_slots.specs.Several.{kept_places}
 use Rattle.arc_slots.proofs.FilledBeside.{beside-fits, beside-view}
 use Rattle.arc_slots.specs.Slots.{AnyWindow, SlotView, held, row_of}

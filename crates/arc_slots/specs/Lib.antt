@@ -7,5 +7,4 @@ pub mod Splits
 pub mod Writing
 pub mod Several
 pub mod Answers
-pub mod Makers
 pub mod Taking

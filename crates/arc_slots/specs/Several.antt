@@ -8,7 +8,6 @@ use Rattle.arc_owners.specs.declared.error.RangeError.{RangeError}
 use Rattle.arc_owners.specs.declared.error.TryReserveError.{TryReserveError}
 use Rattle.arc_owners.specs.declared.error.TryReserveError.TheVariants.{AllocError, NotUnique}
 use Rattle.arc_owners.specs.count.Calls.{Asks, Leaves}
-use Rattle.arc_owners.specs.count.Invariant.{BlockId, Line}
 use Rattle.arc_buffer.specs.Slice.{IsEdge, edge_answer}
 use Rattle.arc_parts.specs.declared.room.Room.{Room}
 use Rattle.arc_parts.specs.declared.room.Room.TheVariants.{Fresh, Growth, Own, Refused}
@@ -62,10 +61,6 @@ HasPlaces boundary items capacity Whole = ⊥
 HasPlaces boundary items capacity (Range start end) = ⊥
 HasPlaces boundary items capacity (Back at) = CanSplit boundary items capacity at
 HasPlaces boundary items capacity (Front at) = IsEdge boundary items at
-
--- whatever a pass may be, where a block has one pass
-abbrev pub is_any : BlockId → ℕ → List Line → Type 0
-is_any block number lines = Unit {0}
 
 module _ {H : Type 0} where
   -- A window that stands here asked whether it is alone, and this was said. On no block nobody is

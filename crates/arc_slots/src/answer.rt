@@ -3,13 +3,13 @@
 ghost use Rattle.std.specs.Mem.{FitsInMemory, type_size};
 ghost use Rattle.arc_block.specs.LayoutFacts.{layout_facts};
 
-use crate::kinds::{CallsOf, Commands, SmallOf, TableKind, TableReply};
 use crate::passes::Passes;
 use crate::slot::{Slot, Writing};
 use arc_block::layout::{Layout, LayoutMut};
 use arc_buffer::buffer::BufferMut;
 use arc_buffer::kinds::Slice;
 use arc_commands::command::Reply;
+use arc_kinds::kinds::{CallsOf, Commands, SmallOf, TableKind, TableReply};
 use arc_owners::error::TryReserveError;
 use std::alloc::Allocator;
 

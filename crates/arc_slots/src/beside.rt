@@ -2,7 +2,6 @@
 ghost use Rattle.std.specs.Mem.{FitsInMemory, type_size};
 ghost use Rattle.arc_block.specs.LayoutFacts.{layout_facts};
 
-use crate::kinds::{CallsOf, Commands, SmallOf, TableReply};
 use crate::part::Part;
 use crate::passes::Passes;
 use crate::slot::{Slot, Writing};
@@ -10,6 +9,7 @@ use arc_block::layout::{Layout, LayoutMut};
 use arc_buffer::buffer::BufferMut;
 use arc_buffer::kinds::Slice;
 use arc_commands::command::Reply;
+use arc_kinds::kinds::{CallsOf, Commands, SmallOf, TableReply};
 use arc_owners::error::{OwnerError, TryReserveError};
 use std::alloc::Allocator;
 use std::sync::Wait;

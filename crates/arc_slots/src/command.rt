@@ -12,8 +12,6 @@ ghost use Rattle.arc_slots.specs.Slots.{stand_of};
 ghost use Rattle.arc_slots.specs.Stands.{HasBlockPass, HasPassFor, LivesOn};
 ghost use Rattle.arc_slots.specs.Taking.{take_command};
 
-use crate::kinds::{Commands, SmallOf, TableCmd, TableKind, TableReply, vec_of};
-use crate::list::set_slot;
 use crate::part::Part;
 use crate::passes::Passes;
 use crate::slot::{Slot, Writing};
@@ -22,6 +20,8 @@ use arc_block::layout::{Layout, LayoutMut};
 use arc_buffer::buffer::BufferMut;
 use arc_buffer::kinds::Slice;
 use arc_commands::command::{Cmd, Given, Reply};
+use arc_kinds::kinds::{Commands, SmallOf, TableCmd, TableKind, TableReply, vec_of};
+use arc_kinds::place::set_slot;
 use std::alloc::Allocator;
 use std::mem;
 use std::sync::Wait;

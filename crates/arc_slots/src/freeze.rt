@@ -11,13 +11,13 @@ ghost use Rattle.arc_slots.specs.Slots.{parts_in, role_in, row_of, stand_of, win
 ghost use Rattle.arc_slots.specs.Stands.{HasPassFor};
 ghost use Rattle.arc_slots.specs.Writing.{FreezesBy, is_new};
 
-use crate::kinds::{SmallOf, TableKind};
 use crate::passes::Passes;
 use crate::slot::Slot;
 use crate::window::{AnyWindow, Held};
 use arc_block::layout::{Layout, LayoutMut};
 use arc_buffer::buffer::BufferMut;
 use arc_buffer::kinds::Slice;
+use arc_kinds::kinds::{SmallOf, TableKind};
 use arc_owners::mark::Whole;
 use arc_owners::owners::Pass;
 use arc_read::slice::ArcSlice;

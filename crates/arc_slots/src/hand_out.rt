@@ -2,7 +2,6 @@
 ghost use Rattle.std.specs.Mem.{type_size};
 ghost use Rattle.arc_block.specs.LayoutFacts.{layout_facts};
 
-use crate::kinds::{CallsOf, Commands, SmallOf, TableKind, TableReply};
 use crate::part::Part;
 use crate::passes::Passes;
 use crate::slot::Slot;
@@ -10,6 +9,7 @@ use arc_block::layout::{Layout, LayoutMut};
 use arc_buffer::buffer::BufferMut;
 use arc_buffer::kinds::Slice;
 use arc_commands::command::Reply;
+use arc_kinds::kinds::{CallsOf, Commands, SmallOf, TableKind, TableReply};
 use std::alloc::Allocator;
 use std::sync::Wait;
 

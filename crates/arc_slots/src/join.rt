@@ -11,8 +11,6 @@ ghost use Rattle.arc_slots.specs.Calls.{Along};
 ghost use Rattle.arc_slots.specs.Slots.{row_of, stand_of};
 ghost use Rattle.arc_slots.specs.Stands.{HasPassFor};
 
-use crate::kinds::{CallsOf, Commands, SmallOf, TableReply};
-use crate::list::set_slot;
 use crate::passes::Passes;
 use crate::slot::Slot;
 use crate::window::Held;
@@ -20,6 +18,8 @@ use arc_block::layout::{Layout, LayoutMut};
 use arc_buffer::buffer::BufferMut;
 use arc_buffer::kinds::Slice;
 use arc_commands::command::Reply;
+use arc_kinds::kinds::{CallsOf, Commands, SmallOf, TableReply};
+use arc_kinds::place::set_slot;
 use std::alloc::Allocator;
 use std::mem;
 

@@ -6,8 +6,8 @@ ghost use Rattle.std.specs.Vec.{vec_capacity};
 ghost use Rattle.arc_slots.specs.Index.{IsIndexed, windows_of};
 ghost use Rattle.arc_slots.specs.Slots.{with_slot};
 
+use arc_kinds::place::set_slot;
 use std::alloc::Allocator;
-use std::mem;
 
 /// Whether there is room for an item more. Takes memory only where the places don't do.
 #[inline(always)]
@@ -214,15 +214,6 @@ impl<X, A: Allocator> Slots<X, A> {
         }
         self.put_behind(window);
     }
-}
-
-/// Puts a slot, if there is one, where there is none.
-pub fn set_slot<X>(place: &mut Option<X>, slot: Option<X>)
-    requires { place.old ≡ None }
-    ensures { place.new ≡ slot }
-{
-    let left = mem::replace(place, slot);
-    let None = left else { unreachable!() };
 }
 
 /// Gives back the memory of places whose windows have all gone.

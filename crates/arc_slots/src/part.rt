@@ -2,13 +2,13 @@
 ghost use Rattle.std.specs.Prelude.{◌≡◌, Bool, true, IsOk};
 ghost use Rattle.arc_slots.specs.Several.{is_split};
 
-use crate::kinds::{SmallOf, TableKind};
 use crate::passes::Passes;
 use crate::slot::Slot;
 use crate::window::Held;
 use arc_block::layout::{Layout, LayoutMut};
 use arc_buffer::buffer::BufferMut;
 use arc_buffer::kinds::Slice;
+use arc_kinds::kinds::{SmallOf, TableKind};
 use arc_owners::error::{OwnerError, RangeError};
 use std::alloc::Allocator;
 use std::sync::Wait;

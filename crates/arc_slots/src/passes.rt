@@ -54,12 +54,7 @@ impl<A: Allocator> Passes<A> {
 
     /// Takes back what was lent for a block; or where a first block was made, keeps its pass under
     /// the next number. Answers the number of the block.
-    pub(crate) fn keep(
-        &mut self,
-        block: Option<usize>,
-        begins: bool,
-        pass: Pass<Whole>,
-    ) -> Option<usize>
+    pub fn keep(&mut self, block: Option<usize>, begins: bool, pass: Pass<Whole>) -> Option<usize>
         requires number { HasNumber self.old.of_blocks.items block }
         requires room { begins ≡ true
             → length self.old.of_blocks.items < vec_capacity self.old.of_blocks }

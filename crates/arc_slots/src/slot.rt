@@ -7,7 +7,6 @@ ghost use Rattle.arc_parts.specs.Writers.{room_for, MakesRoom, Pushes};
 ghost use Rattle.arc_slots.specs.Writing.{IsLegal, can_write, seen_writing, items_of};
 ghost use Rattle.arc_slots.specs.Writing.{additional_of};
 
-use crate::kinds::{CallsOf, Commands, SmallOf, TableKind};
 use crate::passes::Passes;
 use crate::window::{
     AnyWindow, Held, ReadOnly, ReadOnlyWindow, clone_window, cut_window, end_window,
@@ -16,6 +15,7 @@ use arc_block::layout::{Layout, LayoutMut, stands_on_nothing};
 use arc_block::static_slice::StaticSlice;
 use arc_buffer::buffer::BufferMut;
 use arc_buffer::kinds::Slice;
+use arc_kinds::kinds::{CallsOf, Commands, SmallOf, TableKind};
 use arc_owners::error::{OwnerError, RangeError, TryReserveError};
 use arc_owners::mark::Whole;
 use arc_owners::owners::Pass;

@@ -9,7 +9,6 @@ ghost use Rattle.arc_block.specs.Table.{reader};
 ghost use Rattle.arc_commands.specs.Seen.{seen_reply};
 ghost use Rattle.arc_slots.specs.Taking.{CanHave, is_writers, take_reply};
 
-use crate::kinds::{Commands, SmallOf, TableKind, TableReply, box_of, items_of};
 use crate::passes::Passes;
 use crate::slot::Slot;
 use crate::window::Held;
@@ -18,6 +17,7 @@ use arc_block::static_slice::StaticSlice;
 use arc_buffer::buffer::BufferMut;
 use arc_buffer::kinds::Slice;
 use arc_commands::command::Reply;
+use arc_kinds::kinds::{Commands, SmallOf, TableKind, TableReply, box_of, items_of};
 use arc_owners::mark::Whole;
 use arc_owners::owners::Pass;
 use arc_parts::parts::Parts;

@@ -8,10 +8,10 @@ ghost use Rattle.arc_commands.specs.Blocks.{is_writer};
 ghost use Rattle.arc_read.specs.Cuts.{sub_place};
 ghost use Rattle.arc_slots.specs.Slots.{as_held, role_fits, role_in, window_in};
 
-use crate::kinds::{SmallOf, TableKind};
 use arc_block::layout::{Layout, LayoutMut};
 use arc_buffer::buffer::BufferMut;
 use arc_buffer::kinds::Slice;
+use arc_kinds::kinds::{SmallOf, TableKind};
 use arc_owners::error::OwnerError;
 use arc_owners::mark::Whole;
 use arc_owners::owners::Pass;

@@ -33,7 +33,7 @@ use Rattle.arc_commands.specs.Several.{join_answer}
 use Rattle.arc_commands.specs.Step.{answer, answer_on, is_for_both, joined, other_of}
 use Rattle.arc_slots.specs.Answers.{Answers, JoinAnswers, around_in, live_on}
 use Rattle.arc_slots.specs.Calls.{Along}
-use Rattle.arc_slots.specs.Makers.{Makes}
+use Rattle.arc_makers.specs.Makers.{Makes}
 use Rattle.arc_slots.specs.Slots.{IsSlotRole, SlotView, row_of, stand_of, stands_of, state_of}
 use Rattle.arc_slots.specs.Slots.{with_slot}
 use Rattle.arc_slots.proofs.Keeps.{founded-kept, gone-at, known-pass, many-live, row-kept}

@@ -2,7 +2,8 @@
 #![tactic(auto)]
 
 pub use arc_commands::command;
-pub use arc_slots::{kinds, passes};
+pub use arc_kinds::kinds;
+pub use arc_slots::passes;
 
 pub mod laws;
 pub mod table;

@@ -1,6 +1,6 @@
 //! Tests of `arc_read` and `arc_write` which rows can't say: memory that is counted or refused,
 //! items that are dropped, threads, passes, and printed text. All else stands in rows of
-//! `arc_window_rows`.
+//! `arc_window_rows`, and rows whose memory is refused in turn in `arc_refusal_tests`.
 #![tactic(auto)]
 
 #[cfg(test)]
@@ -18,6 +18,8 @@ mod items;
 #[cfg(test)]
 mod layouts;
 #[cfg(test)]
+mod lendings;
+#[cfg(test)]
 mod living;
 #[cfg(test)]
 mod one_piece;
@@ -33,8 +35,6 @@ mod reader_adapters;
 mod readers;
 #[cfg(test)]
 mod refused_buffers;
-#[cfg(test)]
-mod refused_in_turn;
 #[cfg(test)]
 mod seen;
 #[cfg(test)]

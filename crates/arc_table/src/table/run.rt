@@ -7,8 +7,8 @@ ghost use Rattle.std.specs.Vec.{vec_len};
 use super::Table;
 use arc_block::layout::{Layout, LayoutMut};
 use arc_buffer::buffer::BufferMut;
+use arc_kinds::kinds::{Commands, SmallOf, TableCmd, TableReply};
 use arc_owners::error::AllocError;
-use arc_slots::kinds::{Commands, SmallOf, TableCmd, TableReply};
 use std::alloc::Allocator;
 use std::sync::Wait;
 

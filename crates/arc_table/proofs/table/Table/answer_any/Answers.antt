@@ -9,7 +9,7 @@ use Rattle.arc_slots.specs.Slots.{state_of}
 use Rattle.arc_table.proofs.Done.{Done}
 use Rattle.std.proofs.Common.{◌≡◌, None, length, sym, ap, ◌∙◌, subst}
 use Rattle.arc_commands.specs.Seen.{map_command, seen_reply}
-use Rattle.arc_slots.specs.Makers.{Makes}
+use Rattle.arc_makers.specs.Makers.{Makes}
 use Rattle.arc_slots.proofs.Index.{many-windows, same-indexed, same-parts}
 use Rattle.arc_slots.specs.Index.{windows_of}
 use Rattle.arc_slots.specs.Slots.{with_slot}

@@ -1,0 +1,4 @@
+//! The makers of a table: a slot of what a command brings.
+#![tactic(auto)]
+
+pub mod maker;

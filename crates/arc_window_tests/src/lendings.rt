@@ -1,0 +1,127 @@
+//! Callers' buffers that grow as they will, under windows whose memory a heap counts. Where memory
+//! for a window is refused its buffer comes back as it was, and goes in again.
+use crate::callers::{Later, Lent, NoRoom};
+use arc_block::layout::DefaultLayoutMut;
+use arc_buffer::buffer::{AsMutBuffer, Buffer, BufferMut};
+use arc_owners::error::TryReserveError;
+use arc_write::slice_mut::ArcBytesMut;
+use counting_heap::CountingHeap;
+use std::alloc::Global;
+
+/// A heap that counts, from which the windows' memory comes.
+type Heap<'a> = &'a CountingHeap<Global>;
+
+/// Writers of bytes beside buffers of this type.
+type Over<'a, B> = ArcBytesMut<DefaultLayoutMut, B, (), Heap<'a>>;
+
+/// Buffers of a caller.
+#[derive(Clone, Copy)]
+enum Lending {
+    /// One that never has more places.
+    NoRoom,
+    /// One whose first request for places is refused.
+    Later,
+    /// Bytes that are lent, and have no place more.
+    Lent,
+}
+
+/// All of them.
+const LENDINGS: &[Lending] = &[Lending::NoRoom, Lending::Later, Lending::Lent];
+
+/// A vector of these bytes with so many places.
+fn vector(alloc: Global, places: usize, bytes: &[u8]) -> Option<Vec<u8>> {
+    let mut vector = Vec::with_capacity(alloc, places).ok()?;
+    vector.extend_from_slice(bytes).ok()?;
+    Some(vector)
+}
+
+/// A writer over a buffer, which has these bytes.
+fn over<'a, B: BufferMut<u8> + Drop>(
+    heap: Heap<'a>,
+    buffer: B,
+    bytes: &[u8],
+) -> Option<Over<'a, B>> {
+    match Over::<B>::try_from_buffer(heap, buffer) {
+        Ok(window) => Some(window),
+        Err(back) => {
+            if back.as_slice() != bytes {
+                return None;
+            }
+            Over::<B>::try_from_buffer(heap, back).ok()
+        }
+    }
+}
+
+/// Whether two of four bytes go into the places that are left, and the buffer comes back full.
+fn no_room(alloc: Global, heap: Heap<'_>) -> Option<bool> {
+    let bytes = vector(alloc, 5, &[1, 2, 3])?;
+    let mut window = over(heap, NoRoom { bytes }, &[1, 2, 3])?;
+    let refusal = window.try_extend(4..8u8).err()?;
+    let buffer = window.try_into_buffer().ok()?;
+    let full = [1, 2, 3, 4, 5];
+    Some((refusal, buffer.bytes.as_slice()) == ((TryReserveError::Unsupported, 6), full.as_slice()))
+}
+
+/// Whether a byte is refused once, and then taken.
+fn later(alloc: Global, heap: Heap<'_>) -> Option<bool> {
+    let bytes = vector(alloc, 1, &[1])?;
+    let asked = false;
+    let mut window = over(heap, Later { bytes, asked }, &[1])?;
+    let refusal = window.try_push(2).err()?;
+    window.try_push(2).ok()?;
+    let both = [1, 2];
+    Some((refusal, window.as_slice()) == ((TryReserveError::AllocError, 2), both.as_slice()))
+}
+
+/// Whether a byte is refused behind two that are lent, and goes in once the first has gone.
+fn lent(alloc: Global, heap: Heap<'_>) -> Option<bool> {
+    let bytes = vector(alloc, 2, &[1, 2])?;
+    let buffer = AsMutBuffer::new(Lent { bytes, number: 0 });
+    let mut window = over(heap, buffer, &[1, 2])?;
+    let refusal = window.try_push(3).err()?;
+    if window.check_at(1).is_err() {
+        return None;
+    }
+    window.advance(1);
+    window.try_push(3).ok()?;
+    let places = window.capacity();
+    let buffer = window.try_into_buffer().ok()?;
+    let both = [2, 3];
+    Some(
+        (refusal, places, buffer.as_slice())
+            == ((TryReserveError::Unsupported, 3), 2, both.as_slice()),
+    )
+}
+
+/// Whether a buffer takes what it is to take.
+fn lends(alloc: Global, heap: Heap<'_>, lending: Lending) -> Option<bool> {
+    match lending {
+        Lending::NoRoom => no_room(alloc, heap),
+        Lending::Later => later(alloc, heap),
+        Lending::Lent => lent(alloc, heap),
+    }
+}
+
+/// Whether a caller's buffer takes what it is to take with each request refused in turn, at least
+/// one of them.
+fn lends_in_turn(alloc: Global, heap: Heap<'_>, lending: Lending) -> bool {
+    for request in 1..1000u64 {
+        heap.refuse(request);
+        if (lends(alloc, heap, lending), heap.pieces()) != (Some(true), 0) {
+            return false;
+        }
+        if heap.refusals() == 0 {
+            return request > 1;
+        }
+    }
+    false
+}
+
+/// Each buffer takes what it is to take, whichever request for memory is refused.
+#[test]
+fn lent_in_turn(rt: HostRuntime) {
+    let heap = CountingHeap::new(rt.alloc());
+    for lending in LENDINGS {
+        assert!(rt; lends_in_turn(rt.alloc(), &heap, *lending));
+    }
+}
