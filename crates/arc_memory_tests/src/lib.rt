@@ -1,6 +1,6 @@
 //! Tests of the public functions of `arc_memory`, `arc_buffer`, `arc_block` and the crates of
 //! parts, which stand in a crate of their own so that the check of the tests doesn't prove those
-//! once more.
+//! once more. What windows show of these stands with the tests and rows of windows.
 #![tactic(auto)]
 
 #[cfg(test)]
@@ -8,26 +8,18 @@ mod blocks;
 #[cfg(test)]
 mod buffer;
 #[cfg(test)]
-mod kinds;
+mod crossing;
 #[cfg(test)]
-mod lease_writers;
+mod kinds;
 #[cfg(test)]
 mod lent_allocations;
 #[cfg(test)]
 mod page;
 #[cfg(test)]
-mod pieces;
-#[cfg(test)]
 mod places;
 #[cfg(test)]
-mod several_ends;
-#[cfg(test)]
-mod several_parts;
-#[cfg(test)]
-mod several_writers;
+mod several_units;
 #[cfg(test)]
 mod static_slices;
-#[cfg(test)]
-mod writer_places;
 #[cfg(test)]
 mod writers;

@@ -13,30 +13,6 @@ use std::sync::Wait;
 use std::test::Fail;
 use std::thread::{Threads, join};
 
-#[test]
-fn full_at_three(rt: HostRuntime) -> Result<(), Fail> {
-    let (owners, first, mut pass) = Owners::<3, Open>::new();
-    let second = owners.up_as(&rt, &first, &mut pass)?;
-    let _third = owners.up_as(&rt, &first, &mut pass)?;
-    assert!(rt; owners.up_as(&rt, &first, &mut pass).is_err());
-    assert!(rt; !owners.alone_as(&first, &mut pass));
-    assert!(rt; matches!(owners.down_as(second, &mut pass), Release::NotLast));
-    let _again = owners.up_as(&rt, &first, &mut pass)?;
-    Ok(())
-}
-
-#[test]
-fn last_of_two(rt: HostRuntime) -> Result<(), Fail> {
-    let (owners, first, mut pass) = Owners::<3, Open>::new();
-    let second = owners.up_as(&rt, &first, &mut pass)?;
-    let mut other = owners.pass(&second);
-    assert!(rt; matches!(owners.down_as(first, &mut pass), Release::NotLast));
-    owners.learn(&mut other, &pass);
-    assert!(rt; owners.alone_as(&second, &mut other));
-    assert!(rt; matches!(owners.down_as(second, &mut other), Release::Last(_)));
-    Ok(())
-}
-
 /// The replies where the word counts three owners at most: two are made, a third is refused, the
 /// second one made is released, not as the last, and then there is room again. No other reply can
 /// come, and the history is exactly this.
@@ -194,6 +170,7 @@ fn alone_after_end<R: Threads>(
     (alone, own, other)
 }
 
+/// Beside another owner the block isn't claimed, and alone it is.
 #[test]
 fn sole_owner_takes_back(rt: HostRuntime) -> Result<(), Fail> {
     let (owners, first, mut pass) = Owners::<3, Open>::new();
@@ -203,13 +180,6 @@ fn sole_owner_takes_back(rt: HostRuntime) -> Result<(), Fail> {
         return Ok(());
     };
     assert!(rt; matches!(owners.down_as(second, &mut pass), Release::NotLast));
-    let Ok((sole, _term)) = owners.claim_as(first, &mut pass) else {
-        assert!(rt; false);
-        return Ok(());
-    };
-    let first = sole.lend();
-    let third = owners.up_as(&rt, &first, &mut pass)?;
-    assert!(rt; matches!(owners.down_as(third, &mut pass), Release::NotLast));
     let Ok((sole, _term)) = owners.claim_as(first, &mut pass) else {
         assert!(rt; false);
         return Ok(());
@@ -229,7 +199,6 @@ fn sole_owner_from_the_beginning(rt: HostRuntime) -> Result<(), Fail> {
         assert!(rt; false);
         return Ok(());
     };
-    sole.only(&mut pass);
     sole.end_as(&mut pass);
     Ok(())
 }

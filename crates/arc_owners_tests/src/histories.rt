@@ -3,7 +3,6 @@ use arc_owners::error::AllocError;
 use arc_owners::owners::{Entry, Event, World, is_run, keeps, replay, replay_lone};
 use linked_list_allocator::LocalHeap;
 use std::alloc::{Allocator, Global};
-use std::process::Abort;
 use std::test::Fail;
 
 /// A run of a word that began with a count, over all kinds of step that such a word has.
@@ -132,6 +131,15 @@ fn number_never_live(rt: HostRuntime) -> Result<(), Fail> {
     Ok(())
 }
 
+/// The run of these events, by a word that began with a count, or by a lone one.
+fn run_of(alloc: Global, counted: bool, events: &[Event]) -> Result<World, AllocError> {
+    if counted {
+        replay::<3, _>(alloc, events)
+    } else {
+        replay_lone::<3, _>(alloc, events)
+    }
+}
+
 fn with_event(
     alloc: Global,
     counted: bool,
@@ -140,11 +148,7 @@ fn with_event(
 ) -> Result<World, AllocError> {
     let mut all = Vec::from_slice(alloc, events)?;
     all.push(event)?;
-    if counted {
-        replay::<3, _>(alloc, &all)
-    } else {
-        replay_lone::<3, _>(alloc, &all)
-    }
+    run_of(alloc, counted, &all)
 }
 
 fn is_same<A: Allocator, B: Allocator>(found: &World<A>, wanted: &World<B>) -> bool {
@@ -155,138 +159,145 @@ fn is_same<A: Allocator, B: Allocator>(found: &World<A>, wanted: &World<B>) -> b
         && found.entries.as_slice() == wanted.entries.as_slice()
 }
 
-#[test]
-fn nothing_changes_on_a_count(rt: HostRuntime) -> Result<(), Fail> {
-    let wanted = replay::<3, _>(rt.alloc(), &COUNTED_RUN)?;
-    for event in [
-        Event::Load { thread: 1, by: 0 },
-        Event::ExchangeWon {
-            thread: 1,
-            by: 0,
-            new: 3,
-        },
-        Event::ExchangeLost { thread: 1, by: 0 },
-        Event::CountUp {
-            thread: 1,
-            by: 1,
-            seen: 2,
-            new: 3,
-        },
-        Event::CountUp {
-            thread: 1,
-            by: 0,
-            seen: 1,
-            new: 3,
-        },
-        Event::CountUp {
-            thread: 1,
-            by: 0,
-            seen: 2,
-            new: 2,
-        },
-        Event::CountUp {
-            thread: 1,
-            by: 0,
-            seen: 2,
-            new: 1,
-        },
-        Event::FullFound { thread: 1, by: 0 },
-        Event::CountDown {
-            thread: 1,
-            by: 1,
-            seen: 2,
-        },
-        Event::CountDown {
-            thread: 1,
-            by: 0,
-            seen: 3,
-        },
-        Event::UniquenessLoad {
-            thread: 1,
-            by: 1,
-            seen: 2,
-        },
-        Event::UniquenessLoad {
-            thread: 1,
-            by: 0,
-            seen: 1,
-        },
-    ] {
-        let found = with_event(rt.alloc(), true, &COUNTED_RUN, event)?;
-        assert!(rt; is_same(&found, &wanted), "at {event:?}");
+/// The first of these events that changes something after a run, by its place, if one does.
+fn first_change(
+    alloc: Global,
+    counted: bool,
+    events: &[Event],
+    more: &[Event],
+) -> Result<Option<usize>, AllocError> {
+    let wanted = run_of(alloc, counted, events)?;
+    for (at, event) in more.iter().enumerate() {
+        let found = with_event(alloc, counted, events, *event)?;
+        if !is_same(&found, &wanted) {
+            return Ok(Some(at));
+        }
     }
-    Ok(())
+    Ok(None)
 }
 
+/// What may not happen after the counted run.
+const NOT_ON_A_COUNT: [Event; 12] = [
+    Event::Load { thread: 1, by: 0 },
+    Event::ExchangeWon {
+        thread: 1,
+        by: 0,
+        new: 3,
+    },
+    Event::ExchangeLost { thread: 1, by: 0 },
+    Event::CountUp {
+        thread: 1,
+        by: 1,
+        seen: 2,
+        new: 3,
+    },
+    Event::CountUp {
+        thread: 1,
+        by: 0,
+        seen: 1,
+        new: 3,
+    },
+    Event::CountUp {
+        thread: 1,
+        by: 0,
+        seen: 2,
+        new: 2,
+    },
+    Event::CountUp {
+        thread: 1,
+        by: 0,
+        seen: 2,
+        new: 1,
+    },
+    Event::FullFound { thread: 1, by: 0 },
+    Event::CountDown {
+        thread: 1,
+        by: 1,
+        seen: 2,
+    },
+    Event::CountDown {
+        thread: 1,
+        by: 0,
+        seen: 3,
+    },
+    Event::UniquenessLoad {
+        thread: 1,
+        by: 1,
+        seen: 2,
+    },
+    Event::UniquenessLoad {
+        thread: 1,
+        by: 0,
+        seen: 1,
+    },
+];
+
+/// What may not happen where the word is lone and one thread has found it so.
+const NOT_ON_A_LONE_WORD: [Event; 8] = [
+    Event::Load { thread: 2, by: 1 },
+    Event::ExchangeWon {
+        thread: 2,
+        by: 0,
+        new: 1,
+    },
+    Event::ExchangeWon {
+        thread: 1,
+        by: 0,
+        new: 0,
+    },
+    Event::ExchangeLost { thread: 1, by: 0 },
+    Event::CountUp {
+        thread: 1,
+        by: 0,
+        seen: 1,
+        new: 1,
+    },
+    Event::FullFound { thread: 1, by: 0 },
+    Event::CountDown {
+        thread: 1,
+        by: 0,
+        seen: 1,
+    },
+    Event::UniquenessLoad {
+        thread: 1,
+        by: 0,
+        seen: 1,
+    },
+];
+
 #[test]
-fn nothing_changes_at_the_greatest_count(rt: HostRuntime) -> Result<(), Fail> {
-    let wanted = replay_lone::<3, _>(rt.alloc(), &PROMOTION)?;
-    let event = Event::CountUp {
+fn nothing_changes(rt: HostRuntime) -> Result<(), Fail> {
+    let more = Event::CountUp {
         thread: 1,
         by: 0,
         seen: 3,
         new: 3,
     };
-    let found = with_event(rt.alloc(), false, &PROMOTION, event)?;
-    assert!(rt; is_same(&found, &wanted));
+    let load = Event::Load { thread: 1, by: 0 };
+    let told = [
+        first_change(rt.alloc(), true, &COUNTED_RUN, &NOT_ON_A_COUNT)?,
+        first_change(rt.alloc(), false, &PROMOTION, &[more])?,
+        first_change(rt.alloc(), false, &[load], &NOT_ON_A_LONE_WORD)?,
+    ];
+    assert!(rt; told == [None; 3]);
+    let world = run_of(rt.alloc(), false, &[load])?;
+    assert!(rt; world.ready.as_slice() == [1].as_slice());
     Ok(())
 }
 
-#[test]
-fn nothing_changes_on_a_lone_word(rt: HostRuntime) -> Result<(), Fail> {
-    let events = [Event::Load { thread: 1, by: 0 }];
-    let wanted = replay_lone::<3, _>(rt.alloc(), &events)?;
-    assert!(rt; wanted.ready.as_slice() == [1].as_slice());
-    for event in [
-        Event::Load { thread: 2, by: 1 },
-        Event::ExchangeWon {
-            thread: 2,
-            by: 0,
-            new: 1,
-        },
-        Event::ExchangeWon {
-            thread: 1,
-            by: 0,
-            new: 0,
-        },
-        Event::ExchangeLost { thread: 1, by: 0 },
-        Event::CountUp {
-            thread: 1,
-            by: 0,
-            seen: 1,
-            new: 1,
-        },
-        Event::FullFound { thread: 1, by: 0 },
-        Event::CountDown {
-            thread: 1,
-            by: 0,
-            seen: 1,
-        },
-        Event::UniquenessLoad {
-            thread: 1,
-            by: 0,
-            seen: 1,
-        },
-    ] {
-        let found = with_event(rt.alloc(), false, &events, event)?;
-        assert!(rt; is_same(&found, &wanted), "at {event:?}");
-    }
-    Ok(())
-}
-
-/// Whether a heap of so many bytes is refused the run. Where it isn't, the run is as it is wanted.
-fn is_refused(
-    rt: &impl Abort,
-    alloc: Global,
-    bytes: usize,
-    wanted: &World,
-) -> Result<bool, AllocError> {
+/// Whether a heap of so many bytes is refused the run; none where it isn't, and the run isn't as it
+/// is wanted.
+fn is_refused(alloc: Global, bytes: usize, wanted: &World) -> Result<Option<bool>, AllocError> {
     let heap = LocalHeap::new(alloc, bytes)?;
     let run = replay_lone::<3, _>(&heap, &PROMOTION);
-    if let Ok(found) = &run {
-        assert!(rt; is_same(found, wanted), "in {bytes} bytes");
+    match &run {
+        Ok(found) => Ok(if is_same(found, wanted) {
+            Some(false)
+        } else {
+            None
+        }),
+        Err(_) => Ok(Some(true)),
     }
-    Ok(run.is_err())
 }
 
 /// A heap of its own, larger each time: a run that the heap has no room for is refused, and one
@@ -294,12 +305,14 @@ fn is_refused(
 #[test]
 fn memory_refused(rt: HostRuntime) -> Result<(), Fail> {
     let wanted = replay_lone::<3, _>(rt.alloc(), &PROMOTION)?;
-    let mut refused = 0u64;
+    let mut found = [false; 2];
     for blocks in 2..64usize {
-        if is_refused(&rt, rt.alloc(), blocks * 16, &wanted)? {
-            refused = refused.wrapping_add(1);
+        match is_refused(rt.alloc(), blocks * 16, &wanted)? {
+            Some(true) => found[0] = true,
+            Some(false) => found[1] = true,
+            None => return Err("another run".into()),
         }
     }
-    assert!(rt; 0 < refused && refused < 62, "{refused} were refused");
+    assert!(rt; found == [true; 2]);
     Ok(())
 }

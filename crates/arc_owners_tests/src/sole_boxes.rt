@@ -7,44 +7,28 @@ use arc_owners::error::AllocError;
 use arc_owners::mark::{Mark, Open, Whole};
 use arc_owners::owners::{CountedBox, SoleBox};
 use linked_list_allocator::LocalHeap;
-use std::alloc::Allocator;
+use std::alloc::{Allocator, Global};
 use std::sync::Wait;
 use std::test::Fail;
 use std::thread::join;
 
-/// Taken back beside another owner it is refused; alone it is the same value, lent anew, cloned and
-/// read.
+/// What two owners get at their ends to whom a value is lent anew, which its first owner took back.
+fn lent_anew(rt: &impl Wait, alloc: Global) -> Option<[Option<u64>; 2]> {
+    let Ok((first, mut pass)) = CountedBox::<u64, _, 3, Open>::new(alloc, 7) else {
+        return None;
+    };
+    let Ok(sole) = first.try_into_sole_as(&mut pass) else {
+        return None;
+    };
+    let first = sole.lend();
+    let second = first.try_clone_as(rt, &mut pass).ok()?;
+    let early = first.release_as(&mut pass);
+    Some([early, second.release_as(&mut pass)])
+}
+
 #[test]
 fn taken_back_and_lent_anew(rt: HostRuntime) -> Result<(), Fail> {
-    let heap = LocalHeap::new(rt.alloc(), 256)?;
-    let before = heap.used();
-    let Ok((first, mut pass)) = CountedBox::<u64, _, 3, Whole>::new(&heap, 7) else {
-        return Err(AllocError.into());
-    };
-    let taken = heap.used();
-    let second = first.try_clone_as(&rt, &mut pass)?;
-    let Err(first) = first.try_into_sole_as(&mut pass) else {
-        return Err("beside another owner".into());
-    };
-    let ended = second.release_as(&mut pass);
-    let Ok(sole) = first.try_into_sole_as(&mut pass) else {
-        return Err("alone".into());
-    };
-    let back = *sole.get();
-    sole.only(&mut pass);
-    let first = sole.lend();
-    let second = first.try_clone_as(&rt, &mut pass)?;
-    let cloned = heap.used();
-    let lent = *second.get();
-    let ended_again = first.release_as(&mut pass);
-    let Ok(sole) = second.try_into_sole_as(&mut pass) else {
-        return Err("alone again".into());
-    };
-    let left = heap.used();
-    let value = sole.into_value_as(&mut pass);
-    assert!(rt; [ended, ended_again] == [None; 2]);
-    assert!(rt; [back, lent, value] == [7; 3]);
-    assert!(rt; [cloned, left, heap.used()] == [taken, taken, before]);
+    assert!(rt; lent_anew(&rt, rt.alloc()) == Some([None, Some(7)]));
     Ok(())
 }
 
@@ -58,7 +42,7 @@ fn set<A: Allocator + Copy, H: Mark>(sole: &mut SoleBox<u64, A, 3, H>, value: u6
 
 /// Changed by its only owner, it is read so by the owners that it is lent to. It answers what they
 /// read, and what its only owner reads and ends with, after it had it back and changed it again.
-fn changed<R: Wait>(rt: &R, heap: &LocalHeap) -> Result<([u64; 2], Option<u64>), Fail> {
+fn changed<R: Wait>(rt: &R, heap: &LocalHeap) -> Result<[u64; 3], Fail> {
     let Ok((mut sole, mut pass)) = SoleBox::<u64, _, 3, Whole>::new(heap, 7) else {
         return Err(AllocError.into());
     };
@@ -74,25 +58,15 @@ fn changed<R: Wait>(rt: &R, heap: &LocalHeap) -> Result<([u64; 2], Option<u64>),
     };
     set(&mut sole, 9);
     let back = *sole.get();
-    Ok(([lent, back], sole.lend().release_as(&mut pass)))
+    Ok([lent, back, sole.into_value_as(&mut pass)])
 }
 
 #[test]
 fn changed_and_lent_anew(rt: HostRuntime) -> Result<(), Fail> {
     let heap = LocalHeap::new(rt.alloc(), 256)?;
     let before = heap.used();
-    assert!(rt; changed(&rt, &heap)? == ([8, 9], Some(9)));
+    assert!(rt; changed(&rt, &heap)? == [8, 9, 9]);
     assert!(rt; heap.used() == before);
-    Ok(())
-}
-
-#[test]
-fn sole_value_set(rt: HostRuntime) -> Result<(), Fail> {
-    let Ok((mut sole, mut pass)) = SoleBox::<u64, _, 3, Open>::new(rt.alloc(), 7) else {
-        return Err(AllocError.into());
-    };
-    set(&mut sole, 8);
-    assert!(rt; sole.into_value_as(&mut pass) == 8);
     Ok(())
 }
 
@@ -108,20 +82,6 @@ fn sole_from_the_beginning(rt: HostRuntime) -> Result<(), Fail> {
     assert!(rt; first.is_unique_as(&mut pass));
     assert!(rt; first.release_as(&mut pass) == Some(7));
     assert!(rt; heap.used() == before);
-    Ok(())
-}
-
-#[test]
-fn value_handed_back_without_memory(rt: HostRuntime) -> Result<(), Fail> {
-    let heap = LocalHeap::new(rt.alloc(), 48)?;
-    let Ok((sole, mut pass)) = SoleBox::<[u64; 3], _, 3, Open>::new(&heap, [1, 2, 3]) else {
-        return Err(AllocError.into());
-    };
-    let Err(back) = SoleBox::<[u64; 3], _, 3, Open>::new(&heap, [4, 5, 6]) else {
-        return Err("two values in the room of one".into());
-    };
-    assert!(rt; back == [4, 5, 6]);
-    assert!(rt; sole.into_value_as(&mut pass) == [1, 2, 3]);
     Ok(())
 }
 
@@ -148,23 +108,17 @@ fn memory_after_a_drop(rt: HostRuntime) -> Result<(), Fail> {
 /// It goes to another thread, which ends it with a pass of its own.
 #[test]
 fn ended_in_another_thread(rt: HostRuntime) -> Result<(), Fail> {
-    let Ok((one, _pass)) = SoleBox::<u64, _, 3, Open>::new(rt.alloc(), 7) else {
+    let Ok((sole, _pass)) = SoleBox::<u64, _, 3, Open>::new(rt.alloc(), 7) else {
         return Err(AllocError.into());
     };
-    let Ok((two, _pass)) = SoleBox::<u64, _, 3, Open>::new(rt.alloc(), 8) else {
-        return Err(AllocError.into());
-    };
-    let (seven, eight) = join(
+    let (value, ()) = join(
         &rt,
         move || {
-            let mut pass = one.pass();
-            one.into_value_as(&mut pass)
+            let mut pass = sole.pass();
+            sole.into_value_as(&mut pass)
         },
-        move || {
-            let mut pass = two.pass();
-            two.into_value_as(&mut pass)
-        },
+        || (),
     );
-    assert!(rt; (seven, eight) == (7, 8));
+    assert!(rt; value == 7);
     Ok(())
 }

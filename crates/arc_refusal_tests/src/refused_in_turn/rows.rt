@@ -91,6 +91,18 @@ const WRITTEN_AGAIN: &[Line] = &[
     (Call::Ask(0, Ask::Room), Reply::Number(4)),
 ];
 
+/// So is a part of one that is alone, and its block grows behind the places in front of it.
+const PART_WRITTEN: &[Line] = &[
+    (Call::Make(Make::Slice("abcd")), Reply::Done),
+    (Call::Part(0, Part::Sub(1, 3)), Reply::Done),
+    (Call::Turn(0, Turn::Drop), Reply::Done),
+    (Call::Turn(1, Turn::Mut), Reply::Done),
+    (Call::Ask(1, Ask::Room), Reply::Number(3)),
+    (Call::Change(1, Change::Extend("xy")), Reply::Done),
+    (Call::Ask(1, Ask::Show("bcxy")), Reply::Done),
+    (Call::Ask(1, Ask::Room), Reply::Number(7)),
+];
+
 /// An array comes back where it is the whole block, and alone.
 const ARRAYS: &[Line] = &[
     (Call::Make(Make::Array([1, 2, 3])), Reply::Done),
@@ -456,6 +468,17 @@ const LAST_RECLAIMS: &[Line] = &[
     (Call::Ask(1, Ask::Room), Reply::Number(16)),
 ];
 
+/// The block of the last of several writers grows behind the places that are gone.
+const LAST_GROWS: &[Line] = &[
+    (Call::Make(Make::WrittenSlice("12345678")), Reply::Done),
+    (Call::Turn(0, Turn::Share), Reply::Done),
+    (Call::Part(0, Part::Off(6)), Reply::Done),
+    (Call::Turn(0, Turn::Drop), Reply::Done),
+    (Call::Change(1, Change::Reserve(7)), Reply::Done),
+    (Call::Ask(1, Ask::Show("78")), Reply::Done),
+    (Call::Ask(1, Ask::Room), Reply::Number(10)),
+];
+
 /// A vector moves to a native block when it is split, and then no vector comes back.
 const VECTOR_SPLIT: &[Line] = &[
     (Call::Make(Make::WrittenVec("12")), Reply::Done),
@@ -581,6 +604,7 @@ pub const ALL: &[&[Line]] = &[
     ROOM_FOUND,
     ZEROS,
     WRITTEN_AGAIN,
+    PART_WRITTEN,
     ARRAYS,
     CLONED,
     VECTOR_CUT,
@@ -599,6 +623,7 @@ pub const ALL: &[&[Line]] = &[
     SPLIT_BEHIND,
     ROOM_BESIDE,
     LAST_RECLAIMS,
+    LAST_GROWS,
     VECTOR_SPLIT,
     VECTOR_SHARED,
     FROZEN_BESIDE,
