@@ -14,16 +14,6 @@ pub const REPLIES_IN_NEED: [&[u8]; 4] = [
     b"allocation error\nno window\nno window\n",
 ];
 
-/// A script whose fifth window may have no room in the list of windows, and its replies where it
-/// has room and where it has none.
-pub const CLONES: &[u8] =
-    b"slice 41\nclone 0\nclone 1\nclone 2\nclone 3\nshow 3\nshow 4\ndrop 0\nclone 1\nshow 4\n";
-
-pub const CLONES_REPLIES: &[u8] = b"h0\nh1\nh2\nh3\nh4\n41\n41\nok\nh5\n41\n";
-
-pub const CLONES_IN_NEED: &[u8] =
-    b"h0\nh1\nh2\nh3\nallocation error\n41\nno window\nok\nallocation error\nno window\n";
-
 /// A script that makes windows, clones and cuts on two blocks and on none and drops only some, and
 /// its replies.
 pub const LEFT: &[u8] =

@@ -52,10 +52,7 @@ fn scripts(rt: HostRuntime) {
         ),
         (b"".as_slice(), b"".as_slice()),
     ] {
-        assert!(rt;
-            has_replies(&rt, rt.alloc(), script, replies),
-            "at {script:?}"
-        );
+        assert!(rt; has_replies(&rt, rt.alloc(), script, replies));
     }
 }
 
@@ -87,10 +84,7 @@ fn failed_reads(rt: HostRuntime) {
         let (ran, [calls, _], bytes) = hello_by(&rt, rt.alloc(), failing, all);
         let is_exact = HELLO_REPLIES.get(..WRITTEN[call - 1]) == Some(bytes.as_slice());
         let found = (ran, calls, is_exact);
-        assert!(rt;
-            found == (Err(ScriptError::Read), call, true),
-            "at call {call}"
-        );
+        assert!(rt; found == (Err(ScriptError::Read), call, true));
     }
 }
 
@@ -116,7 +110,7 @@ fn failed_writes(rt: HostRuntime) {
             is_cut_at(&rt, rt.alloc(), failing, call, begun),
             is_cut_at(&rt, rt.alloc(), empty, call, begun),
         ];
-        assert!(rt; found == [true, true], "at call {call}");
+        assert!(rt; found == [true, true]);
     }
 }
 
@@ -134,14 +128,15 @@ fn long_script(
     Ok(script)
 }
 
-/// How a run over one piece of input ends, and what was written.
+/// How a run ends that reads so much a call, and what was written.
 fn written_by(
     rt: &impl Wait,
     heap: &LocalHeap,
     script: &[u8],
+    step: usize,
     mut writer: Taken,
 ) -> (Result<(), ScriptError>, Vec<u8>) {
-    let mut reader = Pieces::new(script, usize::MAX);
+    let mut reader = Pieces::new(script, step);
     let ran = run(rt, heap, &mut reader, &mut writer);
     (ran, writer.bytes)
 }
@@ -151,27 +146,29 @@ fn written_by(
 fn is_refused(
     rt: &(impl Wait + AllocGlobal),
     script: &[u8],
+    step: usize,
     size: usize,
     replies: &[u8],
 ) -> Result<bool, Fail> {
     let heap = LocalHeap::new(rt.alloc(), size)?;
-    let (ran, bytes) = written_by(rt, &heap, script, Taken::new(rt.alloc(), usize::MAX));
-    let (cut, begun) = written_by(rt, &heap, script, Taken::failing(rt.alloc(), 2, 2));
+    let (ran, bytes) = written_by(rt, &heap, script, step, Taken::new(rt.alloc(), usize::MAX));
+    let (cut, begun) = written_by(rt, &heap, script, step, Taken::failing(rt.alloc(), 2, 2));
     let found = (ran, bytes.as_slice(), cut, begun.as_slice(), heap.used());
     let (refused, failed) = (Err(ScriptError::Alloc), Err(ScriptError::Write));
     Ok(found == (refused, replies, failed, b"h0".as_slice(), 0))
 }
 
 /// One piece of input, in the midst of which memory is refused: for a line that isn't whole in it,
-/// for the items of one that is, and for the reply to one. The replies to the lines before come
-/// out.
+/// for the items of one that is, and for the reply to one; and one of many, in which a line grows
+/// whose beginning came before. The replies to the lines before come out.
 #[test]
 fn refused_in_a_piece(rt: HostRuntime) -> Result<(), Fail> {
-    for (before, word, behind, size, replies) in [
+    for (before, word, behind, step, size, replies) in [
         (
             HELLO,
             b"show ".as_slice(),
             b"".as_slice(),
+            usize::MAX,
             80_000,
             HELLO_REPLIES,
         ),
@@ -179,6 +176,7 @@ fn refused_in_a_piece(rt: HostRuntime) -> Result<(), Fail> {
             HELLO,
             b"slice ".as_slice(),
             b"\n".as_slice(),
+            usize::MAX,
             72_000,
             HELLO_REPLIES,
         ),
@@ -186,13 +184,30 @@ fn refused_in_a_piece(rt: HostRuntime) -> Result<(), Fail> {
             b"".as_slice(),
             b"slice ".as_slice(),
             b"\nshow 0\n".as_slice(),
+            usize::MAX,
             90_000,
             b"h0\n".as_slice(),
         ),
+        (
+            HELLO,
+            b"show ".as_slice(),
+            b"".as_slice(),
+            46,
+            72_000,
+            HELLO_REPLIES,
+        ),
+        (
+            HELLO,
+            b"show ".as_slice(),
+            b"".as_slice(),
+            46,
+            80_000,
+            HELLO_REPLIES,
+        ),
     ] {
         let script = long_script(rt.alloc(), before, word, behind)?;
-        let refused = is_refused(&rt, &script, size, replies)?;
-        assert!(rt; refused, "in {size} bytes");
+        let refused = is_refused(&rt, &script, step, size, replies)?;
+        assert!(rt; refused);
     }
     Ok(())
 }
@@ -223,16 +238,13 @@ fn given_back(rt: HostRuntime) -> Result<(), Fail> {
         let call = before + 1;
         let failing = Pieces::failing(LEFT, 5, call);
         let left = left_by(&rt, &heap, failing, Taken::new(rt.alloc(), 2));
-        assert!(rt; left == (Err(ScriptError::Read), true, 0), "at read {call}");
+        assert!(rt; left == (Err(ScriptError::Read), true, 0));
     }
     for before in 0..writer.calls {
         let call = before + 1;
         let failing = Taken::failing(rt.alloc(), 2, call);
         let left = left_by(&rt, &heap, Pieces::new(LEFT, 5), failing);
-        assert!(rt;
-            left == (Err(ScriptError::Write), true, 0),
-            "at write {call}"
-        );
+        assert!(rt; left == (Err(ScriptError::Write), true, 0));
     }
     Ok(())
 }

@@ -1,53 +1,51 @@
 //! What lies in a small window itself, by layout and by what it is made of.
-use arc_slice::buffer::{ByteText, CopySlice, Plain, Text};
+use arc_slice::buffer::{Plain, Text};
 use arc_slice::inlined::{SmallArcBytes, SmallArcSlice, SmallArcStr, SmallSlice};
-use arc_slice::layout::{
-    AnyBufferLayout, ArcLayout, BoxedSliceLayout, DefaultLayout, Layout, RawLayout, VecLayout,
-};
+use arc_slice::layout::{DefaultLayout, Layout, VecLayout};
 use linked_list_allocator::LocalHeap;
 use std::alloc::Global;
 use std::boxed::BoxedSlice;
 use std::test::Fail;
 
 /// How many of these bytes a short list has, where they are one.
-fn fits<S: CopySlice<Item = u8>, L: Layout>(bytes: &[u8]) -> Option<usize> {
-    Some(SmallSlice::<S, L>::new(bytes)?.len())
+fn fits<L: Layout>(bytes: &[u8]) -> Option<usize> {
+    Some(SmallSlice::<Plain<u8>, L>::new(bytes)?.len())
 }
 
 /// The same of text.
-fn text_fits<L: Layout>(text: &str) -> Option<usize> {
-    Some(SmallSlice::<Text, L>::new_str(text)?.len())
+fn text_fits(text: &str) -> Option<usize> {
+    Some(SmallSlice::<Text, DefaultLayout>::new_str(text)?.len())
 }
 
 /// Whether a window that is made of these bytes has them in itself.
-fn is_inline<L: Layout>(alloc: Global, bytes: &[u8]) -> Option<bool> {
-    let window: SmallArcBytes<L> = SmallArcSlice::try_from_slice(alloc, bytes).ok()?;
+fn is_inline(alloc: Global, bytes: &[u8]) -> Option<bool> {
+    let window: SmallArcBytes = SmallArcSlice::try_from_slice(alloc, bytes).ok()?;
     Some(window.as_either().is_left())
 }
 
 /// The same of an array.
-fn is_array_inline<L: Layout, const N: usize>(alloc: Global, array: [u8; N]) -> Option<bool> {
-    let window: SmallArcBytes<L> = SmallArcSlice::try_from_array(alloc, array).ok()?;
+fn is_array_inline<const N: usize>(alloc: Global, array: [u8; N]) -> Option<bool> {
+    let window: SmallArcBytes = SmallArcSlice::try_from_array(alloc, array).ok()?;
     Some(window.as_either().is_left())
 }
 
 /// The same of a text.
-fn is_text_inline<L: Layout>(alloc: Global, text: &str) -> Option<bool> {
-    let window: SmallArcStr<L> = SmallArcSlice::try_from_str(alloc, text).ok()?;
+fn is_text_inline(alloc: Global, text: &str) -> Option<bool> {
+    let window: SmallArcStr = SmallArcSlice::try_from_str(alloc, text).ok()?;
     Some(window.as_either().is_left())
 }
 
 /// The same of a vector.
-fn is_vec_inline<L: AnyBufferLayout>(alloc: Global, bytes: &[u8]) -> Option<bool> {
+fn is_vec_inline(alloc: Global, bytes: &[u8]) -> Option<bool> {
     let items = Vec::from_slice(alloc, bytes).ok()?;
-    let window: SmallArcBytes<L> = SmallArcSlice::try_from_vec(alloc, items).ok()?;
+    let window: SmallArcBytes = SmallArcSlice::try_from_vec(alloc, items).ok()?;
     Some(window.as_either().is_left())
 }
 
 /// The same of a box.
-fn is_boxed_inline<L: AnyBufferLayout>(alloc: Global, bytes: &[u8]) -> Option<bool> {
+fn is_boxed_inline(alloc: Global, bytes: &[u8]) -> Option<bool> {
     let items = Vec::from_slice(alloc, bytes).ok()?.into_boxed_slice();
-    let window: SmallArcBytes<L> = SmallArcSlice::try_from_boxed(alloc, items).ok()?;
+    let window: SmallArcBytes = SmallArcSlice::try_from_boxed(alloc, items).ok()?;
     Some(window.as_either().is_left())
 }
 
@@ -63,44 +61,40 @@ fn is_static_inline(alloc: Global) -> [bool; 3] {
     ]
 }
 
+/// Each layout's limit is a clause of the list.
 #[test]
 fn short_lists_by_layout(rt: HostRuntime) -> Result<(), Fail> {
     let bytes = [7u8; 31];
     let told = [
-        fits::<Plain<u8>, DefaultLayout>(&bytes[..22]),
-        fits::<Plain<u8>, DefaultLayout>(&bytes[..23]),
-        fits::<ByteText, ArcLayout<false, false>>(&bytes[..23]),
-        fits::<Plain<u8>, BoxedSliceLayout>(&bytes[..22]),
-        fits::<Plain<u8>, BoxedSliceLayout>(&bytes[..23]),
+        fits::<DefaultLayout>(&bytes[..22]),
+        fits::<DefaultLayout>(&bytes[..23]),
+        fits::<VecLayout>(&bytes[..30]),
+        fits::<VecLayout>(&bytes),
     ];
-    assert!(rt; told == [Some(22), None, None, Some(22), None]);
+    assert!(rt; told == [Some(22), None, Some(30), None]);
     let told = [
-        fits::<Plain<u8>, VecLayout>(&bytes[..30]),
-        fits::<ByteText, VecLayout>(&bytes),
-        fits::<Plain<u8>, RawLayout>(&bytes[..30]),
-        fits::<Plain<u8>, RawLayout>(&bytes),
+        text_fits("zweiundzwanzig Zeichen"),
+        text_fits("dreiundzwanzig Zeichen "),
     ];
-    assert!(rt; told == [Some(30), None, Some(30), None]);
-    let told = [
-        text_fits::<DefaultLayout>("zweiundzwanzig Zeichen"),
-        text_fits::<DefaultLayout>("dreiundzwanzig Zeichen "),
-        text_fits::<VecLayout>("dreiundzwanzig Zeichen "),
-    ];
-    assert!(rt; told == [Some(22), None, Some(23)]);
+    assert!(rt; told == [Some(22), None]);
     Ok(())
 }
 
+/// Under other layouts, rows of `refused_in_turn` ask it.
 #[test]
 fn windows_by_what_made_them(rt: HostRuntime) -> Result<(), Fail> {
     let alloc = rt.alloc();
-    let bytes = [7u8; 31];
+    let bytes = [7u8; 23];
     let told = [
-        is_inline::<DefaultLayout>(alloc, &[1]),
-        is_inline::<DefaultLayout>(alloc, &bytes[..22]),
-        is_inline::<DefaultLayout>(alloc, &bytes[..23]),
-        is_inline::<ArcLayout<false, false>>(alloc, &[]),
-        is_inline::<VecLayout>(alloc, &bytes[..30]),
-        is_inline::<VecLayout>(alloc, &bytes),
+        is_inline(alloc, &[1]),
+        is_inline(alloc, &bytes[..22]),
+        is_inline(alloc, &bytes),
+        is_array_inline(alloc, [7; 22]),
+        is_array_inline(alloc, [7; 23]),
+        is_text_inline(alloc, "kurz"),
+        is_text_inline(alloc, "dreiundzwanzig Zeichen "),
+        is_vec_inline(alloc, &[1]),
+        is_boxed_inline(alloc, &[1]),
     ];
     assert!(rt;
         told == [
@@ -108,23 +102,13 @@ fn windows_by_what_made_them(rt: HostRuntime) -> Result<(), Fail> {
             Some(true),
             Some(false),
             Some(true),
+            Some(false),
             Some(true),
+            Some(false),
+            Some(false),
             Some(false)
         ]
     );
-    let told = [
-        is_array_inline::<DefaultLayout, 22>(alloc, [7; 22]),
-        is_array_inline::<DefaultLayout, 23>(alloc, [7; 23]),
-        is_text_inline::<DefaultLayout>(alloc, "kurz"),
-        is_text_inline::<DefaultLayout>(alloc, "dreiundzwanzig Zeichen "),
-    ];
-    assert!(rt; told == [Some(true), Some(false), Some(true), Some(false)]);
-    let told = [
-        is_vec_inline::<DefaultLayout>(alloc, &[1]),
-        is_vec_inline::<VecLayout>(alloc, &[]),
-        is_boxed_inline::<BoxedSliceLayout>(alloc, &[1]),
-    ];
-    assert!(rt; told == [Some(false); 3]);
     assert!(rt; is_static_inline(alloc) == [false, false, true]);
     Ok(())
 }

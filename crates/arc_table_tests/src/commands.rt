@@ -1,26 +1,16 @@
-//! Commands and their replies: each call once, kinds and layouts that the program doesn't have, and
-//! memory that runs out. The worked rows over bytes stand in `tests/rows` of the repository, which
-//! `tests/program` gives to the built program.
+//! A window that is made, cut and shown, one command after the other and as a list, and a list for
+//! whose replies memory runs out. The worked rows over bytes stand in `tests/rows` of the
+//! repository, which `tests/program` gives to the built program.
 use crate::tables::{ByteTable, Said, has_items, shows, table_of, told};
-use arc_block::layout::{ArcLayout, DefaultLayout};
-use arc_block::static_slice::StaticSlice;
 use arc_buffer::kinds::Plain;
 use arc_owners::error;
-use arc_table::command::{Cmd, Given, Reply};
+use arc_table::command::{Cmd, Reply};
 use arc_table::kinds::{TableCmd, TableReply};
 use arc_table::table::Table;
 use linked_list_allocator::LocalHeap;
 use std::alloc::{AllocError, Allocator};
 use std::sync::Wait;
 use std::test::Fail;
-
-/// Whether a reply is a static slice with these bytes.
-fn is_slice<G: Given<Static = StaticSlice<u8>>>(reply: &Reply<G>, items: &[u8]) -> bool {
-    match reply {
-        Reply::Static(slice) => slice.as_slice() == items,
-        _ => false,
-    }
-}
 
 #[test]
 fn hello(rt: HostRuntime) {
@@ -133,63 +123,6 @@ fn shows_a<A: Allocator + Copy>(table: &ByteTable<A>) -> bool {
     }
 }
 
-/// Under a layout without static data an empty cut is an owner; the items needn't be bytes.
-#[test]
-fn numbers_without_static_data(rt: HostRuntime) -> Result<(), Fail> {
-    let items = Vec::from_slice(rt.alloc(), &[7u32, 8, 9])?;
-    let mut table: Table<Plain<u32>, ArcLayout<true, false>> = Table::new(rt.alloc());
-    let made = told(table.step(&rt, Cmd::Slice(items)));
-    let cut = told(table.step(
-        &rt,
-        Cmd::Sub {
-            window: 0,
-            start: 3,
-            end: 3,
-        },
-    ));
-    let alone = told(table.step(&rt, Cmd::Uniq { window: 0 }));
-    let _ = table.end();
-    assert!(rt; [made, cut, alone] == [Said::New(0), Said::New(1), Said::No]);
-    Ok(())
-}
-
-/// The items needn't be `'static`: a window on nothing comes back as a slice of none.
-#[test]
-fn items_with_a_lifetime(rt: HostRuntime) -> Result<(), Fail> {
-    let number = 7u32;
-    let items = Vec::from_slice(rt.alloc(), &[&number])?;
-    let mut table: Table<Plain<&u32>, DefaultLayout, Vec<&u32>, (), _> = Table::new(rt.alloc());
-    let made = told(table.step(&rt, Cmd::Slice(items)));
-    let none = told(table.step(
-        &rt,
-        Cmd::Sub {
-            window: 0,
-            start: 1,
-            end: 1,
-        },
-    ));
-    let slice = table.step(&rt, Cmd::TakeStatic { window: 1 });
-    let _ = table.end();
-    assert!(rt; [made, none] == [Said::New(0), Said::New(1)]);
-    let Reply::Static(slice) = slice else {
-        return Err("a slice".into());
-    };
-    assert!(rt; slice.is_empty());
-    Ok(())
-}
-
-/// A layout without static data has no window over a static slice.
-#[test]
-fn no_static_data(rt: HostRuntime) {
-    let mut table: Table<Plain<u8>, ArcLayout<true, false>, Vec<u8>, (), _> = Table::new(
-        rt.alloc(),
-    );
-    let made = told(table.step(&rt, Cmd::Static(StaticSlice::new(b"abcd"))));
-    let taken = told(table.step(&rt, Cmd::TakeStatic { window: 0 }));
-    let _ = table.end();
-    assert!(rt; [made, taken] == [Said::Kind, Said::NoWindow]);
-}
-
 /// The commands of `hello`, carried out by a table.
 fn carried_out<A: Allocator + Copy>(rt: &impl Wait, table: &mut ByteTable<A>, alloc: A) -> Ran {
     let Ok(commands) = hello_commands(alloc) else {
@@ -213,85 +146,25 @@ fn listed(rt: &impl Wait, heap: &LocalHeap) -> Ran {
     }
 }
 
-/// A window over a static slice that is taken back, without memory, also where there is none left.
-fn taken_back(rt: &impl Wait, heap: &LocalHeap) -> Ran {
-    let mut table: ByteTable<_> = Table::new(heap);
-    let made = told(table.step(rt, Cmd::Static(StaticSlice::new(b"abcd"))));
-    let before = heap.used();
-    let slice = table.step(rt, Cmd::TakeStatic { window: 0 });
-    let after = heap.used();
-    let _ = table.end();
-    let is_whole = is_slice(&slice, b"abcd");
-    match (made, told(slice), is_whole, before == after) {
-        (Said::Alloc, Said::NoWindow, _, true) => Ran::Short,
-        (Said::New(0), Said::Static, true, true) => Ran::Whole,
-        _ => Ran::Wrong,
-    }
-}
-
-/// Four clones of a window.
-fn cloned<A: Allocator + Copy>(rt: &impl Wait, alloc: A) -> Ran {
-    let mut table = table_of(rt, alloc, b"Hello");
-    let mut last = Said::NoWindow;
-    for _ in 0..4 {
-        last = told(table.step(rt, Cmd::Clone { window: 0 }));
-    }
-    let shown = shows(rt, &mut table, 0, b"Hello");
-    let _ = table.end();
-    match (last, shown) {
-        (Said::Alloc, _) => Ran::Short,
-        (Said::New(4), true) => Ran::Whole,
-        _ => Ran::Other,
-    }
-}
-
-/// What is asked for in little memory.
-#[derive(Clone, Copy)]
-enum Need {
-    List,
-    Static,
-    Clones,
-}
-
-fn in_little(rt: &impl Wait, heap: &LocalHeap, need: Need) -> Ran {
-    match need {
-        Need::List => listed(rt, heap),
-        Need::Static => taken_back(rt, heap),
-        Need::Clones => cloned(rt, heap),
-    }
-}
-
 /// With more and more memory that for the replies to a list is refused, so that the commands come
 /// back and the table is as it was, and then each request in turn. A refusal changes nothing, and
 /// at the end all memory is given back.
 #[test]
 fn memory_refused(rt: HostRuntime) -> Result<(), Fail> {
-    for (need, comes_back) in [
-        (Need::List, true),
-        (Need::Static, false),
-        (Need::Clones, false),
-    ] {
-        let mut back = 0u32;
-        let mut short = 0u32;
-        let mut whole = 0u32;
-        for units in 1..256usize {
-            let heap = LocalHeap::new(rt.alloc(), units * 16)?;
-            let ran = in_little(&rt, &heap, need);
-            assert!(rt;
-                (ran == Ran::Wrong, heap.used()) == (false, 0),
-                "in {units} units"
-            );
-            match ran {
-                Ran::Back => back = back.wrapping_add(1),
-                Ran::Short => short = short.wrapping_add(1),
-                Ran::Whole => whole = whole.wrapping_add(1),
-                _ => {}
-            }
+    let mut back = 0u32;
+    let mut short = 0u32;
+    let mut whole = 0u32;
+    for units in 1..256usize {
+        let heap = LocalHeap::new(rt.alloc(), units * 16)?;
+        let ran = listed(&rt, &heap);
+        assert!(rt; (ran == Ran::Wrong, heap.used()) == (false, 0));
+        match ran {
+            Ran::Back => back = back.wrapping_add(1),
+            Ran::Short => short = short.wrapping_add(1),
+            Ran::Whole => whole = whole.wrapping_add(1),
+            _ => {}
         }
-        assert!(rt;
-            (0 < back) == comes_back && 0 < short && 0 < whole,
-            "{back} came back, {short} were short, and {whole} whole"
-        );
     }
+    assert!(rt; (0 < back, 0 < short, 0 < whole) == (true, true, true));
     Ok(())
 }

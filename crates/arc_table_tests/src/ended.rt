@@ -1,6 +1,6 @@
 //! Items that are dropped one by one, and callers' buffers of such, in a table over a heap that
-//! counts: whichever request for memory is refused, when the table has ended each item that went
-//! in was dropped once, and all memory is given back.
+//! counts: what tables of such a kind answer; and whichever request for memory is refused, when the
+//! table has ended each item that went in was dropped once, and all memory is given back.
 use crate::tables::told;
 use arc_block::layout::DefaultLayout;
 use arc_buffer::kinds::Owned;
@@ -80,5 +80,5 @@ fn passed(rt: &impl Wait, alloc: Global, heap: Heap<'_>) -> Option<usize> {
 fn ended(rt: HostRuntime) {
     let heap = CountingHeap::new(rt.alloc());
     let passed = passed(&rt, rt.alloc(), &heap);
-    assert!(rt; passed == Some(ROWS.len()), "{passed:?}");
+    assert!(rt; passed == Some(ROWS.len()));
 }

@@ -3,8 +3,6 @@
 #![tactic(auto)]
 
 #[cfg(test)]
-mod buffers;
-#[cfg(test)]
 mod commands;
 #[cfg(test)]
 mod ended;
@@ -12,14 +10,6 @@ mod ended;
 mod kinds;
 #[cfg(test)]
 mod needs;
-#[cfg(test)]
-mod several;
-#[cfg(test)]
-mod small;
 pub mod tables;
 #[cfg(test)]
-mod vectors;
-#[cfg(test)]
-mod writers;
-#[cfg(test)]
-mod zeros;
+mod texts;

@@ -42,6 +42,12 @@ pub const SCRIPTS: &[Row] = &[
         layouts: ALL,
     },
     Row {
+        script: "slice 41\nclone 0\nclone 1\nclone 2\nclone 3\nshow 3\nshow 4\ndrop 0\nclone 1\n\
+                 show 4\n",
+        replies: "h0\nh1\nh2\nh3\nh4\n41\n41\nok\nh5\n41\n",
+        layouts: ALL,
+    },
+    Row {
         script: "slice 48656c6c6f20776f726c64\nto 0 6\nshow 0\nshow 1\noff 0 0\nshow 0\nshow 2\n\
                  len 0\nadv 2 6\n",
         replies: "h0\nh1\n776f726c64\n48656c6c6f20\nh2\n-\n776f726c64\n0\nout of range\n",

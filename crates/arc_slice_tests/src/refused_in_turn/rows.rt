@@ -119,10 +119,13 @@ const ARRAY: &str = "aaaaaaaaaaaaaaaaaaaaaaaaaaaaaaa";
 /// The first 23 of the letters.
 const TWENTY_THREE: &str = "abcdefghijklmnopqrstuvw";
 
+/// The first 30.
+const THIRTY: &str = "abcdefghijklmnopqrstuvwxyzabcd";
+
 /// The first 22.
 const TWENTY_TWO: &str = "abcdefghijklmnopqrstuv";
 
-/// 31 bytes stand on a block, which clones and cuts share.
+/// 31 bytes stand on a block, which clones and cuts share; none lie in the window.
 const LONG: &[Line] = &[
     (Call::Make(Make::Slice(LETTERS)), Reply::Done),
     (Call::Ask(0, Ask::IsInline), Reply::No),
@@ -136,6 +139,8 @@ const LONG: &[Line] = &[
     (Call::Ask(2, Ask::IsInline), Reply::No),
     (Call::Advance(2, 1), Reply::Done),
     (Call::Ask(2, Ask::Show("c")), Reply::Done),
+    (Call::Make(Make::Slice("")), Reply::Done),
+    (Call::Ask(3, Ask::IsInline), Reply::Yes),
 ];
 
 /// So do 31 items of an array, which comes back where memory is refused; 22 lie in the window.
@@ -161,6 +166,8 @@ const VECTORS: &[Line] = &[
     (Call::Turn(2, Turn::TakeVec(LETTERS)), Reply::Done),
     (Call::Make(Make::Vec(LETTERS)), Reply::Done),
     (Call::Ask(3, Ask::Show(LETTERS)), Reply::Done),
+    (Call::Make(Make::Vec("")), Reply::Done),
+    (Call::Ask(4, Ask::IsInline), Reply::No),
 ];
 
 /// The same of text.
@@ -194,6 +201,8 @@ const PAST_22: &[Line] = &[
     (Call::Make(Make::Str(TWENTY_THREE)), Reply::Done),
     (Call::Ask(3, Ask::IsInline), Reply::No),
     (Call::Ask(3, Ask::Show(TWENTY_THREE)), Reply::Done),
+    (Call::Make(Make::Str(TWENTY_TWO)), Reply::Done),
+    (Call::Ask(4, Ask::IsInline), Reply::Yes),
 ];
 
 /// Where 30 are, these lie in the window, and ask for no memory.
@@ -206,6 +215,10 @@ const PAST_30: &[Line] = &[
     (Call::Ask(2, Ask::Show(TWENTY_THREE)), Reply::Done),
     (Call::Make(Make::Str(LETTERS)), Reply::Done),
     (Call::Ask(3, Ask::IsInline), Reply::No),
+    (Call::Make(Make::Slice(THIRTY)), Reply::Done),
+    (Call::Ask(4, Ask::IsInline), Reply::Yes),
+    (Call::Make(Make::Slice(LETTERS)), Reply::Done),
+    (Call::Ask(5, Ask::IsInline), Reply::No),
 ];
 
 /// Rows under each layout.

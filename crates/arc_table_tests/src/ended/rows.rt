@@ -136,6 +136,57 @@ const ENDED: Row = Row {
     living: [1; 4],
 };
 
+/// Values are moved in and cut, and never copied: a list to be copied is dropped, and none is
+/// shown.
+const NOT_COPIED: Row = Row {
+    lines: &[
+        (Call::Slice, Said::Kind),
+        (Call::MSlice, Said::Kind),
+        (Call::Small, Said::Kind),
+        (Call::Zero(1), Said::Kind),
+        (Call::New, Said::New(0)),
+        (Call::Push(0, 0), Said::Ok),
+        (Call::Push(0, 1), Said::Ok),
+        (Call::Ext(0), Said::Kind),
+        (Call::Show(0), Said::Kind),
+        (Call::Freeze(0), Said::Ok),
+        (Call::Sub(0, 1, 2), Said::New(1)),
+        (Call::Len(1), Said::Number(1)),
+        (Call::Uniq(1), Said::No),
+        (Call::Drop(0), Said::Ok),
+    ],
+    living: [2, 2, 1, 1],
+};
+
+/// They have one writer.
+const ONE_WRITER: Row = Row {
+    lines: &[
+        (Call::Cap(2), Said::New(0)),
+        (Call::Share(0), Said::Kind),
+        (Call::Unique(0), Said::Kind),
+        (Call::Join(0, 0), Said::Kind),
+        (Call::Join(0, 1), Said::NoWindow),
+    ],
+    living: [1; 4],
+};
+
+/// A vector and a buffer come back as all of their values alone.
+const PARTS: Row = Row {
+    lines: &[
+        (Call::Vec, Said::New(0)),
+        (Call::Sub(0, 1, 2), Said::New(1)),
+        (Call::Drop(0), Said::Ok),
+        (Call::Take(1), Said::Refused),
+        (Call::Drop(1), Said::Ok),
+        (Call::MBuf, Said::New(2)),
+        (Call::Push(2, 3), Said::Ok),
+        (Call::Freeze(2), Said::Ok),
+        (Call::Trunc(2, 3), Said::Ok),
+        (Call::TakeBuf(2), Said::Refused),
+    ],
+    living: [2; 4],
+};
+
 /// All rows.
 pub const ROWS: &[Row] = &[
     WRITTEN,
@@ -146,4 +197,7 @@ pub const ROWS: &[Row] = &[
     BUFFER_WRITTEN,
     RAW,
     ENDED,
+    NOT_COPIED,
+    ONE_WRITER,
+    PARTS,
 ];

@@ -54,6 +54,16 @@ fn first_three<'a>(heap: Heap<'a>, values: &Values) -> Option<Items<'a>> {
 /// A command without what it brings. Windows go by their numbers, and values by theirs.
 #[derive(Clone, Copy)]
 pub enum Call {
+    /// A copy of the first three values, to be read.
+    Slice,
+    /// The same, to be written.
+    MSlice,
+    /// The same, as a small window.
+    Small,
+    /// A copy of the first three values behind the others.
+    Ext(usize),
+    /// A writer over so many zeros.
+    Zero(usize),
     /// A vector of the first three values.
     Vec,
     /// A buffer of them, to be read, with metadata.
@@ -64,6 +74,8 @@ pub enum Call {
     Raw,
     /// A writer on nothing.
     New,
+    /// A writer with so many places.
+    Cap(usize),
     /// This value behind the others.
     Push(usize, usize),
     /// Room for so many more.
@@ -76,8 +88,14 @@ pub enum Call {
     To(usize, usize),
     Adv(usize, usize),
     Trunc(usize, usize),
+    Show(usize),
+    Len(usize),
+    Uniq(usize),
     Freeze(usize),
     Mut(usize),
+    Share(usize),
+    Unique(usize),
+    Join(usize, usize),
     Drop(usize),
     Take(usize),
     TakeBox(usize),
@@ -88,6 +106,20 @@ pub enum Call {
 
 /// A command, and what it is to be answered.
 pub type Line = (Call, Said);
+
+/// A command that brings values to be copied, unless memory for them is refused.
+fn copying<'a>(heap: Heap<'a>, values: &Values, call: Call) -> Option<Sent<'a>> {
+    match call {
+        Call::Slice => Some(Cmd::Slice(first_three(heap, values)?)),
+        Call::MSlice => Some(Cmd::MSlice(first_three(heap, values)?)),
+        Call::Small => Some(Cmd::Small(first_three(heap, values)?)),
+        Call::Ext(window) => {
+            let items = first_three(heap, values)?;
+            Some(Cmd::Ext { window, items })
+        }
+        _ => None,
+    }
+}
 
 /// A command that brings values, unless memory for them is refused.
 fn bringing<'a>(heap: Heap<'a>, values: &Values, call: Call) -> Option<Sent<'a>> {
@@ -107,7 +139,7 @@ fn bringing<'a>(heap: Heap<'a>, values: &Values, call: Call) -> Option<Sent<'a>>
             let item = Arc::try_clone(values.get(value)?).ok()?;
             Some(Cmd::Push { window, item })
         }
-        _ => None,
+        _ => copying(heap, values, call),
     }
 }
 
@@ -115,6 +147,8 @@ fn bringing<'a>(heap: Heap<'a>, values: &Values, call: Call) -> Option<Sent<'a>>
 pub fn command<'a>(heap: Heap<'a>, values: &Values, call: Call) -> Option<Sent<'a>> {
     let told = match call {
         Call::New => Cmd::New,
+        Call::Cap(places) => Cmd::Cap { places },
+        Call::Zero(count) => Cmd::Zero { count },
         Call::Res(window, additional) => Cmd::Res { window, additional },
         Call::Room(window) => Cmd::Room { window },
         Call::Clone(window) => Cmd::Clone { window },
@@ -123,8 +157,14 @@ pub fn command<'a>(heap: Heap<'a>, values: &Values, call: Call) -> Option<Sent<'
         Call::To(window, at) => Cmd::To { window, at },
         Call::Adv(window, by) => Cmd::Adv { window, by },
         Call::Trunc(window, len) => Cmd::Trunc { window, len },
+        Call::Show(window) => Cmd::Show { window },
+        Call::Len(window) => Cmd::Len { window },
+        Call::Uniq(window) => Cmd::Uniq { window },
         Call::Freeze(window) => Cmd::Freeze { window },
         Call::Mut(window) => Cmd::Mut { window },
+        Call::Share(window) => Cmd::Share { window },
+        Call::Unique(window) => Cmd::Unique { window },
+        Call::Join(window, other) => Cmd::Join { window, other },
         Call::Drop(window) => Cmd::Drop { window },
         Call::Take(window) => Cmd::Take { window },
         Call::TakeBox(window) => Cmd::TakeBox { window },
