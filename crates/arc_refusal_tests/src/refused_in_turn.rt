@@ -7,7 +7,6 @@ use arc_block::layout::{
 use call::Line;
 use counting_heap::CountingHeap;
 use kept::{TAKINGS, Taking, takes};
-use moves::{WAYS, Way, has_gone};
 use rows::{ALL, BY_ITSELF, COUNTED, TO_BLOCK, VECTORS, WITH_NOTHING, WITHOUT_NOTHING};
 use run::run;
 use std::alloc::{AllocError, Global};
@@ -21,7 +20,6 @@ mod call;
 mod change;
 mod kept;
 mod make;
-mod moves;
 mod over;
 mod part;
 mod rows;
@@ -130,20 +128,6 @@ fn missed_by_row(
     ])
 }
 
-/// Whether a window goes a way with each request refused in turn, at least one of them.
-fn goes_in_turn(rt: &impl Wait, heap: Heap<'_>, way: Way) -> bool {
-    for request in 1..1000u64 {
-        heap.refuse(request);
-        if (has_gone(rt, heap, way), heap.pieces()) != (Some(true), 0) {
-            return false;
-        }
-        if heap.refusals() == 0 {
-            return request > 1;
-        }
-    }
-    false
-}
-
 /// Whether a call takes all that comes with each request refused in turn, at least one of them.
 fn takes_in_turn(heap: Heap<'_>, taking: Taking) -> bool {
     for request in 1..1000u64 {
@@ -158,21 +142,15 @@ fn takes_in_turn(heap: Heap<'_>, taking: Taking) -> bool {
     false
 }
 
-/// How many ways a window goes, and how many calls take all that comes.
-fn counted(rt: &impl Wait, heap: Heap<'_>) -> [usize; 2] {
-    let mut ways = 0usize;
-    for way in WAYS {
-        if goes_in_turn(rt, heap, *way) {
-            ways = ways.saturating_add(1);
-        }
-    }
-    let mut takings = 0usize;
+/// How many calls take all that comes.
+fn takings_counted(heap: Heap<'_>) -> usize {
+    let mut count = 0usize;
     for taking in TAKINGS {
         if takes_in_turn(heap, *taking) {
-            takings = takings.saturating_add(1);
+            count = count.saturating_add(1);
         }
     }
-    [ways, takings]
+    count
 }
 
 /// Whether a row of texts goes as it is to go with each request refused in turn, at least one of
@@ -218,8 +196,9 @@ fn refused_in_turn(rt: HostRuntime) -> Result<(), Fail> {
     let heap = CountingHeap::new(rt.alloc());
     assert!(rt; missed_by_layout(&rt, rt.alloc(), &heap)? == [None; 7]);
     assert!(rt; missed_by_row(&rt, rt.alloc(), &heap)? == [None; 10]);
-    assert!(rt; counted(&rt, &heap) == [WAYS.len(), TAKINGS.len()]);
+    assert!(rt; takings_counted(&heap) == TAKINGS.len());
     assert!(rt; texts_counted::<DefaultLayout>(&rt, rt.alloc(), &heap)? == TEXTS.len());
+    assert!(rt; texts_counted::<BoxedSliceLayout>(&rt, rt.alloc(), &heap)? == TEXTS.len());
     assert!(rt; texts_counted::<VecLayout>(&rt, rt.alloc(), &heap)? == TEXTS.len());
     Ok(())
 }

@@ -1,8 +1,10 @@
 //! Items that are dropped one by one, callers' buffers and metadata, over a heap that counts:
 //! whichever request for memory is refused, each is dropped once or comes back, and all memory is
 //! given back.
-use crate::living::{Values, first_three, living, values};
+use crate::living::{Values, all_five, first_three, living, values};
+use crate::shelf::{Shelf, filled};
 use arc_block::layout::{DefaultLayout, DefaultLayoutMut};
+use arc_buffer::buffer::AsMutBuffer;
 use arc_buffer::kinds::Owned;
 use arc_owners::error::TryReserveError;
 use arc_read::slice::ArcSlice;
@@ -14,9 +16,16 @@ use std::test::Fail;
 
 type Heap<'a> = &'a CountingHeap<Global>;
 
-type Reader<'a> = ArcSlice<Owned<Arc<u8>>, DefaultLayout, Vec<Arc<u8>>, Arc<u8>, Heap<'a>>;
+type Reader<'a> = ArcSlice<Owned<Arc<u8>>, DefaultLayout, AsMutBuffer<Shelf>, Arc<u8>, Heap<'a>>;
 
-type Writer<'a> = ArcSliceMut<Owned<Arc<u8>>, DefaultLayoutMut, 1, Vec<Arc<u8>>, Arc<u8>, Heap<'a>>;
+type Writer<'a> = ArcSliceMut<
+    Owned<Arc<u8>>,
+    DefaultLayoutMut,
+    1,
+    AsMutBuffer<Shelf>,
+    Arc<u8>,
+    Heap<'a>,
+>;
 
 /// What a window is made of and how it ends.
 #[derive(Clone, Copy)]
@@ -25,27 +34,39 @@ enum Row {
     CutShort,
     /// A writer whose items move to a larger block.
     Grown,
-    /// A frozen window that is cut, and ends beside others.
+    /// A writer to which an iterator brings items.
+    Extended,
+    /// A writer that is cut short and frozen, and ends beside others.
     Frozen,
     /// Items that are taken back as an array.
     Array,
     /// Items that are taken back as their vector.
     Vector,
+    /// A part of a vector, which isn't given for it.
+    Part,
     /// A buffer with metadata beside a clone.
     Metadata,
     /// A buffer that is taken back.
     Buffer,
+    /// A writer over a buffer, which is cut short.
+    BufferCut,
+    /// A writer over a buffer, which is frozen and split.
+    BufferFrozen,
 }
 
 /// All rows.
 const ROWS: &[Row] = &[
     Row::CutShort,
     Row::Grown,
+    Row::Extended,
     Row::Frozen,
     Row::Array,
     Row::Vector,
+    Row::Part,
     Row::Metadata,
     Row::Buffer,
+    Row::BufferCut,
+    Row::BufferFrozen,
 ];
 
 /// How many owners there are of values of which the first three are somewhere else too.
@@ -110,25 +131,42 @@ fn grown(heap: Heap<'_>, values: &Values) -> Option<bool> {
     Some((sizes, living(values)) == ([8, 2, 2], [2; 5]))
 }
 
-/// Whether a window, its clone and what is split off of it keep all items until the last one ends.
+/// Whether a window has all five items that an iterator brings. Where memory is refused it keeps
+/// what it had taken, the item that was refused comes back, and the others go with the iterator.
+fn extended(heap: Heap<'_>, values: &Values) -> Option<bool> {
+    let mut window = Writer::new(heap);
+    let (e, back) = match window.try_extend(all_five(values)?) {
+        Ok(()) => return Some(living(values) == [2; 5]),
+        Err(refused) => refused,
+    };
+    let with = living(values);
+    drop(back);
+    let told = (window.len(), e, with, living(values));
+    let none = (0, TryReserveError::AllocError, [2, 1, 1, 1, 1], [1; 5]);
+    let four = (4, TryReserveError::AllocError, [2; 5], [2, 2, 2, 2, 1]);
+    Some(told == none || told == four)
+}
+
+/// Whether a window, its clone and a part of it keep all items until the last one ends.
 fn ended_in_turn(rt: &impl Wait, window: Reader<'_>, values: &Values) -> Option<bool> {
-    let mut window = window;
     let clone = window.try_clone(rt).ok()?;
-    if window.check_at(1).is_err() {
+    if window.check_range(1, 2).is_err() {
         return None;
     }
-    let back = window.try_split_off(rt, 1).ok()?;
+    let part = window.try_subslice(rt, 1, 2).ok()?;
     drop(window);
     let one = living(values);
     drop(clone);
     let two = living(values);
-    drop(back);
+    drop(part);
     Some([one, two, living(values)] == [THREE, THREE, [1; 5]])
 }
 
+/// The item behind the first two stays in the block until the last owner ends.
 fn frozen(rt: &impl Wait, heap: Heap<'_>, values: &Values) -> Option<bool> {
-    let window = written(heap, values)?.try_freeze::<DefaultLayout>().ok()?;
-    ended_in_turn(rt, window, values)
+    let mut window = written(heap, values)?;
+    window.truncate(2);
+    ended_in_turn(rt, window.try_freeze::<DefaultLayout>().ok()?, values)
 }
 
 /// Whether the items that come back are the window's, and are then the caller's.
@@ -171,23 +209,35 @@ fn vector(rt: &impl Wait, heap: Heap<'_>, values: &Values) -> Option<bool> {
     Some([beside, with, living(values)] == [THREE, THREE, [1; 5]])
 }
 
-/// A window of a buffer of the first three values with the fifth as metadata. Where memory is
-/// refused both come back, and go in again.
+/// Whether a part of a vector comes back where the vector is asked for, and drops all items.
+fn part(rt: &impl Wait, heap: Heap<'_>, values: &Values) -> Option<bool> {
+    let window = of_vector(heap, values)?;
+    if window.check_range(1, 2).is_err() {
+        return None;
+    }
+    let part = window.try_subslice(rt, 1, 2).ok()?;
+    drop(window);
+    let part = part.try_into_vec().err()?;
+    let with = living(values);
+    drop(part);
+    Some((with, living(values)) == (THREE, [1; 5]))
+}
+
+/// A window of a buffer with metadata. Where memory is refused both come back, and go in again.
 fn of_buffer<'a>(alloc: Global, heap: Heap<'a>, values: &Values) -> Option<Reader<'a>> {
-    let items = Vec::from_array(alloc, first_three(values)?).ok()?;
-    let metadata = Arc::try_clone(&values[4]).ok()?;
-    match Reader::try_from_buffer_with_metadata(heap, items, metadata) {
+    let (buffer, metadata) = filled(alloc, values)?;
+    match Reader::try_from_buffer_with_metadata(heap, buffer, metadata) {
         Ok(window) => Some(window),
-        Err((items, metadata)) => {
-            if living(values) != [2, 2, 2, 1, 2] {
+        Err((buffer, metadata)) => {
+            if living(values) != [2; 5] {
                 return None;
             }
-            Reader::try_from_buffer_with_metadata(heap, items, metadata).ok()
+            Reader::try_from_buffer_with_metadata(heap, buffer, metadata).ok()
         }
     }
 }
 
-/// Whether both windows over a buffer have its metadata, and that and the items are dropped with
+/// Whether both windows over a buffer have its metadata, and that and the buffer are dropped with
 /// the second one.
 fn metadata(rt: &impl Wait, alloc: Global, heap: Heap<'_>, values: &Values) -> Option<bool> {
     let window = of_buffer(alloc, heap, values)?;
@@ -196,15 +246,56 @@ fn metadata(rt: &impl Wait, alloc: Global, heap: Heap<'_>, values: &Values) -> O
     drop(window);
     let beside = living(values);
     drop(clone);
-    Some((have, beside, living(values)) == ([true; 2], [2, 2, 2, 1, 2], [1; 5]))
+    Some((have, beside, living(values)) == ([true; 2], [2; 5], [1; 5]))
 }
 
-/// Whether a buffer comes back with its items, and its metadata is dropped.
+/// Whether a buffer comes back whole, and its metadata is dropped.
 fn buffer(alloc: Global, heap: Heap<'_>, values: &Values) -> Option<bool> {
-    let items = of_buffer(alloc, heap, values)?.try_into_buffer().ok()?;
+    let buffer = of_buffer(alloc, heap, values)?.try_into_buffer().ok()?;
     let with = living(values);
-    drop(items);
-    Some((with, living(values)) == (THREE, [1; 5]))
+    drop(buffer);
+    Some((with, living(values)) == ([2, 2, 2, 2, 1], [1; 5]))
+}
+
+/// A writer over a buffer with metadata. Where memory is refused both come back, and go in again.
+fn over_buffer<'a>(alloc: Global, heap: Heap<'a>, values: &Values) -> Option<Writer<'a>> {
+    let (buffer, metadata) = filled(alloc, values)?;
+    match Writer::try_from_buffer_with_metadata(heap, buffer, metadata) {
+        Ok(window) => Some(window),
+        Err((buffer, metadata)) => {
+            if living(values) != [2; 5] {
+                return None;
+            }
+            Writer::try_from_buffer_with_metadata(heap, buffer, metadata).ok()
+        }
+    }
+}
+
+/// Whether all items stay in a buffer whose writer is cut to one, and go with it.
+fn buffer_cut(alloc: Global, heap: Heap<'_>, values: &Values) -> Option<bool> {
+    let mut window = over_buffer(alloc, heap, values)?;
+    window.truncate(1);
+    let with = living(values);
+    drop(window);
+    Some((with, living(values)) == ([2; 5], [1; 5]))
+}
+
+/// Whether a buffer whose writer was frozen goes with the last part of it.
+fn split(rt: &impl Wait, window: Reader<'_>, values: &Values) -> Option<bool> {
+    let mut window = window;
+    if window.check_at(1).is_err() {
+        return None;
+    }
+    let back = window.try_split_off(rt, 1).ok()?;
+    drop(window);
+    let beside = living(values);
+    drop(back);
+    Some((beside, living(values)) == ([2; 5], [1; 5]))
+}
+
+fn buffer_frozen(rt: &impl Wait, alloc: Global, heap: Heap<'_>, values: &Values) -> Option<bool> {
+    let window = over_buffer(alloc, heap, values)?;
+    split(rt, window.try_freeze::<DefaultLayout>().ok()?, values)
 }
 
 /// Whether all went as it is to go.
@@ -212,11 +303,15 @@ fn run(rt: &impl Wait, alloc: Global, heap: Heap<'_>, values: &Values, row: Row)
     match row {
         Row::CutShort => cut_short(heap, values),
         Row::Grown => grown(heap, values),
+        Row::Extended => extended(heap, values),
         Row::Frozen => frozen(rt, heap, values),
         Row::Array => array(heap, values),
         Row::Vector => vector(rt, heap, values),
+        Row::Part => part(rt, heap, values),
         Row::Metadata => metadata(rt, alloc, heap, values),
         Row::Buffer => buffer(alloc, heap, values),
+        Row::BufferCut => buffer_cut(alloc, heap, values),
+        Row::BufferFrozen => buffer_frozen(rt, alloc, heap, values),
     }
 }
 

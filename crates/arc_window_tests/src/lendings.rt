@@ -52,14 +52,18 @@ fn over<'a, B: BufferMut<u8> + Drop>(
     }
 }
 
-/// Whether two of four bytes go into the places that are left, and the buffer comes back full.
+/// Whether two of four bytes go into the places that are left, no byte is asked for behind the one
+/// that is refused, and the buffer comes back full.
 fn no_room(alloc: Global, heap: Heap<'_>) -> Option<bool> {
     let bytes = vector(alloc, 5, &[1, 2, 3])?;
     let mut window = over(heap, NoRoom { bytes }, &[1, 2, 3])?;
-    let refusal = window.try_extend(4..8u8).err()?;
+    let mut coming = 4..8u8;
+    let refusal = window.try_extend(&mut coming).err()?;
+    let told = (refusal, coming.next());
     let buffer = window.try_into_buffer().ok()?;
     let full = [1, 2, 3, 4, 5];
-    Some((refusal, buffer.bytes.as_slice()) == ((TryReserveError::Unsupported, 6), full.as_slice()))
+    let wanted = ((TryReserveError::Unsupported, 6), Some(7));
+    Some((told, buffer.bytes.as_slice()) == (wanted, full.as_slice()))
 }
 
 /// Whether a byte is refused once, and then taken.
@@ -73,7 +77,8 @@ fn later(alloc: Global, heap: Heap<'_>) -> Option<bool> {
     Some((refusal, window.as_slice()) == ((TryReserveError::AllocError, 2), both.as_slice()))
 }
 
-/// Whether a byte is refused behind two that are lent, and goes in once the first has gone.
+/// Whether a byte is refused behind two that are lent, and goes in once the first has gone, and the
+/// first is then set in the buffer itself.
 fn lent(alloc: Global, heap: Heap<'_>) -> Option<bool> {
     let bytes = vector(alloc, 2, &[1, 2])?;
     let buffer = AsMutBuffer::new(Lent { bytes, number: 0 });
@@ -84,9 +89,12 @@ fn lent(alloc: Global, heap: Heap<'_>) -> Option<bool> {
     }
     window.advance(1);
     window.try_push(3).ok()?;
+    if let Some(first) = window.get_mut(0) {
+        *first = 9;
+    }
     let places = window.capacity();
     let buffer = window.try_into_buffer().ok()?;
-    let both = [2, 3];
+    let both = [9, 3];
     Some(
         (refusal, places, buffer.as_slice())
             == ((TryReserveError::Unsupported, 3), 2, both.as_slice()),

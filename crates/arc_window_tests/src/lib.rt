@@ -6,8 +6,6 @@
 #[cfg(test)]
 mod apart;
 #[cfg(test)]
-mod borrows;
-#[cfg(test)]
 mod callers;
 #[cfg(test)]
 mod extend;
@@ -34,15 +32,11 @@ mod reader_adapters;
 #[cfg(test)]
 mod readers;
 #[cfg(test)]
-mod refused_buffers;
-#[cfg(test)]
-mod seen;
-#[cfg(test)]
 mod several;
 #[cfg(test)]
-mod static_readers;
+mod shelf;
 #[cfg(test)]
-mod taken_back;
+mod static_readers;
 #[cfg(test)]
 mod takers;
 #[cfg(test)]

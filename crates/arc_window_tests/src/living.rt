@@ -44,3 +44,10 @@ pub fn last_two(values: &Values) -> Option<[Arc<u8>; 2]> {
         Arc::try_clone(&values[4]).ok()?,
     ])
 }
+
+/// Other owners of all five.
+pub fn all_five(values: &Values) -> Option<[Arc<u8>; 5]> {
+    let [first, second, third] = first_three(values)?;
+    let [fourth, last] = last_two(values)?;
+    Some([first, second, third, fourth, last])
+}

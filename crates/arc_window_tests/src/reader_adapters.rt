@@ -11,7 +11,7 @@ use std::alloc::Global;
 use std::collections::{BTreeMap, HashMap};
 use std::convert::{AsSlice, AsStr};
 use std::hash::{DefaultHasher, Hash, Hasher};
-use std::io::{ErrorKind, Read};
+use std::io::Read;
 use std::sync::Wait;
 use std::test::Fail;
 
@@ -37,14 +37,19 @@ where
     debugs(alloc, &window, text)
 }
 
-/// Whether `{:?}`, `{}` and `{}` in a column of a window over this text are these.
-fn text_prints(alloc: Global, text: &str, debug: &str, wide: &str) -> Option<[bool; 3]> {
+/// Whether `{}` and `{}` in a column of a window over this text are these.
+fn text_prints(alloc: Global, text: &str, wide: &str) -> Option<[bool; 2]> {
     let window: ArcSlice<Text> = ArcSlice::try_from_str(alloc, text).ok()?;
     Some([
-        debugs(alloc, &window, debug)?,
         displays(alloc, &window, text)?,
         displays_right(alloc, &window, wide)?,
     ])
+}
+
+/// Whether `{:?}` of the second and third of three bytes, which are borrowed, is this text.
+fn part_prints(alloc: Global, text: &str) -> Option<bool> {
+    let window: ArcSlice<Plain<u8>> = ArcSlice::try_from_slice(alloc, b"abc").ok()?;
+    debugs(alloc, &window.borrow(1, 3), text)
 }
 
 /// Whether `{}` of a window over this byte text is that text, and in columns of five, without and
@@ -72,14 +77,10 @@ fn hash_under<L: Layout>(alloc: Global, bytes: &[u8]) -> Option<u64> {
     Some(hash_of(&window))
 }
 
-/// A window over text beside two texts.
-fn beside_texts(alloc: Global, text: &str, same: &str, other: &str) -> Option<[bool; 3]> {
+/// Whether a window over text lends it.
+fn text_lent(alloc: Global, text: &str) -> Option<bool> {
     let window: ArcSlice<Text> = ArcSlice::try_from_str(alloc, text).ok()?;
-    Some([
-        window.eq_str(same),
-        window.eq_str(other),
-        AsStr::as_str(&window) == same,
-    ])
+    Some(AsStr::as_str(&window) == text)
 }
 
 /// A window of three bytes is read into two places, three times: the counts, what came and what is
@@ -95,18 +96,6 @@ fn read_thrice(alloc: Global) -> Option<([usize; 3], [u8; 2], [usize; 3])> {
     Some(([first, second, third], places, [left, after, window.len()]))
 }
 
-/// A window of three bytes fills two places, and then has too few for them: whether that is said to
-/// be the end, what stands in the places, and what is left after each.
-fn read_exactly(alloc: Global) -> Option<(bool, [u8; 2], [usize; 2])> {
-    let mut window: ArcSlice<Plain<u8>> = ArcSlice::try_from_slice(alloc, &[1, 2, 3]).ok()?;
-    let mut places = [0; 2];
-    window.read_exact(&mut places).ok()?;
-    let left = window.len();
-    let error = window.read_exact(&mut places).err()?;
-    let is_end = error.kind() == ErrorKind::UnexpectedEof;
-    Some((is_end, places, [left, window.len()]))
-}
-
 /// Two numbers of two bytes each, and a byte that is passed over between them; what is left.
 fn numbers(alloc: Global, bytes: &[u8]) -> Option<([u16; 2], usize)> {
     let mut window: ArcSlice<Plain<u8>> = ArcSlice::try_from_slice(alloc, bytes).ok()?;
@@ -119,24 +108,11 @@ fn numbers(alloc: Global, bytes: &[u8]) -> Option<([u16; 2], usize)> {
     Some(([first, second], window.chunk().len()))
 }
 
-/// The same of byte text, whose first byte is read.
-fn first_byte(alloc: Global, bytes: &[u8]) -> Option<(u8, usize)> {
-    let mut window: ArcSlice<ByteText> = ArcSlice::try_from_slice(alloc, bytes).ok()?;
-    if window.remaining() < 1 {
-        return None;
-    }
-    let byte = window.get_u8();
-    Some((byte, window.chunk().len()))
-}
-
 #[test]
 fn read_from(rt: HostRuntime) -> Result<(), Fail> {
     assert!(rt; read_thrice(rt.alloc()) == Some(([2, 1, 0], [3, 2], [1, 0, 0])));
-    assert!(rt; read_exactly(rt.alloc()) == Some((true, [3, 2], [1, 0])));
     let told = numbers(rt.alloc(), &[1, 2, 9, 3, 4, 5]);
     assert!(rt; told == Some(([0x0102, 0x0304], 1)));
-    assert!(rt; numbers(rt.alloc(), &[1, 2, 9, 3]) == None);
-    assert!(rt; first_byte(rt.alloc(), b"ab") == Some((97, 1)));
     Ok(())
 }
 
@@ -213,10 +189,8 @@ fn compared_and_lent(rt: HostRuntime) -> Result<(), Fail> {
         hash_under::<RawLayout>(rt.alloc(), b"abc"),
     ];
     assert!(rt; hash.is_some() && told == [hash; 4]);
-    let told = beside_texts(rt.alloc(), "aéb", "aéb", "aeb");
-    assert!(rt; told == Some([true, false, true]));
+    assert!(rt; text_lent(rt.alloc(), "aéb") == Some(true));
     assert!(rt; lent(rt.alloc(), &[4, 7, 5]) == Some((16, [Some(7), Some(7)], 3)));
-    assert!(rt; lent(rt.alloc(), &[]) == Some((0, [None, None], 0)));
     assert!(rt; looked_up(rt.alloc(), b"key", b"key") == Some([Some(5), Some(6)]));
     assert!(rt; looked_up(rt.alloc(), b"key", b"kex") == Some([None; 2]));
     let text = "Frame { number: 1, body: b\"ab\" }";
@@ -240,7 +214,6 @@ fn laid_out(alloc: Global, bytes: &[u8], text: &str, framed: &str) -> Option<[bo
 fn printed(rt: HostRuntime) -> Result<(), Fail> {
     let alloc = rt.alloc();
     assert!(rt; in_hex(alloc, &[10, 255], "0aff", "0AFF") == Some([true; 2]));
-    assert!(rt; in_hex(alloc, &[], "", "") == Some([true; 2]));
     let told = [
         items_debug::<Plain<u16>>(alloc, &[1, 20], "[1, 20]"),
         items_debug::<Plain<i64>>(alloc, &[-1], "[-1]"),
@@ -249,10 +222,8 @@ fn printed(rt: HostRuntime) -> Result<(), Fail> {
         items_debug::<Plain<Option<u8>>>(alloc, &[None, Some(1)], "[None, Some(1)]"),
     ];
     assert!(rt; told == [Some(true); 5]);
-    let told = text_prints(alloc, "aéb", "\"aéb\"", "  aéb");
-    assert!(rt; told == Some([true; 3]));
-    let told = text_prints(alloc, "a\n\"c", "\"a\\n\\\"c\"", " a\n\"c");
-    assert!(rt; told == Some([true; 3]));
+    assert!(rt; text_prints(alloc, "aéb", "  aéb") == Some([true; 2]));
+    assert!(rt; part_prints(alloc, "b\"bc\"") == Some(true));
     let texts = ["aé\u{fffd}", "aé\u{fffd}", "  aé\u{fffd}", "-aé\u{fffd}-"];
     assert!(rt; byte_text_prints(alloc, b"a\xc3\xa9\xff", texts) == Some([true; 4]));
     let framed = "Frame {\n    number: 1,\n    body: b\"ab\",\n}";
@@ -260,13 +231,11 @@ fn printed(rt: HostRuntime) -> Result<(), Fail> {
     Ok(())
 }
 
-/// A window over a vector of these bytes.
-fn over_vector(alloc: Global, bytes: &[u8]) -> Option<Key> {
-    Key::try_from_vec(alloc, Vec::from_slice(alloc, bytes).ok()?).ok()
-}
-
-/// A window over a native block of these bytes.
-fn over_native(alloc: Global, bytes: &[u8]) -> Option<Key> {
+/// A window of these bytes, over a vector or a block of its own.
+fn standing(alloc: Global, is_vector: bool, bytes: &[u8]) -> Option<Key> {
+    if is_vector {
+        return Key::try_from_vec(alloc, Vec::from_slice(alloc, bytes).ok()?).ok();
+    }
     Key::try_from_slice(alloc, bytes).ok()
 }
 
@@ -281,29 +250,27 @@ fn part_beside(rt: &impl Wait, window: Key, other: Key) -> Option<[bool; 2]> {
     Some([part == other, hash_of(&part) == hash_of(&other)])
 }
 
-/// What is told of a part of these bytes beside a window of those: both over native blocks, the
-/// first over a vector, the second, and both.
+/// The same of windows of which either may stand on a vector.
 fn parts_beside(
     rt: &impl Wait,
     alloc: Global,
-    bytes: &[u8],
+    are_vectors: (bool, bool),
     other: &[u8],
-) -> Option<[[bool; 2]; 4]> {
-    Some([
-        part_beside(rt, over_native(alloc, bytes)?, over_native(alloc, other)?)?,
-        part_beside(rt, over_vector(alloc, bytes)?, over_native(alloc, other)?)?,
-        part_beside(rt, over_native(alloc, bytes)?, over_vector(alloc, other)?)?,
-        part_beside(rt, over_vector(alloc, bytes)?, over_vector(alloc, other)?)?,
-    ])
+) -> Option<[bool; 2]> {
+    part_beside(
+        rt,
+        standing(alloc, are_vectors.0, b"xabc")?,
+        standing(alloc, are_vectors.1, other)?,
+    )
 }
 
 /// Where a window's bytes stand plays no part in whether it is equal to another one, nor in its
 /// hash.
 #[test]
 fn parts_compared(rt: HostRuntime) -> Result<(), Fail> {
-    let told = parts_beside(&rt, rt.alloc(), b"xabc", b"abc");
-    assert!(rt; told == Some([[true; 2]; 4]));
-    let told = parts_beside(&rt, rt.alloc(), b"xabc", b"xab");
-    assert!(rt; told == Some([[false; 2]; 4]));
+    for both in [(false, false), (true, false), (false, true), (true, true)] {
+        assert!(rt; parts_beside(&rt, rt.alloc(), both, b"abc") == Some([true; 2]));
+        assert!(rt; parts_beside(&rt, rt.alloc(), both, b"xab") == Some([false; 2]));
+    }
     Ok(())
 }

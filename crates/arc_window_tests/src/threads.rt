@@ -12,14 +12,11 @@ use std::thread::{self, Threads};
 /// Bytes that are read.
 type Bytes = ArcSlice<Plain<u8>>;
 
-/// Texts that are read.
-type Texts = ArcSlice<Owned<String>>;
+/// Texts that are read, beside metadata of a type of their own.
+type Texts = ArcSlice<Owned<String>, DefaultLayout, Vec<String>, Vec<String>>;
 
 /// Texts that are written.
 type TextsMut = ArcSliceMut<Owned<String>, DefaultLayoutMut, 1>;
-
-/// Bytes that are read, beside buffers and metadata of types of their own.
-type Named = ArcSlice<Plain<u8>, DefaultLayout, String, Vec<String>>;
 
 /// Bytes on an `Arc` that is a block by itself.
 type RawBytes = ArcSlice<Plain<u8>, RawLayout>;
@@ -35,23 +32,8 @@ fn texts(alloc: Global) -> Option<[String; 2]> {
     ])
 }
 
-/// A reader of them.
-fn texts_read(alloc: Global) -> Option<Texts> {
-    Texts::try_from_array(alloc, texts(alloc)?).ok()
-}
-
 /// How many items a reader of bytes has in another thread, which ends it, and one here.
 fn bytes_counted(rt: &impl Threads, there: Bytes, here: &Bytes) -> (usize, usize) {
-    thread::join(rt, move || there.len(), || here.len())
-}
-
-/// The same of texts.
-fn texts_counted(rt: &impl Threads, there: Texts, here: &Texts) -> (usize, usize) {
-    thread::join(rt, move || there.len(), || here.len())
-}
-
-/// The same of bytes beside other types of buffers and metadata.
-fn named_counted(rt: &impl Threads, there: Named, here: &Named) -> (usize, usize) {
     thread::join(rt, move || there.len(), || here.len())
 }
 
@@ -69,22 +51,8 @@ fn byte_pushed(rt: &impl Threads, window: ArcBytesMut) -> (ArcBytesMut, bool) {
     pushed
 }
 
-/// A writer of texts that another thread cuts to one.
-fn texts_cut(rt: &impl Threads, window: TextsMut) -> TextsMut {
-    let (cut, ()) = thread::join(
-        rt,
-        move || {
-            let mut window = window;
-            window.truncate(1);
-            window
-        },
-        || (),
-    );
-    cut
-}
-
 /// Whether a thread of a scope has ended a reader and a writer.
-fn ended_there<R: Threads + Wait>(rt: &R, reader: Texts, writer: ArcBytesMut) -> bool {
+fn ended_there<R: Threads + Wait>(rt: &R, reader: Texts, writer: TextsMut) -> bool {
     thread::scope(thread::scope_env(), rt, move |scope| {
         scope
             .spawn(move || {
@@ -146,43 +114,17 @@ fn pushed_told(rt: &impl Threads, alloc: Global, sort: Sort) -> Option<(bool, bo
     Some((is_pushed, bytes.as_slice() == [1, 2, 3].as_slice()))
 }
 
-/// The same of texts.
-fn texts_told<R: Threads + Wait>(rt: &R, alloc: Global) -> Option<((usize, usize), bool)> {
-    let texts = texts_read(alloc)?;
-    let counted = texts_counted(rt, texts.try_clone(rt).ok()?, &texts);
-    Some((counted, texts.is_unique()))
-}
-
-/// The same of bytes beside other types of buffers and metadata.
-fn named_told<R: Threads + Wait>(rt: &R, alloc: Global) -> Option<((usize, usize), bool)> {
-    let named: Named = ArcSlice::try_from_slice(alloc, &[1, 2]).ok()?;
-    let counted = named_counted(rt, named.try_clone(rt).ok()?, &named);
-    Some((counted, named.is_unique()))
-}
-
-/// How many texts a writer has that another thread cut, and whether the first is this one.
-fn first_kept(rt: &impl Threads, alloc: Global, wanted: &str) -> Option<(usize, bool)> {
-    let texts = texts_cut(rt, TextsMut::try_from_array(alloc, texts(alloc)?).ok()?);
-    match texts.as_slice() {
-        [first, ..] => Some((texts.len(), first.as_str() == wanted)),
-        [] => None,
-    }
-}
-
-/// Whether a thread has ended a clone of a reader of texts and a writer, and whether the reader is
-/// alone then.
+/// Whether a thread has ended a clone of a reader of texts and a writer of texts, and whether the
+/// reader is alone then.
 fn ended_told<R: Threads + Wait>(rt: &R, alloc: Global) -> Option<[bool; 2]> {
-    let bytes: ArcBytesMut = ArcSliceMut::try_from_slice(alloc, &[1, 2]).ok()?;
-    let texts = texts_read(alloc)?;
-    let is_ended = ended_there(rt, texts.try_clone(rt).ok()?, bytes);
-    Some([is_ended, texts.is_unique()])
+    let writer = TextsMut::try_from_array(alloc, texts(alloc)?).ok()?;
+    let reader = Texts::try_from_array(alloc, texts(alloc)?).ok()?;
+    let is_ended = ended_there(rt, reader.try_clone(rt).ok()?, writer);
+    Some([is_ended, reader.is_unique()])
 }
 
 #[test]
 fn items_go_to_threads(rt: HostRuntime) -> Result<(), Fail> {
-    let told = [texts_told(&rt, rt.alloc()), named_told(&rt, rt.alloc())];
-    assert!(rt; told == [Some(((2, 2), true)); 2]);
-    assert!(rt; first_kept(&rt, rt.alloc(), "Hello") == Some((1, true)));
     assert!(rt; ended_told(&rt, rt.alloc()) == Some([true; 2]));
     Ok(())
 }

@@ -1,6 +1,6 @@
-//! Vectors of each kind in and out: with places to spare, without places, and of items of no size.
-use arc_block::layout::{AnyBufferLayout, ArcLayout, DefaultLayout, DefaultLayoutMut, VecLayout};
-use arc_buffer::kinds::{Owned, Plain, Text, VecIn, Wraps};
+//! Vectors in and out: with places to spare, and of items of no size.
+use arc_block::layout::DefaultLayoutMut;
+use arc_buffer::kinds::{Owned, Plain, VecIn, Wraps};
 use arc_read::slice::ArcSlice;
 use arc_write::slice_mut::ArcSliceMut;
 use std::alloc::Global;
@@ -24,12 +24,12 @@ fn counted<S: VecIn<Global>>(items: S::Vec, places: usize) -> (usize, bool) {
     (inner.len(), inner.capacity() == places)
 }
 
-fn reader<S: VecIn<Global>, L: AnyBufferLayout>(alloc: Global, items: S::Vec) -> Told
+fn reader<S: VecIn<Global>>(alloc: Global, items: S::Vec) -> Told
 where
     S::Vec: Drop,
 {
     let (items, places) = with_places::<S>(items);
-    let window = ArcSlice::<S, L>::try_from_vec(alloc, items).ok()?;
+    let window = ArcSlice::<S>::try_from_vec(alloc, items).ok()?;
     let (len, is_alone) = (window.len(), window.is_unique());
     match window.try_into_vec() {
         Ok(items) => Some((len, is_alone, Some(counted::<S>(items, places)))),
@@ -70,30 +70,20 @@ fn boxes(alloc: Global) -> Option<Vec<Box<u8>>> {
     Some(boxes)
 }
 
-/// A text of four bytes with five places to spare.
-fn text(alloc: Global) -> Option<String> {
-    let mut text = String::with_capacity(alloc, 9).ok()?;
-    text.push_str("aéb").ok()?;
-    Some(text)
-}
-
 /// What is told of readers of vectors with items, as `Told`.
-fn read(alloc: Global) -> Option<[Told; 4]> {
+fn read(alloc: Global) -> Option<[Told; 2]> {
     Some([
-        reader::<Plain<u8>, DefaultLayout>(alloc, bytes(alloc)?),
-        reader::<Plain<()>, DefaultLayout>(alloc, units(alloc)?),
-        reader::<Owned<Box<u8>>, DefaultLayout>(alloc, boxes(alloc)?),
-        reader::<Text, VecLayout>(alloc, text(alloc)?),
+        reader::<Plain<u8>>(alloc, bytes(alloc)?),
+        reader::<Plain<()>>(alloc, units(alloc)?),
     ])
 }
 
 /// The same of writers.
-fn written(alloc: Global) -> Option<[Told; 4]> {
+fn written(alloc: Global) -> Option<[Told; 3]> {
     Some([
         writer::<Plain<u8>>(alloc, bytes(alloc)?),
         writer::<Plain<()>>(alloc, units(alloc)?),
         writer::<Owned<Box<u8>>>(alloc, boxes(alloc)?),
-        writer::<Text>(alloc, text(alloc)?),
     ])
 }
 
@@ -102,23 +92,10 @@ fn told(len: usize) -> Told {
     Some((len, true, Some((len, true))))
 }
 
-/// A vector without places is a window on nothing, and under a layout without static data a reader
-/// of a block of its own that has no places: either doesn't give a vector back.
+/// A vector comes back with all its places.
 #[test]
 fn in_and_out(rt: HostRuntime) -> Result<(), Fail> {
-    let wanted = Some([told(3), told(3), told(2), told(4)]);
-    assert!(rt; (read(rt.alloc()), written(rt.alloc())) == (wanted, wanted));
-    let alloc = rt.alloc();
-    let told = [
-        reader::<Plain<u8>, DefaultLayout>(alloc, Vec::new(alloc)),
-        reader::<Plain<u8>, ArcLayout<true, false>>(alloc, Vec::new(alloc)),
-        writer::<Plain<u8>>(alloc, Vec::new(alloc)),
-    ];
-    let wanted = [
-        Some((0, false, None)),
-        Some((0, true, None)),
-        Some((0, true, None)),
-    ];
-    assert!(rt; told == wanted);
+    assert!(rt; read(rt.alloc()) == Some([told(3), told(3)]));
+    assert!(rt; written(rt.alloc()) == Some([told(3), told(3), told(2)]));
     Ok(())
 }

@@ -110,9 +110,9 @@ pub enum Turn {
     TakeBuffer(&'static str),
     /// The `Arc` of its buffer, which has these items.
     TakeRaw(&'static str),
-    /// Its items, of which there are none, as an array.
+    /// Its items, of which there are none, as an array; only of one that is written.
     TakeNone,
-    /// Its items as an array of two.
+    /// Its items as an array of two; only of one that is read.
     TakeTwo,
     /// Its items as an array of three, which are these.
     TakeThree([u8; 3]),

@@ -6,6 +6,7 @@ use arc_owners::error::TryReserveError;
 use arc_read::slice::ArcSlice;
 use arc_write::slice_mut::ArcStrMut;
 use std::fmt::{self, Debug, LowerHex, Write};
+use std::ops::Range;
 
 /// A window that writes text, whose memory a heap counts.
 type Text<'a> = ArcStrMut<DefaultLayoutMut, Vec<u8>, (), Heap<'a>>;
@@ -61,11 +62,26 @@ fn has_all(window: &Writer<'_, DefaultLayoutMut>) -> bool {
     (window.as_slice(), window.capacity()) == (COMING.as_slice(), 32)
 }
 
+/// Whether a window takes the item that was refused for want of memory, and then what the iterator
+/// still brings.
+fn goes_on(
+    window: &mut Writer<'_, DefaultLayoutMut>,
+    e: TryReserveError,
+    item: u8,
+    coming: Range<u8>,
+) -> bool {
+    let is_taken = window.try_push(item).is_ok();
+    let are_taken = window.try_extend(coming).is_ok();
+    (e, is_taken, are_taken) == (TryReserveError::AllocError, true, true)
+}
+
+/// No item is asked for behind the one that is refused.
 fn extended(heap: Heap<'_>) -> bool {
     let mut window = Writer::<DefaultLayoutMut>::new(heap);
-    match window.try_extend(COMING.iter().copied()) {
+    let mut coming = 1..21u8;
+    match window.try_extend(&mut coming) {
         Ok(()) => has_all(&window),
-        Err((e, item)) => takes_rest(&mut window, e, item) & has_all(&window),
+        Err((e, item)) => goes_on(&mut window, e, item, coming) & has_all(&window),
     }
 }
 

@@ -27,6 +27,24 @@ const PUSHED: &[Line] = &[
     (Call::Ask(0, Ask::Show("123456789")), Reply::Done),
 ];
 
+/// A first block has room for what is asked, and one that is full grows to twice its places or to
+/// what is needed.
+const ROOM_MADE: &[Line] = &[
+    (Call::Make(Make::Written), Reply::Done),
+    (Call::Change(0, Change::Reserve(3)), Reply::Done),
+    (Call::Ask(0, Ask::Room), Reply::Number(8)),
+    (Call::Ask(0, Ask::Show("")), Reply::Done),
+    (Call::Make(Make::WrittenSlice("ab")), Reply::Done),
+    (Call::Change(1, Change::Extend("cde")), Reply::Done),
+    (Call::Ask(1, Ask::Show("abcde")), Reply::Done),
+    (Call::Ask(1, Ask::Room), Reply::Number(5)),
+    (Call::Make(Make::WrittenSlice("ab")), Reply::Done),
+    (Call::Change(2, Change::Reclaim(1)), Reply::No),
+    (Call::Change(2, Change::Reserve(1)), Reply::Done),
+    (Call::Ask(2, Ask::Show("ab")), Reply::Done),
+    (Call::Ask(2, Ask::Room), Reply::Number(4)),
+];
+
 /// The items move to the front where they fit before it.
 const RECLAIMED: &[Line] = &[
     (Call::Make(Make::WrittenSlice("12345678")), Reply::Done),
@@ -112,7 +130,6 @@ const ARRAYS: &[Line] = &[
     (Call::Turn(1, Turn::Hint), Reply::Done),
     (Call::Turn(0, Turn::TakeThree([1, 2, 3])), Reply::Done),
     (Call::Make(Make::WrittenArray([4, 5, 6])), Reply::Done),
-    (Call::Turn(2, Turn::TakeTwo), Reply::Refused),
     (Call::Turn(2, Turn::TakeThree([4, 5, 6])), Reply::Done),
     (Call::Make(Make::Written), Reply::Done),
     (Call::Turn(3, Turn::TakeNone), Reply::Done),
@@ -153,6 +170,8 @@ const CLONED: &[Line] = &[
 const VECTOR_CUT: &[Line] = &[
     (Call::Make(Make::Vec("0123")), Reply::Done),
     (Call::Change(0, Change::Advance(2)), Reply::Done),
+    (Call::Turn(0, Turn::TakeBoxed("23")), Reply::Refused),
+    (Call::Turn(0, Turn::TakeBuffer("23")), Reply::Refused),
     (Call::Turn(0, Turn::TakeVec("23")), Reply::Done),
     (Call::Make(Make::Vec("23")), Reply::Done),
     (Call::Change(1, Change::Truncate(1)), Reply::Done),
@@ -201,6 +220,7 @@ const VECTOR_WRITTEN: &[Line] = &[
     (Call::Ask(0, Ask::Show("abcdefghij")), Reply::Done),
     (Call::Change(0, Change::Reserve(1000)), Reply::Done),
     (Call::Ask(0, Ask::Show("abcdefghij")), Reply::Done),
+    (Call::Turn(0, Turn::TakeBoxed("abcdefghij")), Reply::Refused),
     (Call::Turn(0, Turn::Freeze), Reply::Done),
     (Call::Part(0, Part::Clone), Reply::Done),
     (Call::Turn(0, Turn::Mut), Reply::Refused),
@@ -234,6 +254,14 @@ const BUFFER: &[Line] = &[
     (Call::Ask(2, Ask::Metadata), Reply::No),
     (Call::Change(2, Change::Advance(1)), Reply::Done),
     (Call::Turn(2, Turn::TakeBuffer("b")), Reply::Refused),
+    (Call::Turn(2, Turn::TakeVec("b")), Reply::Refused),
+    (Call::Make(Make::BufferWith("123", 5)), Reply::Done),
+    (Call::Ask(3, Ask::IsUnique), Reply::Yes),
+    (Call::Part(3, Part::Sub(1, 3)), Reply::Done),
+    (Call::Ask(4, Ask::Metadata), Reply::Number(5)),
+    (Call::Turn(3, Turn::Drop), Reply::Done),
+    (Call::Turn(4, Turn::TakeBuffer("23")), Reply::Refused),
+    (Call::Ask(4, Ask::Show("23")), Reply::Done),
 ];
 
 /// A buffer that came in to be written grows, and comes back.
@@ -284,6 +312,8 @@ const HINTS: &[Line] = &[
 /// An `Arc` that is counted once more comes back alone.
 const RAW_COUNTED: &[Line] = &[
     (Call::Make(Make::Raw("*")), Reply::Done),
+    (Call::Ask(0, Ask::IsUnique), Reply::No),
+    (Call::Turn(0, Turn::TakeBuffer("*")), Reply::Refused),
     (Call::Part(0, Part::Clone), Reply::Done),
     (Call::Ask(0, Ask::IsUnique), Reply::No),
     (Call::Turn(0, Turn::TakeRaw("*")), Reply::Refused),
@@ -303,7 +333,8 @@ const RAW_BY_ITSELF: &[Line] = &[
     (Call::Ask(2, Ask::Show("23")), Reply::Done),
 ];
 
-/// Parts without items stand on nothing, and the vector comes back beside them.
+/// Parts without items stand on nothing, and the vector comes back beside them. So do vectors and
+/// boxes without places.
 const EMPTY_ON_NOTHING: &[Line] = &[
     (Call::Make(Make::Vec("0123")), Reply::Done),
     (Call::Part(0, Part::To(0)), Reply::Done),
@@ -314,6 +345,14 @@ const EMPTY_ON_NOTHING: &[Line] = &[
     (Call::Ask(4, Ask::Show("")), Reply::Done),
     (Call::Turn(5, Turn::TakeVec("0123")), Reply::Done),
     (Call::Ask(1, Ask::IsUnique), Reply::No),
+    (Call::Make(Make::Boxed("")), Reply::Done),
+    (Call::Ask(6, Ask::IsUnique), Reply::No),
+    (Call::Make(Make::Vec("")), Reply::Done),
+    (Call::Ask(7, Ask::IsUnique), Reply::No),
+    (Call::Turn(7, Turn::TakeVec("")), Reply::Refused),
+    (Call::Make(Make::WrittenVec("")), Reply::Done),
+    (Call::Ask(8, Ask::Room), Reply::Number(0)),
+    (Call::Turn(8, Turn::TakeVec("")), Reply::Refused),
 ];
 
 /// They are owners of their block, and the vector comes back after they have ended.
@@ -339,6 +378,9 @@ const NOTHING_ON_BLOCK: &[Line] = &[
     (Call::Ask(2, Ask::Room), Reply::Number(0)),
     (Call::Change(2, Change::Push(b'1')), Reply::Done),
     (Call::Ask(2, Ask::Show("1")), Reply::Done),
+    (Call::Make(Make::Boxed("")), Reply::Done),
+    (Call::Ask(3, Ask::IsUnique), Reply::Yes),
+    (Call::Turn(3, Turn::TakeVec("")), Reply::Refused),
 ];
 
 /// Any layout holds a native block; a vector, a buffer and its metadata go where buffers are held,
@@ -370,6 +412,8 @@ const MOVED_WRITTEN: &[Line] = &[
     (Call::Make(Make::WrittenBufferWith("ab", 9)), Reply::Done),
     (Call::Turn(1, Turn::Over), Reply::Done),
     (Call::Ask(1, Ask::Metadata), Reply::Number(9)),
+    (Call::Ask(1, Ask::Show("ab")), Reply::Done),
+    (Call::Ask(1, Ask::Room), Reply::Number(2)),
     (Call::Turn(1, Turn::OverNative), Reply::Refused),
     (Call::Change(1, Change::Push(b'c')), Reply::Done),
     (Call::Turn(1, Turn::TakeBuffer("abc")), Reply::Done),
@@ -383,6 +427,10 @@ const MOVED_WRITTEN: &[Line] = &[
     (Call::Turn(3, Turn::Over), Reply::Done),
     (Call::Turn(3, Turn::OverNative), Reply::Done),
     (Call::Ask(3, Ask::Room), Reply::Number(3)),
+    (Call::Make(Make::WrittenVec("ab")), Reply::Done),
+    (Call::Turn(4, Turn::Over), Reply::Done),
+    (Call::Turn(4, Turn::OverNative), Reply::Refused),
+    (Call::Turn(4, Turn::TakeVec("ab")), Reply::Done),
 ];
 
 /// Two halves of a full window are joined again.
@@ -410,6 +458,26 @@ const JOINED_WHERE_FULL: &[Line] = &[
     (Call::Turn(0, Turn::Rejoin(6, "", "gh")), Reply::Refused),
     (Call::Ask(0, Ask::Show("abcde")), Reply::Done),
     (Call::Ask(0, Ask::Room), Reply::Number(6)),
+];
+
+/// Each part has what is put into it, in its own places. What isn't joined leaves a window that may
+/// become the only writer once the part behind has ended.
+const PARTS_WRITTEN: &[Line] = &[
+    (Call::Make(Make::WrittenPlaces(4)), Reply::Done),
+    (Call::Change(0, Change::Extend("a")), Reply::Done),
+    (Call::Turn(0, Turn::Share), Reply::Done),
+    (Call::Turn(0, Turn::Rejoin(2, "b", "cd")), Reply::Done),
+    (Call::Ask(0, Ask::Show("abcd")), Reply::Done),
+    (Call::Ask(0, Ask::Room), Reply::Number(4)),
+    (Call::Make(Make::WrittenPlaces(8)), Reply::Done),
+    (Call::Change(1, Change::Extend("abc")), Reply::Done),
+    (Call::Turn(1, Turn::Share), Reply::Done),
+    (Call::Turn(1, Turn::Rejoin(5, "", "")), Reply::Refused),
+    (Call::Ask(1, Ask::Show("abc")), Reply::Done),
+    (Call::Ask(1, Ask::Room), Reply::Number(5)),
+    (Call::Turn(1, Turn::Unique), Reply::Done),
+    (Call::Change(1, Change::Reclaim(4)), Reply::Yes),
+    (Call::Ask(1, Ask::Room), Reply::Number(8)),
 ];
 
 /// A part without items keeps its places, and the other becomes the only writer once it has ended.
@@ -442,6 +510,8 @@ const ROOM_BESIDE: &[Line] = &[
     (Call::Change(0, Change::Put("x")), Reply::Number(0)),
     (Call::Change(1, Change::Advance(1)), Reply::Done),
     (Call::Change(1, Change::Truncate(0)), Reply::Done),
+    (Call::Change(1, Change::Reserve(1)), Reply::Done),
+    (Call::Change(1, Change::Reserve(2)), Reply::NotUnique),
     (Call::Change(1, Change::Push(b'6')), Reply::Done),
     (Call::Ask(1, Ask::Show("6")), Reply::Done),
     (Call::Ask(1, Ask::Room), Reply::Number(1)),
@@ -552,20 +622,21 @@ const SPLIT_ON_NOTHING: &[Line] = &[
     (Call::Ask(0, Ask::Show("1")), Reply::Done),
     (Call::Ask(1, Ask::Show("23")), Reply::Done),
     (Call::Turn(0, Turn::Unique), Reply::Done),
-    (Call::Make(Make::Written), Reply::Done),
-    (Call::Turn(2, Turn::Share), Reply::Done),
-    (Call::Turn(2, Turn::TakeNone), Reply::Done),
 ];
 
 /// An array comes back where it is the whole block, and the only writer left.
 const ARRAYS_SHARED: &[Line] = &[
     (Call::Make(Make::WrittenArray([1, 2, 3])), Reply::Done),
     (Call::Turn(0, Turn::Share), Reply::Done),
-    (Call::Turn(0, Turn::TakeTwo), Reply::Refused),
     (Call::Part(0, Part::Off(3)), Reply::Done),
     (Call::Turn(0, Turn::TakeThree([1, 2, 3])), Reply::Refused),
     (Call::Turn(1, Turn::Drop), Reply::Done),
     (Call::Turn(0, Turn::TakeThree([1, 2, 3])), Reply::Done),
+    (Call::Make(Make::WrittenArray([4, 5, 6])), Reply::Done),
+    (Call::Turn(2, Turn::Share), Reply::Done),
+    (Call::Change(2, Change::Truncate(2)), Reply::Done),
+    (Call::Turn(2, Turn::TakeThree([4, 5, 6])), Reply::Refused),
+    (Call::Ask(2, Ask::Show("\x04\x05")), Reply::Done),
 ];
 
 /// An `Arc` that is a block by itself is counted once more under another layout, which takes
@@ -599,6 +670,7 @@ const NOTHING_MOVED: &[Line] = &[
 pub const ALL: &[&[Line]] = &[
     EXTENDED_AND_FROZEN,
     PUSHED,
+    ROOM_MADE,
     RECLAIMED,
     NOT_RECLAIMED,
     ROOM_FOUND,
@@ -620,6 +692,7 @@ pub const ALL: &[&[Line]] = &[
     MOVED_WRITTEN,
     SPLIT_AND_JOINED,
     JOINED_WHERE_FULL,
+    PARTS_WRITTEN,
     SPLIT_BEHIND,
     ROOM_BESIDE,
     LAST_RECLAIMS,
@@ -643,8 +716,8 @@ pub const WITH_NOTHING: &[&[Line]] = &[EMPTY_ON_NOTHING];
 /// Rows under those whose readers may not.
 pub const WITHOUT_NOTHING: &[&[Line]] = &[EMPTY_ON_BLOCK, NOTHING_ON_BLOCK];
 
-/// Rows of vectors that go from one layout that holds them to another.
-pub const VECTORS: &[&[Line]] = &[VECTOR_PARTS, VECTOR_WRITTEN];
+/// Rows of vectors, and of others, that go from one layout that holds vectors to another.
+pub const VECTORS: &[&[Line]] = &[VECTOR_PARTS, VECTOR_WRITTEN, MOVED];
 
 /// Rows of readers that may stand on nothing beside writers whose layout has no static data.
 pub const TO_BLOCK: &[&[Line]] = &[NOTHING_MOVED];

@@ -123,20 +123,6 @@ fn buffer_of<K: LayoutMut>(window: Several<'_, K>) -> Turned<Several<'_, K>> {
     }
 }
 
-fn none_of<K: LayoutMut>(window: Several<'_, K>) -> Turned<Several<'_, K>> {
-    match window.try_into_array::<0>() {
-        Ok(_) => (None, Reply::Done),
-        Err(window) => (Some(window), Reply::Refused),
-    }
-}
-
-fn two_of<K: LayoutMut>(window: Several<'_, K>) -> Turned<Several<'_, K>> {
-    match window.try_into_array::<2>() {
-        Ok(_) => (None, Reply::Done),
-        Err(window) => (Some(window), Reply::Refused),
-    }
-}
-
 fn three_of<K: LayoutMut>(window: Several<'_, K>, items: [u8; 3]) -> Turned<Several<'_, K>> {
     match window.try_into_array::<3>() {
         Ok(found) => (None, done_where(found == items)),
@@ -182,8 +168,6 @@ pub fn turn_several<'a, L: Layout, K: LayoutMut>(
         Turn::TakeVec(text) => still_shared(vec_of(window, text)),
         Turn::TakeBoxed(text) => still_shared(boxed_of(window, text)),
         Turn::TakeBuffer(_) => still_shared(buffer_of(window)),
-        Turn::TakeNone => still_shared(none_of(window)),
-        Turn::TakeTwo => still_shared(two_of(window)),
         Turn::TakeThree(items) => still_shared(three_of(window, items)),
         Turn::Drop => {
             drop(window);
@@ -193,6 +177,8 @@ pub fn turn_several<'a, L: Layout, K: LayoutMut>(
             window.drop_with_unique_hint();
             (None, Reply::Done)
         }
-        Turn::Mut | Turn::Share | Turn::TakeRaw(_) => (Some(Role::Share(window)), Reply::NoCall),
+        Turn::Mut | Turn::Share | Turn::TakeRaw(_) | Turn::TakeNone | Turn::TakeTwo => {
+            (Some(Role::Share(window)), Reply::NoCall)
+        }
     }
 }

@@ -36,13 +36,6 @@ fn raw_of_reader<'a, L: Layout>(window: Reader<'a, L>, text: &str) -> Turned<Rea
     }
 }
 
-fn none_of_reader<L: Layout>(window: Reader<'_, L>) -> Turned<Reader<'_, L>> {
-    match window.try_into_array::<0>() {
-        Ok(_) => (None, Reply::Done),
-        Err(window) => (Some(window), Reply::Refused),
-    }
-}
-
 fn two_of_reader<L: Layout>(window: Reader<'_, L>) -> Turned<Reader<'_, L>> {
     match window.try_into_array::<2>() {
         Ok(_) => (None, Reply::Done),
@@ -86,7 +79,6 @@ pub fn turn_reader<'a, L: Layout, K: LayoutMut>(
         Turn::TakeBoxed(text) => still_read(boxed_of_reader(window, text)),
         Turn::TakeBuffer(text) => still_read(buffer_of_reader(window, text)),
         Turn::TakeRaw(text) => still_read(raw_of_reader(window, text)),
-        Turn::TakeNone => still_read(none_of_reader(window)),
         Turn::TakeTwo => still_read(two_of_reader(window)),
         Turn::TakeThree(items) => still_read(three_of_reader(window, items)),
         Turn::Drop => {
@@ -97,7 +89,7 @@ pub fn turn_reader<'a, L: Layout, K: LayoutMut>(
             window.drop_with_unique_hint();
             (None, Reply::Done)
         }
-        Turn::Freeze | Turn::Share | Turn::Unique | Turn::Rejoin(_, _, _) => {
+        Turn::Freeze | Turn::Share | Turn::Unique | Turn::Rejoin(_, _, _) | Turn::TakeNone => {
             (Some(Role::Read(window)), Reply::NoCall)
         }
     }
@@ -126,13 +118,6 @@ fn buffer_of_writer<'a, K: LayoutMut>(window: Writer<'a, K>, text: &str) -> Turn
 
 fn none_of_writer<K: LayoutMut>(window: Writer<'_, K>) -> Turned<Writer<'_, K>> {
     match window.try_into_array::<0>() {
-        Ok(_) => (None, Reply::Done),
-        Err(window) => (Some(window), Reply::Refused),
-    }
-}
-
-fn two_of_writer<K: LayoutMut>(window: Writer<'_, K>) -> Turned<Writer<'_, K>> {
-    match window.try_into_array::<2>() {
         Ok(_) => (None, Reply::Done),
         Err(window) => (Some(window), Reply::Refused),
     }
@@ -182,7 +167,6 @@ pub fn turn_writer<'a, L: Layout, K: LayoutMut>(
         Turn::TakeBoxed(text) => still_written(boxed_of_writer(window, text)),
         Turn::TakeBuffer(text) => still_written(buffer_of_writer(window, text)),
         Turn::TakeNone => still_written(none_of_writer(window)),
-        Turn::TakeTwo => still_written(two_of_writer(window)),
         Turn::TakeThree(items) => still_written(three_of_writer(window, items)),
         Turn::Drop => {
             drop(window);
@@ -192,7 +176,7 @@ pub fn turn_writer<'a, L: Layout, K: LayoutMut>(
             window.drop_with_unique_hint();
             (None, Reply::Done)
         }
-        Turn::Mut | Turn::Unique | Turn::Rejoin(_, _, _) | Turn::TakeRaw(_) => {
+        Turn::Mut | Turn::Unique | Turn::Rejoin(_, _, _) | Turn::TakeRaw(_) | Turn::TakeTwo => {
             (Some(Role::Write(window)), Reply::NoCall)
         }
     }
