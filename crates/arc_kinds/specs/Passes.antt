@@ -1,5 +1,5 @@
 -- What may be asked of a pass.
-use Rattle.std.specs.Prelude.{ℕ, List, Unit}
+use Rattle.std.specs.Prelude.{ℕ, List}
 use Rattle.arc_owners.specs.count.Invariant.{BlockId, Line}
 
 -- whatever a pass may be, where a block has one pass
