@@ -7,7 +7,10 @@ use arc_block::layout::{
 use call::Line;
 use counting_heap::CountingHeap;
 use kept::{TAKINGS, Taking, takes};
-use rows::{ALL, BY_ITSELF, COUNTED, TO_BLOCK, VECTORS, WITH_NOTHING, WITHOUT_NOTHING};
+use rows::{
+    BY_ITSELF, COUNTED, GIVEN, READ_OR_WRITTEN, SEVERAL, TO_BLOCK, VECTORS, WITH_NOTHING,
+    WITHOUT_NOTHING,
+};
 use run::run;
 use std::alloc::{AllocError, Global};
 use std::sync::Wait;
@@ -91,20 +94,22 @@ fn missed<L: AnyBufferLayout, K: LayoutMut + AnyBufferLayout>(
 /// The default layout without static data.
 type Any = ArcLayout<true, false>;
 
-/// What went otherwise under each layout.
+/// What went otherwise under each layout in these rows. They come as an argument, since a list that
+/// a proof names is written out there.
 fn missed_by_layout(
     rt: &impl Wait,
     alloc: Global,
     heap: Heap<'_>,
+    rows: &[&[Line]],
 ) -> Result<[Option<(usize, Miss)>; 7], AllocError> {
     Ok([
-        missed::<DefaultLayout, DefaultLayoutMut>(rt, alloc, heap, ALL)?,
-        missed::<Any, Any>(rt, alloc, heap, ALL)?,
-        missed::<BoxedSliceLayout, DefaultLayoutMut>(rt, alloc, heap, ALL)?,
-        missed::<VecLayout, VecLayout>(rt, alloc, heap, ALL)?,
-        missed::<RawLayout, DefaultLayoutMut>(rt, alloc, heap, ALL)?,
-        missed::<RawLayout, Any>(rt, alloc, heap, ALL)?,
-        missed::<Any, DefaultLayoutMut>(rt, alloc, heap, ALL)?,
+        missed::<DefaultLayout, DefaultLayoutMut>(rt, alloc, heap, rows)?,
+        missed::<Any, Any>(rt, alloc, heap, rows)?,
+        missed::<BoxedSliceLayout, DefaultLayoutMut>(rt, alloc, heap, rows)?,
+        missed::<VecLayout, VecLayout>(rt, alloc, heap, rows)?,
+        missed::<RawLayout, DefaultLayoutMut>(rt, alloc, heap, rows)?,
+        missed::<RawLayout, Any>(rt, alloc, heap, rows)?,
+        missed::<Any, DefaultLayoutMut>(rt, alloc, heap, rows)?,
     ])
 }
 
@@ -194,7 +199,9 @@ fn texts_counted<L: AnyBufferLayout>(
 #[test]
 fn refused_in_turn(rt: HostRuntime) -> Result<(), Fail> {
     let heap = CountingHeap::new(rt.alloc());
-    assert!(rt; missed_by_layout(&rt, rt.alloc(), &heap)? == [None; 7]);
+    assert!(rt; missed_by_layout(&rt, rt.alloc(), &heap, READ_OR_WRITTEN)? == [None; 7]);
+    assert!(rt; missed_by_layout(&rt, rt.alloc(), &heap, GIVEN)? == [None; 7]);
+    assert!(rt; missed_by_layout(&rt, rt.alloc(), &heap, SEVERAL)? == [None; 7]);
     assert!(rt; missed_by_row(&rt, rt.alloc(), &heap)? == [None; 10]);
     assert!(rt; takings_counted(&heap) == TAKINGS.len());
     assert!(rt; texts_counted::<DefaultLayout>(&rt, rt.alloc(), &heap)? == TEXTS.len());

@@ -712,8 +712,8 @@ const NOTHING_MOVED: &[Line] = &[
     (Call::Ask(1, Ask::Room), Reply::Number(0)),
 ];
 
-/// Rows under each layout.
-pub const ALL: &[&[Line]] = &[
+/// Rows of windows that are read, and of those that are written alone, under each layout.
+pub const READ_OR_WRITTEN: &[&[Line]] = &[
     EXTENDED_AND_FROZEN,
     PUSHED,
     ROOM_MADE,
@@ -725,6 +725,14 @@ pub const ALL: &[&[Line]] = &[
     PART_WRITTEN,
     ARRAYS,
     CLONED,
+    PUT,
+    MOVED,
+    MOVED_WRITTEN,
+    HINTS,
+];
+
+/// Rows of windows on vectors, boxes and callers' buffers, under each layout.
+pub const GIVEN: &[&[Line]] = &[
     VECTOR_CUT,
     VECTOR_CLONED,
     VECTOR_PARTS,
@@ -732,10 +740,10 @@ pub const ALL: &[&[Line]] = &[
     BOXES,
     BUFFER,
     BUFFER_WRITTEN,
-    HINTS,
-    PUT,
-    MOVED,
-    MOVED_WRITTEN,
+];
+
+/// Rows of several writers, under each layout.
+pub const SEVERAL: &[&[Line]] = &[
     SPLIT_AND_JOINED,
     PARTS_ENDED,
     JOINED_WHERE_FULL,
