@@ -11,7 +11,7 @@ use std::alloc::Global;
 use std::collections::{BTreeMap, HashMap};
 use std::convert::{AsSlice, AsStr};
 use std::hash::{DefaultHasher, Hash, Hasher};
-use std::io::Read;
+use std::io::{ErrorKind, Read};
 use std::sync::Wait;
 use std::test::Fail;
 
@@ -96,6 +96,18 @@ fn read_thrice(alloc: Global) -> Option<([usize; 3], [u8; 2], [usize; 3])> {
     Some(([first, second, third], places, [left, after, window.len()]))
 }
 
+/// A window of three bytes fills two places, and then has too few for them: whether that is said to
+/// be the end, what stands in the places, and what is left after each.
+fn read_exactly(alloc: Global) -> Option<(bool, [u8; 2], [usize; 2])> {
+    let mut window: ArcSlice<Plain<u8>> = ArcSlice::try_from_slice(alloc, &[1, 2, 3]).ok()?;
+    let mut places = [0; 2];
+    window.read_exact(&mut places).ok()?;
+    let left = window.len();
+    let error = window.read_exact(&mut places).err()?;
+    let is_end = error.kind() == ErrorKind::UnexpectedEof;
+    Some((is_end, places, [left, window.len()]))
+}
+
 /// Two numbers of two bytes each, and a byte that is passed over between them; what is left.
 fn numbers(alloc: Global, bytes: &[u8]) -> Option<([u16; 2], usize)> {
     let mut window: ArcSlice<Plain<u8>> = ArcSlice::try_from_slice(alloc, bytes).ok()?;
@@ -108,11 +120,24 @@ fn numbers(alloc: Global, bytes: &[u8]) -> Option<([u16; 2], usize)> {
     Some(([first, second], window.chunk().len()))
 }
 
+/// The same of byte text, whose first byte is read.
+fn first_byte(alloc: Global, bytes: &[u8]) -> Option<(u8, usize)> {
+    let mut window: ArcSlice<ByteText> = ArcSlice::try_from_slice(alloc, bytes).ok()?;
+    if window.remaining() < 1 {
+        return None;
+    }
+    let byte = window.get_u8();
+    Some((byte, window.chunk().len()))
+}
+
 #[test]
 fn read_from(rt: HostRuntime) -> Result<(), Fail> {
     assert!(rt; read_thrice(rt.alloc()) == Some(([2, 1, 0], [3, 2], [1, 0, 0])));
+    assert!(rt; read_exactly(rt.alloc()) == Some((true, [3, 2], [1, 0])));
     let told = numbers(rt.alloc(), &[1, 2, 9, 3, 4, 5]);
     assert!(rt; told == Some(([0x0102, 0x0304], 1)));
+    assert!(rt; numbers(rt.alloc(), &[1, 2, 9, 3]) == None);
+    assert!(rt; first_byte(rt.alloc(), b"ab") == Some((97, 1)));
     Ok(())
 }
 
