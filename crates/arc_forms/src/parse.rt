@@ -667,9 +667,15 @@ fn command<A: Allocator>(alloc: A, line: &[u8]) -> Result<Option<Command<A>>, Al
 }
 
 /// The command that a line says, or `None` where it says none (`Says` and `IsBad` in `specs/`). A
-/// line of more than `LONGEST_LINE` bytes says none. Takes memory for the items of a command alone,
-/// once, for their number of bytes. `Err` where that memory is refused: the line then says a
-/// command that brings items.
+/// line of more than `LONGEST_LINE` bytes says none.
+///
+/// # Errors
+///
+/// `AllocError` where memory is refused for the items that the line's command brings.
+///
+/// # Allocates
+///
+/// For the items of a command, once, for their number of bytes.
 pub fn parse<A: Allocator + Copy>(alloc: A, line: &[u8]) -> Result<Option<Command<A>>, AllocError>
     ensures ok { IfOk result (λ said.
         MatchOption said (IsBad line.now) (λ c. Says line.now (line_command c))) }

@@ -258,8 +258,15 @@ fn push_line<A: Allocator, X: AsSlice<u8>>(
 }
 
 /// Appends what a line is answered that says a command: the text of the reply (`answer_text` in
-/// `specs/`), and a line feed. Items take two bytes each. Takes memory where `out` has no room:
-/// `Err` where that is refused, and `out` then has the bytes that it had.
+/// `specs/`), and a line feed. Items take two bytes each.
+///
+/// # Errors
+///
+/// `AllocError` where memory is refused for more room; `out` then has the bytes that it had.
+///
+/// # Allocates
+///
+/// Where `out` has no room.
 #[inline(always)]
 pub fn push_answer<A: Allocator, X: AsSlice<u8>>(
     out: &mut Vec<u8, A>,
@@ -298,8 +305,15 @@ fn push_any<A: Allocator, X: AsSlice<u8>>(
     pushed
 }
 
-/// Appends what a line is answered that says no command: `bad line`, and a line feed. Takes memory
-/// where `out` has no room: `Err` where that is refused, and `out` then has the bytes that it had.
+/// Appends what a line is answered that says no command: `bad line`, and a line feed.
+///
+/// # Errors
+///
+/// `AllocError` where memory is refused for more room; `out` then has the bytes that it had.
+///
+/// # Allocates
+///
+/// Where `out` has no room.
 pub fn push_bad_line<A: Allocator>(out: &mut Vec<u8, A>) -> Result<(), AllocError>
     ensures ok { OnOk result
         (out.new.items ≡ out.old.items ++ answer_line None) }

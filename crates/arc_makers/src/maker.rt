@@ -640,6 +640,14 @@ where
 
 /// Makes the window of a command that brings what it is made of: the reply, and the window, if it
 /// was made. That goes under the next number, where there is room for it.
+///
+/// # Allocates
+///
+/// As the call that makes such a window, and for the pass of a block.
+///
+/// # History
+///
+/// That of a block that is made begins.
 pub fn make<S: Commands<A>, L: Layout, B: BufferMut<S::Item> + Drop, M: Drop, A: Allocator + Copy>(
     alloc: A,
     command: TableCmd<S, B, M, A>,

@@ -8,7 +8,7 @@ use Rattle.arc_script.specs.Faults.{fault_text}
 use Rattle.arc_script.specs.Traffic.{Traffic, NoFault, TakesFront, Tells, faults}
 use Rattle.arc_script.specs.declared.script.ScriptError.TheVariants.{Write}
 use Rattle.arc_script.specs.declared.storm.StormError.{StormError}
-use Rattle.arc_script.specs.declared.storm.StormError.TheVariants.{Alloc, Owner, Thread, Taken}
+use Rattle.arc_script.specs.declared.storm.StormError.TheVariants.{Owner, Thread, Taken}
 
 -- the words ask for a storm of so many workers, from 1 to 64: the word for it, and their number
 pub record AsksForStorm (workers : ℕ) (words : List (String Global)) : Type 0 where
@@ -33,7 +33,6 @@ storm_text = hex (42 ∷ []) ++ line_feed ∷ []
 
 -- the line in which a refusal is told
 abbrev pub storm_fault_text : StormError → List ℕ
-storm_fault_text Alloc = codes "allocation error" ++ line_feed ∷ []
 storm_fault_text (Owner AllocError) = codes "allocation error" ++ line_feed ∷ []
 storm_fault_text (Owner CountFull) = codes "count full" ++ line_feed ∷ []
 storm_fault_text Thread = codes "no thread" ++ line_feed ∷ []

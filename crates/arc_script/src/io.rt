@@ -20,6 +20,10 @@ pub trait Source {
 
     /// Reads into the front of `buf`, and answers how many bytes: none where `buf` is empty or the
     /// end was found.
+    ///
+    /// # Errors
+    ///
+    /// The reader's own.
     fn read(&mut self, buf: &mut [u8]) -> io::Result<usize>
         ensures bound { IfOk result (λ n. n ≤ length buf.new) }
         ensures told { traffic self.new ≡ after_call (traffic self.old) buf.new (result_ok result) }
@@ -36,22 +40,29 @@ pub trait Sink {
     ghost contents: { Self → Option (List ℕ) };
 
     /// Writes from the front of `buf`, and answers how many bytes it took.
+    ///
+    /// # Errors
+    ///
+    /// The writer's own.
     fn write(&mut self, buf: &[u8]) -> io::Result<usize>
         ensures bound { IfOk result (λ n. n ≤ length buf.now) }
         ensures told { traffic self.new ≡ after_call (traffic self.old) buf.now (result_ok result) }
         ensures bytes { WriteAppends (contents self.old) (contents self.new) result buf.now };
 }
 
-/// A call: the slice, and how many of its first bytes passed, `None` where the call failed.
+/// A call: `None` passed where it failed.
 #[derive(Clone, Copy)]
 pub struct Call<'a> {
+    /// What was lent to the call.
     pub slice: &'a [u8],
+    /// How many of its first bytes passed.
     pub passed: Option<usize>,
 }
 
 /// All the calls so far. It has no bytes, and its methods do nothing at run time.
 #[derive(Drop)]
 pub struct Log {
+    /// What the calls gave or took.
     pub ghost traffic: { Traffic },
 }
 

@@ -51,6 +51,7 @@ pub trait Arguments {
 /// how long an answer is.
 #[derive(Clone, Copy)]
 pub struct OfSystem<'a, E> {
+    /// Where the system's arguments are asked for.
     pub env: &'a E,
 }
 
@@ -104,6 +105,10 @@ fn report<F: Sink>(faults: &mut F, error: ScriptError) -> u8
 /// comes back: 0 where that was written, 1 where something was refused, 4 where the write failed;
 /// no input is read. A fault is told to `faults` in one line. For any other words it tells the
 /// usage there, and answers 2 before any input is read.
+///
+/// # Allocates
+///
+/// As `run_script`, or as `storm`.
 pub fn run_args<
     T: Threads + Wait + Sync + AllocGlobal,
     R: Source,
@@ -211,6 +216,14 @@ fn word<G: Arguments>(given: &G, alloc: Global, i: usize) -> Result<Option<Strin
 
 /// The words behind the program's name, each in its order. One that isn't text, or is longer than
 /// each word that the program knows, stands here as an empty word.
+///
+/// # Errors
+///
+/// `AllocError` where memory is refused for them.
+///
+/// # Allocates
+///
+/// For each word, and for their list.
 pub fn words<G: Arguments>(given: &G, alloc: Global) -> Result<Vec<String>, AllocError>
     ensures { IfOk result (λ words. AreWords (λ i. G.answers given.now i WORD)
         (map string_bytes words.items)) }
@@ -227,6 +240,10 @@ pub fn words<G: Arguments>(given: &G, alloc: Global) -> Result<Vec<String>, Allo
 
 /// Runs the program on the words that it was given, as `run_args` says, and answers its status. 1
 /// where memory is refused for them; that is told to `faults` too.
+///
+/// # Allocates
+///
+/// For the words, and as `run_args`.
 pub fn start<T: Threads + Wait + Sync + AllocGlobal, G: Arguments, R: Source, W: Sink, F: Sink>(
     rt: &T,
     alloc: Global,

@@ -62,6 +62,10 @@ impl From<AllocError> for ScriptError {
 }
 
 /// Writes the bytes, in as many calls as it takes.
+///
+/// # Errors
+///
+/// `Write` where a call failed or took nothing: those before it took a beginning of the bytes.
 pub fn write_out<W: Sink>(writer: &mut W, bytes: &[u8]) -> Result<(), ScriptError>
     ensures ok { OnOk result
         ((W.traffic writer.new).bytes ≡ (W.traffic writer.old).bytes ++ bytes.now) }
@@ -642,12 +646,21 @@ where
 /// with the run.
 ///
 /// It reads in pieces of at most 65,536 bytes, holds no more of a line than 65,536 bytes, and
-/// writes the replies when a piece is done and whenever 65,536 bytes of them are held. `Read` where
-/// a read failed, `Write` where a write failed or took nothing, `Alloc` where memory was refused
-/// for a line, for its items or for replies that are held; what was written is then a beginning of
-/// the replies: where a read failed, those to each whole line that came, and to nothing behind the
-/// last line feed; where memory was refused, all but one at most of those to the lines that were
-/// carried out. Each window is released at the end and on every fault.
+/// writes the replies when a piece is done and whenever 65,536 bytes of them are held. Each window
+/// is released at the end and on every fault.
+///
+/// # Errors
+///
+/// - `Read` where a read failed: what was written are the replies to each whole line that came, and
+///   to nothing behind the last line feed.
+/// - `Write` where a write failed or took nothing: what was written is a beginning of the replies.
+/// - `Alloc` where memory was refused: all but one at most of the replies to the lines that were
+///   carried out were written.
+///
+/// # Allocates
+///
+/// For a piece of the input, a line that came in two pieces, the items of a command, replies that
+/// are held, and what the commands ask for.
 pub fn run_script<R: Source, W: Sink, A: Allocator + Copy>(
     rt: &impl Wait,
     alloc: A,

@@ -30,11 +30,7 @@ impl Gate for OpenGate {
 /// Why a storm doesn't give its vector.
 #[derive(Clone, Copy, Debug, PartialEq, Eq, Error)]
 pub enum StormError {
-    /// A request for memory was refused, for the vector, for its window or for what tells when a
-    /// worker has ended.
-    #[error("allocation error")]
-    Alloc,
-    /// A clone was refused.
+    /// A clone was refused, or memory for the vector, for its window or for the list of threads.
     #[error(transparent)]
     Owner(OwnerError),
     /// A thread could not be started.
@@ -47,13 +43,13 @@ pub enum StormError {
 
 impl From<alloc::AllocError> for StormError {
     fn from(_: alloc::AllocError) -> Self {
-        StormError::Alloc
+        StormError::Owner(OwnerError::AllocError)
     }
 }
 
 impl<T: Drop> From<alloc::AllocFailed<T>> for StormError {
     fn from(_: alloc::AllocFailed<T>) -> Self {
-        StormError::Alloc
+        StormError::Owner(OwnerError::AllocError)
     }
 }
 
@@ -73,7 +69,7 @@ fn window_made(alloc: Global) -> Result<Window, StormError>
     let bytes = Vec::from_slice(alloc, &[42])?;
     match Window::try_from_vec(alloc, bytes) {
         Ok(window) => Ok(window),
-        Err(_) => Err(StormError::Alloc),
+        Err(_) => Err(StormError::Owner(OwnerError::AllocError)),
     }
 }
 
@@ -123,8 +119,8 @@ fn work_in_threads<R: Threads + Wait + Sync, G: Gate + Sync>(
 ///
 /// # Errors
 ///
-/// - `Alloc` where memory is refused for the vector, its window or the list of threads.
-/// - `Owner` where a clone is refused, `Thread` where a thread is.
+/// - `Owner` where a clone is refused, or memory for the vector, its window or the list of threads.
+/// - `Thread` where a thread is refused.
 /// - `Taken` where another window stands on the vector at the end.
 ///
 /// # Allocates
@@ -133,8 +129,8 @@ fn work_in_threads<R: Threads + Wait + Sync, G: Gate + Sync>(
 pub fn storm<R: Threads + Wait + Sync, G: Gate + Sync>(
     rt: &R,
     alloc: Global,
-    gate: &G,
     workers: usize,
+    gate: &G,
 ) -> Result<Vec<u8>, StormError>
     ensures { IfOk result (λ bytes. bytes.items ≡ 42 ∷ []) }
 {

@@ -81,7 +81,7 @@ fn both_cloned(rt: HostRuntime) {
 #[test]
 fn many_workers(rt: HostRuntime) -> Result<(), Fail> {
     for workers in [64, 1, 0] {
-        let bytes = storm(&rt, rt.alloc(), &OpenGate, workers)?;
+        let bytes = storm(&rt, rt.alloc(), workers, &OpenGate)?;
         assert!(rt; bytes.as_slice() == [42].as_slice());
     }
     Ok(())

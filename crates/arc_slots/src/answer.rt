@@ -133,9 +133,62 @@ where
         }
     }
 
+    /// Makes room for so many items more in the window. As each way to write it is a call of its own,
+    /// so that nothing is tested or cleared for what another would write.
+    #[inline(never)]
+    pub(crate) fn reserve(
+        &mut self,
+        additional: usize,
+        passes: &mut Passes<A>,
+    ) -> TableReply<S, B, M, A>
+        requires item { FitsInMemory S.Item.row }
+        requires pass { HasPassFor passes.old.of_blocks.items (stand_of (Some self.old)) }
+        ensures { (next i : ℕ) → Answers (setting_of (layout_facts L.Layout) L.Writable.ANY
+            L.clone_wants S.DROPS S.boundary
+            (type_size S.Item.row) S.Zero.zero S.Calls.calls) next (command.Res i additional)
+            self.old passes.old.of_blocks.items (seen_reply S.items_in S.items_in_box B.list result)
+            (Some self.new) None passes.new.of_blocks.items }
+    {
+        self.fill(Writing::Nothing(additional), passes)
+    }
+
+    /// Puts an item behind those of the window.
+    #[inline(never)]
+    pub(crate) fn push(&mut self, item: S::Item, passes: &mut Passes<A>) -> TableReply<S, B, M, A>
+        requires item { FitsInMemory S.Item.row }
+        requires pass { HasPassFor passes.old.of_blocks.items (stand_of (Some self.old)) }
+        ensures { (next i : ℕ) → Answers (setting_of (layout_facts L.Layout) L.Writable.ANY
+            L.clone_wants S.DROPS S.boundary
+            (type_size S.Item.row) S.Zero.zero S.Calls.calls) next (command.Push i item)
+            self.old passes.old.of_blocks.items (seen_reply S.items_in S.items_in_box B.list result)
+            (Some self.new) None passes.new.of_blocks.items }
+    {
+        self.fill(Writing::Item(item), passes)
+    }
+
+    /// Puts items behind those of the window.
+    #[inline(never)]
+    pub(crate) fn extend(
+        &mut self,
+        items: Vec<S::Item, A>,
+        passes: &mut Passes<A>,
+    ) -> TableReply<S, B, M, A>
+        requires item { FitsInMemory S.Item.row }
+        requires legal { ∥ S.is_legal items.items ∥₁ }
+        requires pass { HasPassFor passes.old.of_blocks.items (stand_of (Some self.old)) }
+        ensures { (next i : ℕ) → Answers (setting_of (layout_facts L.Layout) L.Writable.ANY
+            L.clone_wants S.DROPS S.boundary
+            (type_size S.Item.row) S.Zero.zero S.Calls.calls) next (command.Ext i items.items)
+            self.old passes.old.of_blocks.items (seen_reply S.items_in S.items_in_box B.list result)
+            (Some self.new) None passes.new.of_blocks.items }
+    {
+        self.fill(Writing::Items(items), passes)
+    }
+
     /// Writes into the window: room is made, and what is written goes behind its items. Refused, it
     /// is let go.
-    pub(crate) fn fill(
+    #[inline(always)]
+    fn fill(
         &mut self,
         what: Writing<Vec<S::Item, A>, S::Item>,
         passes: &mut Passes<A>,

@@ -184,6 +184,7 @@ where
 
     /// Writes into the window, which is one of several: room is made, and what is written goes
     /// behind its items. Refused, it is let go.
+    #[inline(always)]
     pub(crate) fn fill_beside(
         &mut self,
         what: Writing<Vec<S::Item, A>, S::Item>,

@@ -14,7 +14,7 @@ ghost use Rattle.arc_slots.specs.Taking.{take_command};
 
 use crate::part::Part;
 use crate::passes::Passes;
-use crate::slot::{Slot, Writing};
+use crate::slot::Slot;
 use crate::take::Taking;
 use arc_block::layout::{Layout, LayoutMut};
 use arc_buffer::buffer::BufferMut;
@@ -118,6 +118,10 @@ where
 }
 
 /// The window ends, if there is one, whatever the table is run under. Takes no memory.
+///
+/// # History
+///
+/// On a block that counts its owners Down.
 #[tactic(auto, using(crate::proofs::Taken::has_both))]
 pub fn drop_at<
     S: TableKind,
@@ -202,6 +206,14 @@ where
 /// # Errors
 ///
 /// The reply, where no window was made.
+///
+/// # Allocates
+///
+/// As the command's call of the window, and for the pass of a first block.
+///
+/// # History
+///
+/// What `RowAdds` says of the command and its reply.
 #[inline(always)]
 #[tactic(auto, using(crate::proofs::Taken::has_block, crate::proofs::Taken::has_life))]
 pub fn answer<
@@ -251,9 +263,9 @@ where
         Cmd::Meta { .. } => Err(slot.meta(passes)),
         Cmd::Len { .. } => Err(slot.count(passes)),
         Cmd::Room { .. } => Err(slot.room(passes)),
-        Cmd::Res { additional, .. } => Err(slot.fill(Writing::Nothing(additional), passes)),
-        Cmd::Push { item, .. } => Err(slot.fill(Writing::Item(item), passes)),
-        Cmd::Ext { items, .. } => Err(slot.fill(Writing::Items(vec_of::<S, A>(items)), passes)),
+        Cmd::Res { additional, .. } => Err(slot.reserve(additional, passes)),
+        Cmd::Push { item, .. } => Err(slot.push(item, passes)),
+        Cmd::Ext { items, .. } => Err(slot.extend(vec_of::<S, A>(items), passes)),
         Cmd::Rec { additional, .. } => Err(slot.reclaim(additional, passes)),
         Cmd::Adv { by, .. } => Err(slot.skip(by, passes)),
         Cmd::Trunc { len, .. } => Err(slot.cut(len, passes)),

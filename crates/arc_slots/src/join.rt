@@ -25,6 +25,10 @@ use std::mem;
 
 /// Joins the windows that are here, if both are of several writers: then the other one is gone.
 /// Where none is here, or no other one, nothing changes.
+///
+/// # History
+///
+/// Joined, Down of the other.
 pub fn join_at<
     S: Commands<A>,
     L: Layout,

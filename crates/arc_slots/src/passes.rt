@@ -10,6 +10,7 @@ use std::mem;
 /// contracts.
 #[derive(Drop)]
 pub struct Passes<A: Allocator> {
+    /// The pass of each block at its number.
     pub of_blocks: Vec<Pass<Whole>, A>,
 }
 
@@ -73,6 +74,14 @@ impl<A: Allocator> Passes<A> {
     }
 
     /// Makes room for the pass of a first block, where one is to be made.
+    ///
+    /// # Errors
+    ///
+    /// `AllocError` where memory for that is refused.
+    ///
+    /// # Allocates
+    ///
+    /// Where there is no room.
     pub fn reserve_for(&mut self, begins: bool) -> Result<(), AllocError>
         ensures items { self.new.of_blocks.items ≡ self.old.of_blocks.items }
         ensures room { OnOk result (begins ≡ true

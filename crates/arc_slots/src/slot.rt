@@ -34,7 +34,9 @@ where
     L::Writable: LayoutMut,
     S::Small: SmallOf<S, L, B, M, A>,
 {
+    /// The window, whatever its role.
     pub window: AnyWindow<S, L, L::Writable, B, M, A>,
+    /// The number of its block.
     pub block: Option<usize>,
 }
 
@@ -343,6 +345,11 @@ where
     }
 
     /// Whether `start` to `end` is a range of the window, which isn't one that is written.
+    ///
+    /// # Errors
+    ///
+    /// `InvalidRange` where it ends before it starts, `OutOfRange` where it ends behind the items,
+    /// `NotBoundary` where these may not be cut there.
     pub fn check_range(&self, start: usize, end: usize) -> Result<(), RangeError>
         requires { is_writer self.now.role ≡ false }
         ensures answer { result ≡ range_answer S.boundary self.now.window.items start end }
@@ -368,6 +375,10 @@ where
     }
 
     /// Whether the window may be cut at `at`.
+    ///
+    /// # Errors
+    ///
+    /// `OutOfRange` behind the items, `NotBoundary` where these may not be cut.
     pub fn check_at(&self, at: usize) -> Result<(), RangeError>
         ensures answer { result ≡ edge_answer S.boundary self.now.window.items at }
         ensures ok { IsOk result ↔ IsEdge S.boundary self.now.window.items at }
@@ -423,7 +434,7 @@ where
     ///
     /// # History
     ///
-    /// On a block Up, or Full where refused.
+    /// On a block that counts its owners Up, or Full where refused.
     #[inline(always)]
     pub fn try_clone(&self, rt: &impl Wait, passes: &mut Passes<A>) -> Result<Self, OwnerError>
         requires cuts { is_writer self.now.role ≡ false }
@@ -457,7 +468,7 @@ where
     ///
     /// # History
     ///
-    /// Where the part stands on a block Up, or Full where refused.
+    /// Where the part stands on a block that counts its owners Up, or Full where refused.
     #[inline(always)]
     pub fn try_subslice(
         &self,
@@ -501,8 +512,8 @@ where
     ///
     /// # History
     ///
-    /// On a block Up, or Full where refused; none where one part has no items and the layout has
-    /// static data.
+    /// On a block that counts its owners Up, or Full where refused; none where one part has no
+    /// items and the layout has static data.
     pub fn try_split_off(
         &mut self,
         rt: &impl Wait,
@@ -557,8 +568,8 @@ where
     ///
     /// # History
     ///
-    /// On a block Up, or Full where refused; none where one part has no items and the layout has
-    /// static data.
+    /// On a block that counts its owners Up, or Full where refused; none where one part has no
+    /// items and the layout has static data.
     pub fn try_split_to(
         &mut self,
         rt: &impl Wait,
@@ -763,7 +774,7 @@ where
     ///
     /// # History
     ///
-    /// On a block Down, which says whether it was the last.
+    /// On a block that counts its owners Down, which says whether it was the last.
     pub fn release(self, passes: &mut Passes<A>)
         requires { HasPassFor passes.old.of_blocks.items (stand_of (Some self)) }
         ensures { Along (stand_of (Some self)) passes.old.of_blocks.items

@@ -20,12 +20,15 @@ use arc_write::slice_mut::ArcSliceMut;
 use std::alloc::Allocator;
 use std::sync::Wait;
 
-/// A window that is read, one that is written alone, one of several that are written, or a small
-/// one.
+/// A window of a slot, by its role.
 pub enum Held<R, W, V, K> {
+    /// One that is read.
     Read(R),
+    /// One that is written alone.
     Write(W),
+    /// One of several that are written.
     Several(V),
+    /// A small one.
     Small(K),
 }
 
@@ -43,7 +46,9 @@ pub type SmallWindow<S, L, B, M, A> = <<S as TableKind>::Small as SmallOf<S, L, 
 /// A window that isn't written: one that is read, or a small one. What is cloned or cut of a slot's
 /// window is one, and smaller than what a slot holds.
 pub enum ReadOnly<R, K> {
+    /// One that is read.
     Read(R),
+    /// A small one.
     Small(K),
 }
 

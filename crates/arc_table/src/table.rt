@@ -125,8 +125,9 @@ where
     /// # Allocates
     ///
     /// For a window more, what it is made of and what is shown (refused: `Alloc`), for the block of
-    /// a window that is there (`Reserve`, and `Refused` of a `Freeze`), and for an owner more where
-    /// the layout wants it (`Owner`).
+    /// a window that is there (`Reserve`, and `Refused` of a `Freeze`), for the block to which one
+    /// of several writers moves from a vector as it is split, and for an owner more where the layout
+    /// wants it (`Owner`).
     ///
     /// # History
     ///
@@ -145,8 +146,8 @@ where
         reply
     }
 
-    /// Carries out one command as `step` does, compiled where it is called. For callers who know
-    /// that it is a `Cmd::Drop`, a `Cmd::Clone` or a `Cmd::Sub`.
+    /// Carries out one command as `step` does, with its errors, memory and history, compiled where
+    /// it is called. For callers who know that it is a `Cmd::Drop`, a `Cmd::Clone` or a `Cmd::Sub`.
     #[inline(always)]
     pub fn step_here(
         &mut self,
@@ -347,6 +348,10 @@ where
     /// Ends the table: every window that is left is released, in the order of their numbers, so
     /// that each block is given back. Answers the passes of the blocks, none of which has a live
     /// owner.
+    ///
+    /// # History
+    ///
+    /// One Down for each window that is left and an owner of a block.
     pub fn end(mut self) -> Passes<A>
         ensures ended { IsKept MAX_OWNERS [] result.of_blocks.items }
         ensures blocks { length result.of_blocks.items ≡ self.table.blocks }

@@ -64,6 +64,10 @@ pub trait CallsOf<S: Subsliceable> {
     /// # Errors
     ///
     /// `AllocError` where memory for it is refused.
+    ///
+    /// # Allocates
+    ///
+    /// Once, unless there are no items.
     fn try_copy<A: Allocator>(
         alloc: A,
         items: &[S::Item],

@@ -82,11 +82,20 @@ pub trait SmallOf<
         ensures { result.now ≡ (seen window.now).items };
 
     /// Whether `start` to `end` is a range of a small window.
+    ///
+    /// # Errors
+    ///
+    /// `InvalidRange` where it ends before it starts, `OutOfRange` where it ends behind the items,
+    /// `NotBoundary` where these may not be cut there.
     fn check_range(window: &Self::Window, start: usize, end: usize) -> Result<(), RangeError>
         ensures answer { result ≡ range_answer S.boundary (seen window.now).items start end }
         ensures ok { IsOk result ↔ IsRange S.boundary (seen window.now).items start end };
 
     /// Whether a small window may be cut at `at`.
+    ///
+    /// # Errors
+    ///
+    /// `OutOfRange` behind the items, `NotBoundary` where these may not be cut.
     fn check_at(window: &Self::Window, at: usize) -> Result<(), RangeError>
         ensures answer { result ≡ edge_answer S.boundary (seen window.now).items at }
         ensures ok { IsOk result ↔ IsEdge S.boundary (seen window.now).items at };
@@ -161,7 +170,7 @@ pub trait SmallOf<
     ///
     /// # History
     ///
-    /// On a block Down.
+    /// On a block that counts its owners Down.
     fn release_as(window: Self::Window, pass: &mut Pass<Whole>)
         requires { IsPassAt (seen window).place pass.old }
         ensures { at_owner (seen window).place (pass.new ≡ pass.old) (λ o. (last : Bool)

@@ -119,7 +119,7 @@ impl<
     ///
     /// # History
     ///
-    /// Where the window made stands on a block Up, or Full where refused.
+    /// Where the window made stands on a block that counts its owners Up, or Full where refused.
     #[inline(always)]
     pub fn try_clone_arc_as(
         self,
@@ -153,6 +153,10 @@ impl<
     /// # Errors
     ///
     /// Those of `try_clone_arc_as`.
+    ///
+    /// # Allocates
+    ///
+    /// As `try_clone_arc_as`.
     ///
     /// # History
     ///

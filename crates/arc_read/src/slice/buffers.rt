@@ -198,17 +198,17 @@ impl<
     }
 
     /// The `Arc` of a caller's buffer on which the window stands, where the items are all of that,
-    /// and no other owner of the block lives.
+    /// and no other owner lives of a block that counts them.
     ///
     /// # Errors
     ///
-    /// The window, on another block or none, where another owner lives, and where the items are a
-    /// part alone.
+    /// The window, on another block or none, where another owner of a block that counts them lives,
+    /// and where the items are a part alone.
     ///
     /// # History
     ///
-    /// Taken, Alone and Down. Refused, Alone with no where only the count could decide, and else
-    /// nothing.
+    /// On a block that counts its owners: taken, Alone and Down; refused, Alone with no where only
+    /// the count could decide. Else nothing.
     pub fn try_into_raw_buffer_as(self, pass: &mut Pass<H>) -> Result<Arc<B, A>, Self>
         requires pass { IsPassAt self.place pass.old }
         ensures taken { IfOk result (λ shared. IsRawWhole self.items self.place

@@ -88,7 +88,7 @@ impl<
     ///
     /// # History
     ///
-    /// On a block Down.
+    /// On a block that counts its owners Down.
     #[inline(always)]
     pub fn release_as(self, pass: &mut Pass<H>)
         requires pass { IsPassAt self.place pass.old }
@@ -104,7 +104,7 @@ impl<
     ///
     /// # History
     ///
-    /// On a block Down under `Open`, and nothing under `Whole`.
+    /// On a block that counts its owners Down under `Open`, and nothing under `Whole`.
     #[inline(always)]
     pub fn let_go(self) -> Pass<H>
         ensures forgotten { H.whole ≡ true → IsPassOfNone result }
@@ -118,7 +118,7 @@ impl<
     ///
     /// # History
     ///
-    /// On a block Alone with what was found, then Down.
+    /// On a block that counts its owners Alone with what was found, then Down.
     pub fn drop_with_unique_hint_as(self, pass: &mut Pass<H>)
         requires pass { IsPassAt self.place pass.old }
         ensures entries { at_owner self.place (pass.new ≡ pass.old) (λ o.

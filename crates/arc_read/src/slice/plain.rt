@@ -92,6 +92,10 @@ impl<
     ///
     /// Those of `try_clone_as`.
     ///
+    /// # Allocates
+    ///
+    /// As `try_clone_as`.
+    ///
     /// # History
     ///
     /// That of `try_clone_as`.
@@ -120,6 +124,10 @@ impl<
     /// # Errors
     ///
     /// Those of `try_subslice_as`.
+    ///
+    /// # Allocates
+    ///
+    /// As `try_subslice_as`.
     ///
     /// # History
     ///

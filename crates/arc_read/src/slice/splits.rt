@@ -55,9 +55,14 @@ impl<
     /// Those of `try_clone_as`, where the part that is new stands on a block. The window is then as
     /// before.
     ///
+    /// # Allocates
+    ///
+    /// Only where `try_clone_as` does.
+    ///
     /// # History
     ///
-    /// Where the part that is new stands on a block Up, or Full where refused.
+    /// Where the part that is new stands on a block that counts its owners Up, or Full where
+    /// refused.
     pub fn try_split_off_as(
         &mut self,
         rt: &impl Wait,
@@ -94,9 +99,14 @@ impl<
     /// Those of `try_clone_as`, where the part that is new stands on a block. The window is then as
     /// before.
     ///
+    /// # Allocates
+    ///
+    /// Only where `try_clone_as` does.
+    ///
     /// # History
     ///
-    /// Where the part that is new stands on a block Up, or Full where refused.
+    /// Where the part that is new stands on a block that counts its owners Up, or Full where
+    /// refused.
     pub fn try_split_to_as(
         &mut self,
         rt: &impl Wait,
@@ -139,6 +149,10 @@ impl<
     /// Those of `try_clone_as`, where the part that is new stands on a block. The window is then as
     /// before.
     ///
+    /// # Allocates
+    ///
+    /// As `try_split_off_as`.
+    ///
     /// # History
     ///
     /// That of `try_split_off_as`.
@@ -164,6 +178,10 @@ impl<
     ///
     /// Those of `try_clone_as`, where the part that is new stands on a block. The window is then as
     /// before.
+    ///
+    /// # Allocates
+    ///
+    /// As `try_split_to_as`.
     ///
     /// # History
     ///

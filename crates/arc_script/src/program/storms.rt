@@ -47,7 +47,7 @@ fn refusal_line(error: StormError) -> &'static [u8]
     ensures { result.now ≡ storm_fault_text error }
 {
     match error {
-        StormError::Alloc | StormError::Owner(OwnerError::AllocError) => b"allocation error\n",
+        StormError::Owner(OwnerError::AllocError) => b"allocation error\n",
         StormError::Owner(OwnerError::CountFull) => b"count full\n",
         StormError::Thread => b"no thread\n",
         StormError::Taken => b"not alone\n",
@@ -64,6 +64,10 @@ fn item_line(item: u8) -> [u8; 3]
 /// Lets so many threads clone one window, writes the vector that comes back, and answers the
 /// program's status; a fault is told in one line. The threads pass the gate as `storm` says; the
 /// program's holds nobody up.
+///
+/// # Allocates
+///
+/// As `storm`.
 pub fn run_storm<R: Threads + Wait + Sync + AllocGlobal, G: Gate + Sync, W: Sink, F: Sink>(
     rt: &R,
     gate: &G,
@@ -76,7 +80,7 @@ pub fn run_storm<R: Threads + Wait + Sync + AllocGlobal, G: Gate + Sync, W: Sink
     ensures taken { Takes (W.traffic writer.old) (W.traffic writer.new)
         (W.contents writer.old) (W.contents writer.new) }
 {
-    match storm(rt, rt.alloc(), gate, workers) {
+    match storm(rt, rt.alloc(), workers, gate) {
         Ok(bytes) => match write_out(writer, &item_line(bytes[0])) {
             Ok(()) => 0,
             Err(error) => report(faults, error),

@@ -109,7 +109,7 @@ impl<
     ///
     /// # History
     ///
-    /// On a block Down.
+    /// On a block that counts its owners Down.
     #[inline(always)]
     pub fn release_as(self, pass: &mut Pass<H>)
         requires pass { IsPassAt self.place pass.old }

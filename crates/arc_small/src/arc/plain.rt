@@ -46,6 +46,10 @@ impl<
     ///
     /// Those of `try_clone_as`.
     ///
+    /// # Allocates
+    ///
+    /// As `try_clone_as`.
+    ///
     /// # History
     ///
     /// That of `try_clone_as`.
@@ -70,6 +74,10 @@ impl<
     /// # Errors
     ///
     /// Those of `try_subslice_as`.
+    ///
+    /// # Allocates
+    ///
+    /// As `try_subslice_as`.
     ///
     /// # History
     ///

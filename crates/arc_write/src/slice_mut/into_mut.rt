@@ -38,12 +38,12 @@ pub trait IntoMut: Sized {
     /// The mark.
     type Mark: Mark;
 
-    // The window's items, and where it stands.
+    /// The window's items, and where it stands.
     ghost seen: { Self → Window Self.Kind.Item Self.Metadata };
 
     /// The same items, as their only writer under the layout `K`, where the window stands on a
     /// block that may be written and that the layout holds, and that no other owner has, or where
-    /// it has none and stands on no block. On a block it goes where `writer_move` says; an empty
+    /// it has no items and stands on no block. On a block it goes where `writer_move` says; an empty
     /// window of a static slice stands on nothing afterwards. A native block may be written, and a
     /// vector; a caller's buffer that was made a window to be read may not, nor an `Arc`.
     ///
@@ -54,7 +54,7 @@ pub trait IntoMut: Sized {
     ///
     /// # History
     ///
-    /// On a block that may be written Alone with the answer.
+    /// On a block that may be written, and that `K` holds, Alone with the answer.
     fn try_into_mut_as<K: LayoutMut>(
         self,
         pass: &mut Pass<Self::Mark>,
