@@ -348,8 +348,8 @@ where
     ///
     /// # Errors
     ///
-    /// `InvalidRange` where it ends before it starts, `OutOfRange` where it ends behind the items,
-    /// `NotBoundary` where these may not be cut there.
+    /// `OutOfRange` where it ends behind the items, `InvalidRange` where it ends before it starts,
+    /// `NotBoundary` where the items may not be cut there.
     pub fn check_range(&self, start: usize, end: usize) -> Result<(), RangeError>
         requires { is_writer self.now.role ≡ false }
         ensures answer { result ≡ range_answer S.boundary self.now.window.items start end }

@@ -199,6 +199,7 @@ pub trait CallsOf<S: Subsliceable> {
         sole: &mut Option<ArcSliceMut<S, L, 1, B, M, A, Whole>>,
     ) -> Option<ArcSliceMut<S, L, 0, B, M, A, Whole>>
         ensures call { IfSome result (λ _. calls.shares ≡ true) }
+        ensures there { IfSome result (λ _. is_some sole.old ≡ true) }
         ensures shared { IfSome result (λ window. IfSome sole.old (λ w.
             (window ≡ as_shared w) × (¬ IsOfBuffer w.place))) }
         ensures taken { IfSome result (λ _. sole.new ≡ None) }
@@ -312,6 +313,7 @@ pub trait CallsOf<S: Subsliceable> {
         requires block { IfSome other.old (λ w. IsOneBlock window.old.place w.place) }
         requires pass { IsPassAt window.old.place pass.old }
         ensures call { IfSome result (λ _. calls.shares ≡ true) }
+        ensures there { IfSome result (λ _. is_some other.old ≡ true) }
         ensures joined { IfSome result (λ _. IfSome other.old (λ w.
             (can_join window.old w ≡ true) × (window.new ≡ joined_row window.old w)
             × LeavesAt w.place pass.old pass.new)) }

@@ -74,7 +74,8 @@ pub trait SmallOf<
             (seen window))) }
         ensures pass { IfSome result (λ made. IfOk made (λ window.
             Begins (window_of (seen window)) pass.old pass.new)) }
-        ensures refused { IfSome result (λ made. OnErr made (pass.new ≡ pass.old)) }
+        ensures refused { IfSome result (λ made. OnErr made
+            ((inline_limit (layout_facts L.Layout) < length items.now) × (pass.new ≡ pass.old))) }
         ensures none { IfNone result (pass.new ≡ pass.old) };
 
     /// The items of a small window.
@@ -85,8 +86,8 @@ pub trait SmallOf<
     ///
     /// # Errors
     ///
-    /// `InvalidRange` where it ends before it starts, `OutOfRange` where it ends behind the items,
-    /// `NotBoundary` where these may not be cut there.
+    /// `OutOfRange` where it ends behind the items, `InvalidRange` where it ends before it starts,
+    /// `NotBoundary` where the items may not be cut there.
     fn check_range(window: &Self::Window, start: usize, end: usize) -> Result<(), RangeError>
         ensures answer { result ≡ range_answer S.boundary (seen window.now).items start end }
         ensures ok { IsOk result ↔ IsRange S.boundary (seen window.now).items start end };
@@ -203,7 +204,8 @@ pub trait SmallKind: Subsliceable<Item = u8> {
         ensures made { IfOk result (λ window. MakesSmall (inline_limit (layout_facts L.Layout))
             L.STATIC Self.DROPS true items.now window) }
         ensures pass { IfOk result (λ window. Begins (window_of window) pass.old pass.new) }
-        ensures refused { OnErr result (pass.new ≡ pass.old) };
+        ensures refused { OnErr result ((inline_limit (layout_facts L.Layout) < length items.now)
+            × (pass.new ≡ pass.old)) };
 }
 
 /// There are small windows, of a kind of bytes.
