@@ -1,6 +1,7 @@
 //! Tables of byte text, of items of a user's own, and of items that borrow.
 use crate::tables::{Said, told};
 use arc_block::layout::{ArcLayout, DefaultLayout};
+use arc_block::static_slice::StaticSlice;
 use arc_buffer::kinds::{ByteText, Plain};
 use arc_table::command::Cmd;
 use arc_table::kinds::{NoSmall, NoZero, TableItem};
@@ -26,6 +27,18 @@ fn lacking(rt: HostRuntime) {
     ];
     let _ = table.end();
     assert!(rt; made == [Said::Kind, Said::Kind, Said::Kind, Said::New(0)]);
+}
+
+/// Byte text has small windows, and windows over what lies there for good.
+#[test]
+fn byte_text(rt: HostRuntime) -> Result<(), Fail> {
+    let items = Vec::from_slice(rt.alloc(), b"ab")?;
+    let mut table: Table<ByteText, DefaultLayout, Vec<u8>, (), _> = Table::new(rt.alloc());
+    let small = told(table.step(&rt, Cmd::Small(items)));
+    let lasting = told(table.step(&rt, Cmd::Static(StaticSlice::new(b"abcd"))));
+    let _ = table.end();
+    assert!(rt; [small, lasting] == [Said::New(0), Said::New(1)]);
+    Ok(())
 }
 
 /// A type of a user's own, whose items have no zero.

@@ -53,6 +53,40 @@ fn written(heap: Heap<'_>) -> Option<[[u64; 2]; 4]> {
     Some([made, grown, frozen, told(heap)])
 }
 
+/// What is told once a clone of a window was let go, and once the window was.
+fn let_go(rt: &impl Wait, heap: Heap<'_>) -> Option<[[u64; 2]; 2]> {
+    let window = Reader::try_from_slice(heap, &[1, 2, 3]).ok()?;
+    let clone = window.try_clone(rt).ok()?;
+    let _ = clone.let_go();
+    let beside = told(heap);
+    let _ = window.let_go();
+    Some([beside, told(heap)])
+}
+
+/// What is told once a writer was let go.
+fn sole_let_go(heap: Heap<'_>) -> Option<[u64; 2]> {
+    let writer = Writer::try_from_slice(heap, &[1, 2, 3]).ok()?;
+    let _ = writer.let_go();
+    Some(told(heap))
+}
+
+/// The same of one of several writers.
+fn shared_let_go(heap: Heap<'_>) -> Option<[u64; 2]> {
+    let writer = Writer::try_from_slice(heap, &[1, 2, 3]).ok()?;
+    let shared = writer.into_shared().ok()?;
+    let _ = shared.let_go();
+    Some(told(heap))
+}
+
+#[test]
+fn let_go_at_last(rt: HostRuntime) -> Result<(), Fail> {
+    let heap = CountingHeap::new(rt.alloc());
+    assert!(rt; let_go(&rt, &heap) == Some([[1, 1], [1, 0]]));
+    assert!(rt; sole_let_go(&heap) == Some([2, 0]));
+    assert!(rt; shared_let_go(&heap) == Some([3, 0]));
+    Ok(())
+}
+
 #[test]
 fn one_piece(rt: HostRuntime) -> Result<(), Fail> {
     let wanted = Some([[1, 1], [1, 1], [1, 1], [1, 0]]);

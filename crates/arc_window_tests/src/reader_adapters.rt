@@ -8,6 +8,7 @@ use arc_buffer::kinds::{ByteText, CopySlice, DebugSlice, Plain, Text};
 use arc_read::slice::ArcSlice;
 use bytes::Buf;
 use std::alloc::Global;
+use std::cmp::Ordering;
 use std::collections::{BTreeMap, HashMap};
 use std::convert::{AsSlice, AsStr};
 use std::hash::{DefaultHasher, Hash, Hasher};
@@ -35,6 +36,38 @@ where
 {
     let window: ArcSlice<S> = ArcSlice::try_from_slice(alloc, items).ok()?;
     debugs(alloc, &window, text)
+}
+
+/// Whether `{:?}` of windows over numbers of each other width is right.
+fn numbers_debug(alloc: Global) -> [Option<bool>; 8] {
+    [
+        items_debug::<Plain<u64>>(alloc, &[1], "[1]"),
+        items_debug::<Plain<u128>>(alloc, &[1], "[1]"),
+        items_debug::<Plain<usize>>(alloc, &[1], "[1]"),
+        items_debug::<Plain<i8>>(alloc, &[-1], "[-1]"),
+        items_debug::<Plain<i16>>(alloc, &[-1], "[-1]"),
+        items_debug::<Plain<i32>>(alloc, &[-1], "[-1]"),
+        items_debug::<Plain<i128>>(alloc, &[-1], "[-1]"),
+        items_debug::<Plain<isize>>(alloc, &[-1], "[-1]"),
+    ]
+}
+
+/// The same of floats, arrays and pairs.
+fn others_debug(alloc: Global) -> [Option<bool>; 4] {
+    [
+        items_debug::<Plain<f32>>(alloc, &[1.5], "[1.5]"),
+        items_debug::<Plain<f64>>(alloc, &[1.5], "[1.5]"),
+        items_debug::<Plain<[u8; 2]>>(alloc, &[[1, 2]], "[[1, 2]]"),
+        items_debug::<Plain<(u8, bool)>>(alloc, &[(1, true)], "[(1, true)]"),
+    ]
+}
+
+/// The same of items that borrow.
+fn borrowing_debug(alloc: Global) -> [Option<bool>; 2] {
+    [
+        items_debug::<Plain<&u8>>(alloc, &[&7], "[7]"),
+        items_debug::<Plain<&str>>(alloc, &["ab"], "[\"ab\"]"),
+    ]
 }
 
 /// Whether `{}` and `{}` in a column of a window over this text are these.
@@ -77,10 +110,19 @@ fn hash_under<L: Layout>(alloc: Global, bytes: &[u8]) -> Option<u64> {
     Some(hash_of(&window))
 }
 
-/// Whether a window over text lends it.
-fn text_lent(alloc: Global, text: &str) -> Option<bool> {
+/// Whether a window over text lends it, and is equal to it.
+fn text_lent(alloc: Global, text: &str) -> Option<[bool; 2]> {
     let window: ArcSlice<Text> = ArcSlice::try_from_str(alloc, text).ok()?;
-    Some(AsStr::as_str(&window) == text)
+    Some([AsStr::as_str(&window) == text, window.eq_str(text)])
+}
+
+/// Whether what is borrowed of a text, from its first byte to this one, lends this.
+fn front_lent(alloc: Global, text: &str, end: usize, front: &str) -> Option<bool> {
+    let window: ArcSlice<Text> = ArcSlice::try_from_str(alloc, text).ok()?;
+    if window.check_range(0, end).is_err() {
+        return None;
+    }
+    Some(window.borrow(0, end).as_str() == front)
 }
 
 /// A window of three bytes is read into two places, three times: the counts, what came and what is
@@ -157,6 +199,13 @@ fn lent(alloc: Global, numbers: &[u32]) -> Option<(u64, [Option<u32>; 2], usize)
 /// A window that is a key.
 type Key = ArcSlice<Plain<u8>>;
 
+/// How two windows over these bytes compare, if they do.
+fn order_of(alloc: Global, one: &[u8], two: &[u8]) -> Option<Option<Ordering>> {
+    let one = Key::try_from_slice(alloc, one).ok()?;
+    let two = Key::try_from_slice(alloc, two).ok()?;
+    Some(one.partial_cmp(&two))
+}
+
 /// What an ordered map has under one window, that has a number under the other.
 fn ordered(alloc: Global, key: Key, asked: &Key) -> Option<Option<u32>> {
     let mut map = BTreeMap::new(alloc);
@@ -214,7 +263,9 @@ fn compared_and_lent(rt: HostRuntime) -> Result<(), Fail> {
         hash_under::<RawLayout>(rt.alloc(), b"abc"),
     ];
     assert!(rt; hash.is_some() && told == [hash; 4]);
-    assert!(rt; text_lent(rt.alloc(), "aéb") == Some(true));
+    assert!(rt; text_lent(rt.alloc(), "aéb") == Some([true; 2]));
+    assert!(rt; front_lent(rt.alloc(), "aéb", 3, "aé") == Some(true));
+    assert!(rt; order_of(rt.alloc(), b"ab", b"b") == Some(Some(Ordering::Less)));
     assert!(rt; lent(rt.alloc(), &[4, 7, 5]) == Some((16, [Some(7), Some(7)], 3)));
     assert!(rt; looked_up(rt.alloc(), b"key", b"key") == Some([Some(5), Some(6)]));
     assert!(rt; looked_up(rt.alloc(), b"key", b"kex") == Some([None; 2]));
@@ -247,6 +298,9 @@ fn printed(rt: HostRuntime) -> Result<(), Fail> {
         items_debug::<Plain<Option<u8>>>(alloc, &[None, Some(1)], "[None, Some(1)]"),
     ];
     assert!(rt; told == [Some(true); 5]);
+    assert!(rt; numbers_debug(alloc) == [Some(true); 8]);
+    assert!(rt; others_debug(alloc) == [Some(true); 4]);
+    assert!(rt; borrowing_debug(alloc) == [Some(true); 2]);
     assert!(rt; text_prints(alloc, "aéb", "  aéb") == Some([true; 2]));
     assert!(rt; part_prints(alloc, "b\"bc\"") == Some(true));
     let texts = ["aé\u{fffd}", "aé\u{fffd}", "  aé\u{fffd}", "-aé\u{fffd}-"];

@@ -65,6 +65,22 @@ fn alone_after_splits_as(rt: &impl Wait, alloc: Global) -> Result<[bool; 2], Fai
     Ok([after_back, window.is_unique_as(&mut pass)])
 }
 
+/// How many items a window has that is made of a borrowed part with a pass, and is then released;
+/// whether the window from which it was borrowed is alone then, and how many owners its block may
+/// have.
+fn alone_after_borrowed_as(rt: &impl Wait, alloc: Global) -> Result<(usize, bool, u64), Fail> {
+    let mut pass = Pass::none();
+    let window: ArcSlice<Plain<u8>> = ArcSlice::try_from_slice_as(
+        alloc,
+        b"Hello world",
+        &mut pass,
+    )?;
+    let part = window.borrow(2, 5).try_clone_arc_as(rt, &mut pass)?;
+    let len = part.len();
+    part.release_as(&mut pass);
+    Ok((len, window.is_unique_as(&mut pass), window.max_owners()))
+}
+
 /// Calls on windows that stand on no block, and make none: the pass is as it was, as the contract
 /// says. How many items the windows have that were made.
 fn called_on_no_block<R: Wait>(
@@ -230,6 +246,8 @@ fn ended_by_another_thread(rt: HostRuntime) -> Result<(), Fail> {
 fn each_call_leaves_what_it_should(rt: HostRuntime) -> Result<(), Fail> {
     assert!(rt; alone_after_parts_as(&rt, rt.alloc())? == [true; 2]);
     assert!(rt; alone_after_splits_as(&rt, rt.alloc())? == [true; 2]);
+    let told = alone_after_borrowed_as(&rt, rt.alloc())?;
+    assert!(rt; told == (3, true, 9_223_372_036_854_775_807));
     let (_, made) = called_on_no_block(&rt, rt.alloc(), Pass::none())?;
     let (_, asked) = asked_on_no_block(rt.alloc(), Pass::none())?;
     assert!(rt; (made, asked) == (0, 0));

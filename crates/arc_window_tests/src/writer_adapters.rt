@@ -5,6 +5,7 @@ use arc_buffer::kinds::{ByteText, Plain};
 use arc_write::slice_mut::{ArcBytesMut, ArcSliceMut, ArcStrMut};
 use bytes::{Buf, BufMut};
 use std::alloc::Global;
+use std::cmp::Ordering;
 use std::convert::{AsSlice, AsStr};
 use std::io::{ErrorKind, Read, Write};
 use std::test::Fail;
@@ -89,6 +90,25 @@ fn read_from(alloc: Global) -> Option<(u16, usize, [u8; 2], [usize; 2])> {
         places,
         [window.chunk().len(), window.remaining_mut()],
     ))
+}
+
+/// The first byte of byte text, which is read from a window, and how many are left.
+fn first_byte(alloc: Global, bytes: &[u8]) -> Option<(u8, usize)> {
+    let mut window: ArcSliceMut<ByteText, DefaultLayoutMut, 1> = ArcSliceMut::try_from_slice(
+        alloc, bytes,
+    ).ok()?;
+    if window.remaining() < 1 {
+        return None;
+    }
+    let byte = window.get_u8();
+    Some((byte, window.chunk().len()))
+}
+
+/// How two windows over these bytes compare, if they do.
+fn order_of(alloc: Global, one: &[u8], two: &[u8]) -> Option<Option<Ordering>> {
+    let one = with_places(alloc, 4, one)?;
+    let two = with_places(alloc, 8, two)?;
+    Some(one.partial_cmp(&two))
 }
 
 /// A window of three bytes fills two places, and then has too few for them: whether that is said to
@@ -177,6 +197,8 @@ fn lent(alloc: Global, numbers: &[u32]) -> Option<(u64, usize)> {
 fn read_from_and_printed(rt: HostRuntime) -> Result<(), Fail> {
     let alloc = rt.alloc();
     assert!(rt; read_from(alloc) == Some((0x0102, 2, [4, 5], [0, 3])));
+    assert!(rt; first_byte(alloc, b"ab") == Some((97, 1)));
+    assert!(rt; order_of(alloc, b"ab", b"b") == Some(Some(Ordering::Less)));
     assert!(rt; read_exactly(alloc) == Some((true, [3, 2], [1, 0])));
     let digits = ["61270a00", "61270A00"];
     let told = bytes_print(alloc, &[97, 39, 10, 0], "b\"a\\'\\n\\x00\"", digits);

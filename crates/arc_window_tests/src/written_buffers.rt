@@ -63,6 +63,16 @@ fn numbers_lent(alloc: Global) -> Option<([Option<u32>; 2], [Option<u32>; 2])> {
     Some(([written, read], [none, own.borrowed_metadata().copied()]))
 }
 
+/// Whether a writer over a buffer of these bytes says that it is on one, and whether one over a
+/// copy of them does.
+fn on_buffers(alloc: Global, bytes: &[u8]) -> Option<[bool; 2]> {
+    let window = Over::<Vec<u8>>::try_from_buffer(alloc, vector(alloc, 8, bytes)?).ok()?;
+    let is_over = window.is_on_buffer();
+    drop(window);
+    let own: Over<Vec<u8>> = ArcBytesMut::try_from_slice(alloc, bytes).ok()?;
+    Some([is_over, own.is_on_buffer()])
+}
+
 /// The metadata of a writer of two bytes that took one more, and of its reader.
 fn metadata_kept(alloc: Global) -> Option<[Option<u8>; 2]> {
     let bytes = vector(alloc, 2, &[1, 2])?;
@@ -86,6 +96,7 @@ fn text_extended(alloc: Global, text: &str, more: &str, whole: &str) -> Option<b
 #[test]
 fn frozen_and_taken_back(rt: HostRuntime) -> Result<(), Fail> {
     assert!(rt; numbers_lent(rt.alloc()) == Some(([Some(7); 2], [None; 2])));
+    assert!(rt; on_buffers(rt.alloc(), &[1, 2]) == Some([true, false]));
     assert!(rt; metadata_kept(rt.alloc()) == Some([Some(9); 2]));
     assert!(rt; text_extended(rt.alloc(), "aéb", "c", "aébc") == Some(true));
     Ok(())

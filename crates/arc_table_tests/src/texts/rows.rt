@@ -60,6 +60,19 @@ const SEVERAL: &[Line] = &[
     (Call::Show(0, "h\u{e9}abcde"), Said::Items),
 ];
 
+/// The places of a string move to a block of our own where they are split, so no string comes back.
+const SPLIT: &[Line] = &[
+    (Call::Vec("h\u{e9}llo"), Said::New(0)),
+    (Call::Mut(0), Said::Ok),
+    (Call::Share(0), Said::Ok),
+    (Call::To(0, 2), Said::Range(RangeError::NotBoundary)),
+    (Call::To(0, 3), Said::New(1)),
+    (Call::Show(1, "h\u{e9}"), Said::Items),
+    (Call::Show(0, "llo"), Said::Items),
+    (Call::Drop(1), Said::Ok),
+    (Call::Take(0), Said::Refused),
+];
+
 /// A word in a small window itself and a line that is shared are cloned, and cut between
 /// characters.
 const SMALL: &[Line] = &[
@@ -78,4 +91,4 @@ const SMALL: &[Line] = &[
 ];
 
 /// All rows.
-pub const ROWS: &[&[Line]] = &[COPIED, STRING, SEVERAL, SMALL];
+pub const ROWS: &[&[Line]] = &[COPIED, STRING, SEVERAL, SPLIT, SMALL];
