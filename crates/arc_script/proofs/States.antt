@@ -6,7 +6,7 @@ use Rattle.std.specs.Option.{option_map}
 use Rattle.arc_commands.specs.RunOf.{RunOf}
 use Rattle.arc_script.specs.declared.layout.ScriptLayout.{ScriptLayout}
 use Rattle.arc_script.specs.Script.{AreLines, Answers, IsReplyText, BeginsReplyText}
-use Rattle.arc_script.specs.Script.{OfWholeLines, ended}
+use Rattle.arc_script.specs.Script.{BreaksOff, OfWholeLines, ended}
 use Rattle.arc_forms.specs.Seen.{IsReadAs}
 use Rattle.arc_forms.specs.Seen.{line_command}
 use Rattle.arc_commands.specs.State.{empty_state}
@@ -92,6 +92,24 @@ broken_text {layout} fault state input text h =
     let run = h.2 in
     begins layout input text h.1 run.lines h.0 run.replies state.table run.cut
     (table_run layout empty_state run.lines run.replies state run.run) run.written
+
+-- it is the replies to some first lines, but for what the fault may have left unwritten
+pub breaks_text : {layout : ScriptLayout} (fault : ScriptError) (state : ByteState)
+    (input text : List ℕ)
+    → IsBrokenOff layout fault state input text → BreaksOff layout fault input text
+breaks_text {layout} fault state input text h =
+    let run = h.2 in
+    record {
+      lines = run.lines;
+      left = h.0;
+      replies = run.replies;
+      after = state.table;
+      unwritten = h.1;
+      cut = run.cut;
+      run = table_run layout empty_state run.lines run.replies state run.run;
+      written = run.written;
+      lacks = h.3;
+    }
 
 -- what goes together, goes together in another way
 pub exchange_as : (P Q : List ℕ → List ℕ → Type 0) (r r' w w' : Traffic)

@@ -11,10 +11,10 @@ use Rattle.arc_script.specs.declared.layout.ScriptLayout.{ScriptLayout}
 use Rattle.arc_script.specs.State.{AnswersLine, ByteState}
 use Rattle.arc_forms.specs.Text.{line_feed, answer_text}
 use Rattle.arc_script.specs.Script.{HasNoFeed, AreLines, ended, last_line, IsReplyText}
-use Rattle.arc_script.specs.Script.{OfWholeLines}
+use Rattle.arc_script.specs.Script.{OfWholeLines, MayLack}
 use Rattle.arc_script.specs.Traffic.{Traffic, TakesFront}
 use Rattle.arc_script.specs.Underway.{AnswersHeld, Holds, IsUnderway, IsAnswered}
-use Rattle.arc_script.specs.Underway.{IsBegun, IsThrough, Ends, MayEnd, MayLack}
+use Rattle.arc_script.specs.Underway.{IsBegun, IsThrough, Ends, MayEnd}
 use Rattle.arc_script.specs.declared.script.ScriptError.{ScriptError}
 use Rattle.arc_script.specs.declared.script.ScriptError.TheVariants.{Read, Write, Alloc}
 use Rattle.arc_forms.specs.Commands.{ByteReply}

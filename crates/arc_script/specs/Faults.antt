@@ -1,15 +1,15 @@
 -- Why a run was given up.
-use Rattle.std.specs.Prelude.{◌≡◌, ◌<◌, ℕ, List, [], ◌∷◌, ◌++◌, codes}
+use Rattle.std.specs.Prelude.{◌≡◌, ◌<◌, ◌+◌, ℕ, List, [], ◌∷◌, ◌++◌, codes}
 use Rattle.arc_forms.specs.Text.{line_feed}
 use Rattle.arc_script.specs.Traffic.{Traffic, NoFault, faults}
 use Rattle.arc_script.specs.declared.script.ScriptError.{ScriptError}
 use Rattle.arc_script.specs.declared.script.ScriptError.TheVariants.{Read, Write, Alloc}
 
--- why no more was written: a call of the writer went wrong, or memory was refused and each call
+-- why no more was written: a call of the writer went wrong, and none behind it was made, or memory was refused and each call
 -- went well
 abbrev pub IsWhy : Traffic → Traffic → ScriptError → Type 0
 IsWhy writer writer' Read = ⊥
-IsWhy writer writer' Write = faults writer < faults writer'
+IsWhy writer writer' Write = faults writer' ≡ faults writer + 1
 IsWhy writer writer' Alloc = NoFault writer writer'
 
 -- The cause of a run's fault: a read failed, or a call of the writer went wrong, or memory was

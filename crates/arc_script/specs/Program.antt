@@ -1,9 +1,9 @@
 -- What the program does with its words.
-use Rattle.std.specs.Prelude.{◌≡◌, ◌<◌, ℕ, List, [], ◌∷◌, map, Result, Ok, Err, MatchResult, String}
+use Rattle.std.specs.Prelude.{◌≡◌, ◌+◌, ℕ, List, [], ◌∷◌, map, Result, Ok, Err, MatchResult, String}
 use Rattle.std.specs.Prelude.{string_bytes, codes, ◌⊎◌, ◌++◌}
 use Rattle.std.specs.declared.alloc.Global.{Global}
 use Rattle.arc_script.specs.Arguments.{Answer, AreWords}
-use Rattle.arc_script.specs.Script.{IsReplyText, BeginsReplyText, AnswersWhole}
+use Rattle.arc_script.specs.Script.{IsReplyText, BeginsReplyText, BreaksOff, AnswersWhole}
 use Rattle.arc_forms.specs.Text.{line_feed}
 use Rattle.arc_script.specs.Traffic.{Traffic, Exchanges, NoFault, Tells}
 use Rattle.arc_script.specs.Faults.{IsCause, fault_text}
@@ -45,13 +45,14 @@ module _ (layout : ScriptLayout) where
   -- a run to the end of the input
   pub record IsWhole (reader reader' writer writer' : Traffic) : Type 0 where
     pub text : Exchanges (IsReplyText layout) reader reader' writer writer'
-    pub end : reader.empties < reader'.empties
+    pub end : reader'.empties ≡ reader.empties + 1
     pub failures : reader'.failures ≡ reader.failures
     pub clean : NoFault writer writer'
 
   -- a run that was given up; where a read failed, each whole line that came is answered
   pub record IsCut (reader reader' writer writer' : Traffic) (error : ScriptError) : Type 0 where
     pub text : Exchanges (BeginsReplyText layout) reader reader' writer writer'
+    pub broken : Exchanges (BreaksOff layout error) reader reader' writer writer'
     pub answered : error ≡ Read
         → Exchanges (AnswersWhole layout) reader reader' writer writer'
     pub cause : IsCause reader reader' writer writer' error

@@ -1,6 +1,6 @@
 -- Scripts: the lines of an input, what each is answered, and what is written.
 use Rattle.std.specs.Prelude.{◌≡◌, ℕ, Bool, true, false, List, [], ◌∷◌, ◌++◌, Option, Some}
-use Rattle.std.specs.Prelude.{None, map}
+use Rattle.std.specs.Prelude.{None, map, ◌⊎◌, ⊤}
 use Rattle.std.specs.Prelude.{flat_map, Contains}
 use Rattle.std.specs.List.{AllByRecursion}
 use Rattle.arc_block.specs.Block.{Sort}
@@ -13,6 +13,8 @@ use Rattle.arc_forms.specs.Text.{line_feed, Says, IsBad, answer_text}
 use Rattle.arc_forms.specs.Commands.{ByteCmd, ByteReply}
 use Rattle.arc_script.specs.declared.layout.ScriptLayout.{ScriptLayout}
 use Rattle.arc_script.specs.declared.layout.ScriptLayout.TheVariants as under
+use Rattle.arc_script.specs.declared.script.ScriptError.{ScriptError}
+use Rattle.arc_script.specs.declared.script.ScriptError.TheVariants.{Read, Write, Alloc}
 
 -- each line with its line feed
 abbrev pub ended : List (List ℕ) → List ℕ
@@ -91,6 +93,15 @@ AnswersBy step old line (Some reply) new = (c : ByteCmd) × Says line c
     × step old c reply new
 AnswersBy step old line None new = IsBad line × (new ≡ old)
 
+-- What a fault may leave unwritten of the replies: nothing where a read failed, one reply at most
+-- where memory was refused, which may have been refused for that reply, and anything where a write
+-- failed.
+abbrev pub MayLack : ScriptError → List ℕ → Type 0
+MayLack Read unwritten = unwritten ≡ []
+MayLack Write unwritten = ⊤
+MayLack Alloc unwritten = (unwritten ≡ []) ⊎ ((answer : Option ByteReply)
+    × (unwritten ≡ answer_text answer ++ line_feed ∷ []))
+
 -- under this layout
 module _ (layout : ScriptLayout) where
   -- of a table
@@ -115,3 +126,16 @@ module _ (layout : ScriptLayout) where
   pub record BeginsReplyText (input text : List ℕ) : Type 0 where
     pub rest : List ℕ
     pub whole : IsReplyText input (text ++ rest)
+
+  -- what is written for an input when a fault came: the replies to the first of its lines, but for
+  -- what the fault may have left unwritten
+  pub record BreaksOff (fault : ScriptError) (input text : List ℕ) : Type 0 where
+    pub lines : List (List ℕ)
+    pub left : List (List ℕ)
+    pub replies : List (Option ByteReply)
+    pub after : ByteTable
+    pub unwritten : List ℕ
+    pub cut : AreLines input (lines ++ left)
+    pub run : RunOf Answers empty_table lines replies after
+    pub written : text ++ unwritten ≡ ended (map answer_text replies)
+    pub lacks : MayLack fault unwritten

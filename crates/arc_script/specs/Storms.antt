@@ -1,5 +1,5 @@
 -- What the program does with its word for a storm of clones.
-use Rattle.std.specs.Prelude.{◌≡◌, ◌≤◌, ◌<◌, ℕ, List, [], ◌∷◌, ◌++◌, map, String, string_bytes}
+use Rattle.std.specs.Prelude.{◌≡◌, ◌≤◌, ◌+◌, ℕ, List, [], ◌∷◌, ◌++◌, map, String, string_bytes}
 use Rattle.std.specs.Prelude.{codes, decimal}
 use Rattle.std.specs.declared.alloc.Global.{Global}
 use Rattle.arc_owners.specs.declared.error.OwnerError.TheVariants.{AllocError, CountFull}
@@ -44,7 +44,7 @@ StormWrites written writer writer' =
     (writer'.bytes ≡ writer.bytes ++ storm_text) × NoFault writer writer'
 StormWrites (refused error) writer writer' = writer' ≡ writer
 StormWrites unwritten writer writer' =
-    TakesFront storm_text writer writer' × (faults writer < faults writer')
+    TakesFront storm_text writer writer' × (faults writer' ≡ faults writer + 1)
 
 -- what is told of it: nothing, or the line of its fault
 abbrev pub StormTells : StormEnd → (told told' : Traffic) → Type 0

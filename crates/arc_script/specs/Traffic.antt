@@ -1,6 +1,6 @@
 -- What a reader or a writer tells of its calls.
 use Rattle.std.specs.Prelude.{◌≡◌, ℕ, ◌+◌, ◌==◌, ◌&&◌, nat_lt, if◌then◌else◌, List, [], ◌++◌}
-use Rattle.std.specs.Prelude.{length, take, Option, Some, None, IfSome, ◌⊎◌, ◌<◌}
+use Rattle.std.specs.Prelude.{length, take, Option, Some, None, IfSome, ◌⊎◌}
 use Rattle.std.specs.Io.KnownBytes.{Appends, Consumes}
 
 -- the bytes that passed in all calls; how many calls failed; and how many, over a slice that isn't
@@ -73,5 +73,5 @@ pub record TakesFront (bytes : List ℕ) (old new : Traffic) : Type 0 where
 
 -- a writer took all of the bytes, or a front of them before a call went wrong
 abbrev pub Tells : List ℕ → Traffic → Traffic → Type 0
-Tells bytes old new = (new.bytes ≡ old.bytes ++ bytes)
-    ⊎ (TakesFront bytes old new × (faults old < faults new))
+Tells bytes old new = ((new.bytes ≡ old.bytes ++ bytes) × NoFault old new)
+    ⊎ (TakesFront bytes old new × (faults new ≡ faults old + 1))

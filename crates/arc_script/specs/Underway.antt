@@ -1,7 +1,7 @@
 -- A script that is being run: what was read and written so far, what is still held, and what the
 -- commands did to the windows and to the histories of their blocks.
 use Rattle.std.specs.Prelude.{◌≡◌, ℕ, ◌<◌, Bool, true, false, List, [], ◌∷◌, ◌++◌, map, length}
-use Rattle.std.specs.Prelude.{Option, ◌⊎◌, ⊤}
+use Rattle.std.specs.Prelude.{Option, ◌⊎◌}
 use Rattle.std.specs.List.{AllByRecursion}
 use Rattle.arc_owners.specs.declared.count.tokens.Pass.{Pass}
 use Rattle.arc_owners.specs.declared.mark.Whole.{Whole}
@@ -9,21 +9,11 @@ use Rattle.arc_commands.specs.RunOf.{RunOf}
 use Rattle.arc_commands.specs.State.{empty_state, EndsWith}
 use Rattle.arc_script.specs.State.{AnswersLine, ByteState, CarriesOutSaid}
 use Rattle.arc_forms.specs.Text.{longest_line, line_feed, answer_text}
-use Rattle.arc_script.specs.Script.{AreLines, HasNoFeed, script_setting, ended}
+use Rattle.arc_script.specs.Script.{AreLines, HasNoFeed, MayLack, script_setting, ended}
 use Rattle.arc_script.specs.Traffic.{Traffic}
 use Rattle.arc_forms.specs.Commands.{ByteCmd, ByteReply}
 use Rattle.arc_script.specs.declared.script.ScriptError.{ScriptError}
 use Rattle.arc_script.specs.declared.layout.ScriptLayout.{ScriptLayout}
-use Rattle.arc_script.specs.declared.script.ScriptError.TheVariants.{Read, Write, Alloc}
-
--- What a fault may leave unwritten of the replies: nothing where a read failed, one reply at most
--- where memory was refused, which may have been refused for that reply, and anything where a write
--- failed.
-abbrev pub MayLack : ScriptError → List ℕ → Type 0
-MayLack Read unwritten = unwritten ≡ []
-MayLack Write unwritten = ⊤
-MayLack Alloc unwritten = (unwritten ≡ []) ⊎ ((answer : Option ByteReply)
-    × (unwritten ≡ answer_text answer ++ line_feed ∷ []))
 
 -- what is held of the line that is coming: all of it, or only that it is too long
 abbrev pub Holds : List ℕ → Bool → List ℕ → Type 0

@@ -77,7 +77,9 @@ fn fault_line(error: ScriptError) -> &'static [u8]
 /// Writes a line to standard error, as far as it takes it: whether all of it was written changes
 /// nothing.
 fn tell<F: Sink>(faults: &mut F, line: &[u8])
-    ensures { Tells line.now (F.traffic faults.old) (F.traffic faults.new) }
+    ensures told { Tells line.now (F.traffic faults.old) (F.traffic faults.new) }
+    ensures line_taken { Takes (F.traffic faults.old) (F.traffic faults.new)
+        (F.contents faults.old) (F.contents faults.new) }
 {
     let _ = write_out(faults, line);
 }
@@ -87,6 +89,8 @@ fn tell<F: Sink>(faults: &mut F, line: &[u8])
 fn report<F: Sink>(faults: &mut F, error: ScriptError) -> u8
     ensures status { result ≡ status_of (Err error) }
     ensures told { Tells (fault_text error) (F.traffic faults.old) (F.traffic faults.new) }
+    ensures line_taken { Takes (F.traffic faults.old) (F.traffic faults.new)
+        (F.contents faults.old) (F.contents faults.new) }
 {
     tell(faults, fault_line(error));
     match error {
@@ -123,6 +127,8 @@ pub fn run_args<
         (R.remaining reader.old) (R.remaining reader.new) }
     ensures taken { Takes (W.traffic writer.old) (W.traffic writer.new)
         (W.contents writer.old) (W.contents writer.new) }
+    ensures line_taken { Takes (F.traffic faults.old) (F.traffic faults.new)
+        (F.contents faults.old) (F.contents faults.new) }
     ensures drained { result ≡ 0 → (R.traffic reader.new ≡ R.traffic reader.old)
         ⊎ GivesAll (R.traffic reader.old) (R.traffic reader.new) (R.remaining reader.old) }
     ensures storm { (workers : ℕ) → AsksForStorm workers words.now
@@ -259,6 +265,8 @@ pub fn start<T: Threads + Wait + Sync + AllocGlobal, G: Arguments, R: Source, W:
         (R.remaining reader.old) (R.remaining reader.new) }
     ensures taken { Takes (W.traffic writer.old) (W.traffic writer.new)
         (W.contents writer.old) (W.contents writer.new) }
+    ensures line_taken { Takes (F.traffic faults.old) (F.traffic faults.new)
+        (F.contents faults.old) (F.contents faults.new) }
     ensures drained { result ≡ 0 → (R.traffic reader.new ≡ R.traffic reader.old)
         ⊎ GivesAll (R.traffic reader.old) (R.traffic reader.new) (R.remaining reader.old) }
 {

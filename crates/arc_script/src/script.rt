@@ -1,10 +1,10 @@
 //! Running a script: lines from a reader, replies to a writer.
 ghost use Rattle.std.specs.Prelude.{◌≡◌, ◌<◌, ◌≤◌, ◌+◌, ◌++◌, ◌∷◌, List, ℕ, [], false, length};
 ghost use Rattle.std.specs.Prelude.{take, drop, OnOk, OnErr, IfOk, IfErr, IfSome, MatchOption};
-ghost use Rattle.std.specs.Prelude.{Option, Some, vec_len};
+ghost use Rattle.std.specs.Prelude.{Option, Some, true, vec_len};
 ghost use Rattle.arc_forms.specs.Text.{line_feed};
-ghost use Rattle.arc_script.specs.Script.{AnswersWhole, AreLines, BeginsReplyText, HasNoFeed};
-ghost use Rattle.arc_script.specs.Script.{IsReplyText, OfWholeLines};
+ghost use Rattle.arc_script.specs.Script.{AnswersWhole, AreLines, BeginsReplyText, BreaksOff};
+ghost use Rattle.arc_script.specs.Script.{HasNoFeed, IsReplyText, OfWholeLines};
 ghost use Rattle.arc_block.specs.Owned.{IsKept};
 ghost use Rattle.arc_block.specs.declared.block.TheConstants.{MAX_OWNERS};
 ghost use Rattle.arc_script.specs.State.{CarriesOutSaid};
@@ -75,7 +75,8 @@ pub fn write_out<W: Sink>(writer: &mut W, bytes: &[u8]) -> Result<(), ScriptErro
     ensures err { OnErr result
         (TakesFront bytes.now (W.traffic writer.old) (W.traffic writer.new)) }
     ensures write { IfErr result (λ e. e ≡ ScriptError.Write) }
-    ensures fault { OnErr result (faults (W.traffic writer.old) < faults (W.traffic writer.new)) }
+    ensures fault { OnErr result
+        (faults (W.traffic writer.new) ≡ faults (W.traffic writer.old) + 1) }
 {
     let mut rest = bytes;
     while !rest.is_empty() {
@@ -410,8 +411,9 @@ where
             → IsRunning L.named r (R.traffic reader.old) w (W.traffic writer.old) self.old
             → IsRunning L.named r (R.traffic reader.new) w (W.traffic writer.new) self.new) }
         ensures end { IfOk result (λ more. more ≡ false
-            → (R.traffic reader.old).empties < (R.traffic reader.new).empties) }
-        ensures empties { (R.traffic reader.old).empties ≤ (R.traffic reader.new).empties }
+            → (R.traffic reader.new).empties ≡ (R.traffic reader.old).empties + 1) }
+        ensures empties { IfOk result (λ more. more ≡ true
+            → (R.traffic reader.new).empties ≡ (R.traffic reader.old).empties) }
         ensures given { Gives (R.traffic reader.old) (R.traffic reader.new)
             (R.remaining reader.old) (R.remaining reader.new) }
         ensures taken { Takes (W.traffic writer.old) (W.traffic writer.new)
@@ -498,7 +500,7 @@ where
             (Exchanges (IsThrough L.named self.new.table) (R.traffic reader.old)
             (R.traffic reader.new) (W.traffic writer.old) (W.traffic writer.new)) }
         ensures end { OnOk result
-            ((R.traffic reader.old).empties < (R.traffic reader.new).empties) }
+            ((R.traffic reader.new).empties ≡ (R.traffic reader.old).empties + 1) }
         ensures given { Gives (R.traffic reader.old) (R.traffic reader.new)
             (R.remaining reader.old) (R.remaining reader.new) }
         ensures taken { Takes (W.traffic writer.old) (W.traffic writer.new)
@@ -577,7 +579,8 @@ where
         (Exchanges (ThenEnds L.named (IsThrough L.named) result.1.of_blocks.items)
         (R.traffic reader.old) (R.traffic reader.new) (W.traffic writer.old)
         (W.traffic writer.new)) }
-    ensures end { OnOk result.0 ((R.traffic reader.old).empties < (R.traffic reader.new).empties) }
+    ensures end { OnOk result.0
+        ((R.traffic reader.new).empties ≡ (R.traffic reader.old).empties + 1) }
     ensures given { Gives (R.traffic reader.old) (R.traffic reader.new)
         (R.remaining reader.old) (R.remaining reader.new) }
     ensures taken { Takes (W.traffic writer.old) (W.traffic writer.new)
@@ -619,7 +622,8 @@ where
     ensures ok { OnOk result
         (Exchanges (IsReplyText L.named) (R.traffic reader.old) (R.traffic reader.new)
         (W.traffic writer.old) (W.traffic writer.new)) }
-    ensures end { OnOk result ((R.traffic reader.old).empties < (R.traffic reader.new).empties) }
+    ensures end { OnOk result
+        ((R.traffic reader.new).empties ≡ (R.traffic reader.old).empties + 1) }
     ensures given { Gives (R.traffic reader.old) (R.traffic reader.new)
         (R.remaining reader.old) (R.remaining reader.new) }
     ensures taken { Takes (W.traffic writer.old) (W.traffic writer.new)
@@ -631,6 +635,9 @@ where
     ensures begun { OnErr result
         (Exchanges (BeginsReplyText L.named) (R.traffic reader.old) (R.traffic reader.new)
         (W.traffic writer.old) (W.traffic writer.new)) }
+    ensures broken { IfErr result (λ fault. Exchanges (BreaksOff L.named fault)
+        (R.traffic reader.old) (R.traffic reader.new) (W.traffic writer.old)
+        (W.traffic writer.new)) }
     ensures answered { IfErr result (λ fault. fault ≡ ScriptError.Read
         → Exchanges (AnswersWhole L.named) (R.traffic reader.old) (R.traffic reader.new)
         (W.traffic writer.old) (W.traffic writer.new)) }
@@ -671,7 +678,8 @@ pub fn run_script<R: Source, W: Sink, A: Allocator + Copy>(
     ensures ok { OnOk result
         (Exchanges (IsReplyText layout) (R.traffic reader.old) (R.traffic reader.new)
         (W.traffic writer.old) (W.traffic writer.new)) }
-    ensures end { OnOk result ((R.traffic reader.old).empties < (R.traffic reader.new).empties) }
+    ensures end { OnOk result
+        ((R.traffic reader.new).empties ≡ (R.traffic reader.old).empties + 1) }
     ensures given { Gives (R.traffic reader.old) (R.traffic reader.new)
         (R.remaining reader.old) (R.remaining reader.new) }
     ensures taken { Takes (W.traffic writer.old) (W.traffic writer.new)
@@ -683,6 +691,9 @@ pub fn run_script<R: Source, W: Sink, A: Allocator + Copy>(
     ensures begun { OnErr result
         (Exchanges (BeginsReplyText layout) (R.traffic reader.old) (R.traffic reader.new)
         (W.traffic writer.old) (W.traffic writer.new)) }
+    ensures broken { IfErr result (λ fault. Exchanges (BreaksOff layout fault)
+        (R.traffic reader.old) (R.traffic reader.new) (W.traffic writer.old)
+        (W.traffic writer.new)) }
     ensures answered { IfErr result (λ fault. fault ≡ ScriptError.Read
         → Exchanges (AnswersWhole layout) (R.traffic reader.old) (R.traffic reader.new)
         (W.traffic writer.old) (W.traffic writer.new)) }

@@ -79,6 +79,8 @@ pub fn run_storm<R: Threads + Wait + Sync + AllocGlobal, G: Gate + Sync, W: Sink
         (F.traffic faults.old) (F.traffic faults.new) result }
     ensures taken { Takes (W.traffic writer.old) (W.traffic writer.new)
         (W.contents writer.old) (W.contents writer.new) }
+    ensures line_taken { Takes (F.traffic faults.old) (F.traffic faults.new)
+        (F.contents faults.old) (F.contents faults.new) }
 {
     match storm(rt, rt.alloc(), workers, gate) {
         Ok(bytes) => match write_out(writer, &item_line(bytes[0])) {

@@ -10,5 +10,5 @@ returns-clause-ran g c = record {
   answered = refl;
   took = refl;
   line = subst (λ line. Tells line (g.F.Sink.traffic c.args.faults.now)
-      (g.F.Sink.traffic c.tell.new.faults)) c.refusal_line.ensures c.tell.ensures;
+      (g.F.Sink.traffic c.tell.new.faults)) c.refusal_line.ensures c.tell.ensures.told;
 }

@@ -1,5 +1,5 @@
 -- Pieces are taken one after another; at the end of the input the engine finishes.
-use Rattle.std.proofs.Common.{◌∙◌, arith}
+use Rattle.std.proofs.Common.{◌∙◌, arith, refl}
 use Rattle.arc_script.specs.declared.script.ScriptError.TheVariants.{Alloc}
 use Rattle.arc_script.proofs.Going.{if_err_is, on_ok, on_ok_then, if_err_then, run_begins}
 use Rattle.arc_script.proofs.Going.{nothing_exchanged, exchange_answered, exchange_begun}
@@ -15,7 +15,7 @@ returns-in_err-piece-clause-begun g c =
 pub pieces-init : goal.pieces-init
 pieces-init g c = record {
   running = run_begins _ _ c.args.self.now c.requires.windows c.requires.line c.requires.out;
-  empties = omega arith;
+  empties = refl;
   given = gives_nothing _ _;
   taken = takes_nothing _ _;
   room = c.in_ok-piece.ensures;
@@ -27,6 +27,11 @@ returns-then-not-branch-clause-ok g c =
     let w = g.W.Sink.traffic c.args.writer.now in
     on_ok_then c.finish.result c.finish.ensures.ok (λ h.
     exchange_answered _ _ w _ _ run.input run.given (h w.bytes run.input run.read))
+
+pub returns-then-not-branch-clause-end : goal.returns-then-not-branch-clause-end
+returns-then-not-branch-clause-end g c =
+    let end = c.in_ok-take_piece.ensures.end c.if-not-branch.true in
+    on_ok c.finish.result (omega (arith, c.pieces.invariant.empties, end))
 
 pub returns-then-not-branch-clause-clean : goal.returns-then-not-branch-clause-clean
 returns-then-not-branch-clause-clean g c =
@@ -53,7 +58,7 @@ returns-then-not-branch-clause-fault g c =
 pub pieces-preserved : goal.pieces-preserved
 pieces-preserved g c = record {
   running = c.in_ok-take_piece.ensures.ok _ _ c.pieces.invariant.running;
-  empties = omega (arith, c.pieces.invariant.empties, c.in_ok-take_piece.ensures.empties);
+  empties = c.in_ok-take_piece.ensures.empties (c.if-not-branch.false) ∙ c.pieces.invariant.empties;
   given = gives_on c.pieces.invariant.given c.in_ok-take_piece.ensures.given;
   taken = takes_on c.pieces.invariant.taken c.in_ok-take_piece.ensures.taken;
   room = c.pieces.invariant.room;

@@ -1,4 +1,4 @@
-use Rattle.std.proofs.Common.{◌≡◌, ◌≤◌, vec_len}
+use Rattle.std.proofs.Common.{◌≡◌, vec_len}
 use Rattle.arc_script.specs.Traffic.{Gives, Takes}
 use Rattle.arc_script.specs.Engine.{IsRunning}
 use Rattle.arc_script.specs.declared.script.TheConstants.{PIECE}
@@ -15,7 +15,7 @@ invariant-pieces g l =
       running :
           IsRunning g.L.NamedLayout.named (given l.fn.reader) (given l.reader) (told l.fn.writer)
           (told l.writer) l.self;
-      empties : (given l.fn.reader).empties ≤ (given l.reader).empties;
+      empties : (given l.reader).empties ≡ (given l.fn.reader).empties;
       given : Gives (given l.fn.reader) (given l.reader) (left l.fn.reader) (left l.reader);
       taken : Takes (told l.fn.writer) (told l.writer) (held l.fn.writer) (held l.writer);
       room : vec_len l.piece ≡ PIECE;
