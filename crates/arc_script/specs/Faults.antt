@@ -5,7 +5,7 @@ use Rattle.arc_script.specs.Traffic.{Traffic, NoFault, faults}
 use Rattle.arc_script.specs.declared.script.ScriptError.{ScriptError}
 use Rattle.arc_script.specs.declared.script.ScriptError.TheVariants.{Read, Write, Alloc}
 
--- why no more was written: a call of the writer went wrong, and none behind it was made, or memory was refused and each call
+-- why no more was written: one call of the writer went wrong, or memory was refused and each call
 -- went well
 abbrev pub IsWhy : Traffic → Traffic → ScriptError → Type 0
 IsWhy writer writer' Read = ⊥

@@ -50,12 +50,12 @@ pub trait Sink {
         ensures bytes { WriteAppends (contents self.old) (contents self.new) result buf.now };
 }
 
-/// A call: `None` passed where it failed.
+/// A call of a reader or a writer.
 #[derive(Clone, Copy)]
 pub struct Call<'a> {
     /// What was lent to the call.
     pub slice: &'a [u8],
-    /// How many of its first bytes passed.
+    /// How many of its first bytes passed, `None` where the call failed.
     pub passed: Option<usize>,
 }
 
