@@ -133,8 +133,8 @@ where
         }
     }
 
-    /// Makes room for so many items more in the window. As each way to write it is a call of its own,
-    /// so that nothing is tested or cleared for what another would write.
+    /// Makes room for so many items more in the window. As each way to write it is a call of its
+    /// own, so that nothing is tested or cleared for what another would write.
     #[inline(never)]
     pub(crate) fn reserve(
         &mut self,

@@ -126,8 +126,8 @@ where
     ///
     /// For a window more, what it is made of and what is shown (refused: `Alloc`), for the block of
     /// a window that is there (`Reserve`, and `Refused` of a `Freeze`), for the block to which one
-    /// of several writers moves from a vector as it is split, and for an owner more where the layout
-    /// wants it (`Owner`).
+    /// of several writers moves from a vector as it is split, and for an owner more where the
+    /// layout wants it (`Owner`).
     ///
     /// # History
     ///

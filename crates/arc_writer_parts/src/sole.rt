@@ -303,6 +303,7 @@ impl<S: Slice, B: BufferMut<S::Item> + Drop, M: Drop, A: Allocator + Copy, H: Ma
     /// Where the window hasn't the places already, in this order:
     ///
     /// - `Unsupported` where items that are dropped one by one end before the block's full places.
+    /// - Over a caller's buffer its own refusal.
     /// - `CapacityOverflow` where a block would have to grow to more than 2^63 - 1 places or bytes.
     /// - `AllocError` where memory is refused for a larger block, or for a first one of any size.
     ///

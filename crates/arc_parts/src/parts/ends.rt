@@ -88,7 +88,7 @@ impl<S: Slice, B: Buffer<S::Item> + Drop, M: Drop, A: Allocator + Copy, H: Mark>
     ///
     /// # History
     ///
-    /// On a block Down.
+    /// On a block that counts its owners Down.
     #[inline(always)]
     pub fn release_as(self, pass: &mut Pass<H>)
         requires pass { IsPassAt self.place pass.old }
@@ -118,7 +118,7 @@ impl<S: Slice, B: Buffer<S::Item> + Drop, M: Drop, A: Allocator + Copy, H: Mark>
     ///
     /// # History
     ///
-    /// On a block Down under `Open`, and nothing under `Whole`.
+    /// On a block that counts its owners Down under `Open`, and nothing under `Whole`.
     #[inline(always)]
     pub fn let_go(self) -> Pass<H>
         ensures forgotten { H.whole ≡ true → IsPassOfNone result }

@@ -43,9 +43,9 @@ pub trait IntoMut: Sized {
 
     /// The same items, as their only writer under the layout `K`, where the window stands on a
     /// block that may be written and that the layout holds, and that no other owner has, or where
-    /// it has no items and stands on no block. On a block it goes where `writer_move` says; an empty
-    /// window of a static slice stands on nothing afterwards. A native block may be written, and a
-    /// vector; a caller's buffer that was made a window to be read may not, nor an `Arc`.
+    /// it has no items and stands on no block. On a block it goes where `writer_move` says; an
+    /// empty window of a static slice stands on nothing afterwards. A native block may be written,
+    /// and a vector; a caller's buffer that was made a window to be read may not, nor an `Arc`.
     ///
     /// # Errors
     ///
