@@ -7,7 +7,9 @@
 //! | `VecLayout` | yes | counted | yes | yes |
 //! | `RawLayout` | yes | a block by itself | yes | no |
 //!
-//! All hold native blocks.
+//! All hold native blocks. A lone vector is one that is to be counted when its window is cloned
+//! first. So far each vector is counted when its window is made, under every layout: what the
+//! layouts say of lone ones here, and that a clone may then want memory, is for those to come.
 ghost use Rattle.std.specs.Prelude.{◌≡◌, ◌==◌, ◌&&◌, ℕ, Bool, true, false, refl};
 ghost use Rattle.arc_block.specs.Block.{Sort};
 ghost use Rattle.arc_block.specs.Layouts.{clones_want, never_wanted, never, always, where_full};
@@ -33,14 +35,14 @@ pub trait Layout: sealed::Sealed {
     /// Whether an `Arc` of the caller's is a block by itself, and isn't counted once more.
     ghost RAW: { Bool };
 
-    /// Whether a vector of this length and capacity stands alone until its window is cloned.
+    /// Whether a vector of this length and capacity is to stand alone until its window is cloned.
     ghost lone: { ℕ → ℕ → Bool };
 
     /// Whether a clone of a window that stands on a block of this sort may want memory.
     ghost clone_wants: { Sort → Bool };
 
-    /// A clone may want memory where a vector may stand alone, as one of no places does if any
-    /// does, and where an `Arc` is a block by itself; and nowhere else.
+    /// A clone may want memory where a vector is to stand alone, as one of no places is if any
+    /// is, and where an `Arc` is a block by itself; and nowhere else.
     ghost wants: { (sort : Sort)
         → Self.clone_wants sort ≡ clones_want (Self.lone 0 0) Self.RAW sort };
 
@@ -56,7 +58,8 @@ pub trait Layout: sealed::Sealed {
     /// Whether an `Arc` of the caller's is a block by itself, and isn't counted once more.
     const RAW: bool;
 
-    /// Whether a vector of this length and capacity stands alone until its window is cloned.
+    /// Whether a vector of this length and capacity is to stand alone until its window is cloned.
+    /// So far none does: each is counted when its window is made.
     fn is_lone(len: usize, capacity: usize) -> bool
         ensures { result ≡ lone len capacity };
 }
@@ -140,8 +143,8 @@ impl<const ANY: bool, const STATIC: bool> CloneNoAllocLayout for ArcLayout<ANY, 
     ghost clones_without_memory = { λ _. refl };
 }
 
-/// A vector whose length is its capacity, as a boxed slice's is, stands alone until its window is
-/// cloned.
+/// A vector whose length is its capacity, as a boxed slice's is, is to stand alone until its window
+/// is cloned. So far it is counted when its window is made.
 #[derive(Clone, Copy, Debug, PartialEq, Eq)]
 pub struct BoxedSliceLayout;
 
@@ -183,7 +186,8 @@ impl StaticLayout for BoxedSliceLayout {
     ghost has_static = { refl };
 }
 
-/// A vector stands alone until its window is cloned.
+/// A vector is to stand alone until its window is cloned. So far it is counted when its window is
+/// made.
 #[derive(Clone, Copy, Debug, PartialEq, Eq)]
 pub struct VecLayout;
 
