@@ -38,8 +38,8 @@ pub record AreLines (input : List ℕ) (lines : List (List ℕ)) : Type 0 where
   pub last : HasNoFeed rest
   pub are : lines ≡ whole ++ last_line rest
 
--- A byte window may be cut anywhere; an item is one byte and has a zero; the calls are those of plain
--- data, and a window may have a few items in itself.
+-- A byte window may be cut anywhere; an item is one byte and has a zero; the calls are those of
+-- plain data, and a window may have a few items in itself.
 abbrev pub byte_setting : LayoutFacts → (writes_any : Bool) → (clone_wants : Sort → Bool)
     → Setting ℕ
 byte_setting layout writes_any clone_wants =
