@@ -11,6 +11,7 @@ pub mod FitsRoom
 pub mod Among
 pub mod EachRow
 pub mod FitsStep
+pub mod Had
 pub mod Unshared
 pub mod Apart
 pub mod Several

@@ -1,33 +1,27 @@
 -- Where several may not write one block, no row becomes one of several writers', and the commands
 -- for these are answered `Kind`.
-use Rattle.std.proofs.Common.{inl, inr, ◌≡◌, ◌⊎◌, ◌&&◌, ◌≤◌, ◌==◌, not, ℕ, Bool, true, false}
-use Rattle.std.proofs.Common.{if◌then◌else◌, List, Option, Some, None, slice_set}
-use Rattle.std.proofs.Common.{refl, sym, ap, ◌∙◌, subst}
-use Rattle.std.specs.Option.{option_map_or}
+use Rattle.std.proofs.Common.{inl, inr, ◌≡◌, ◌⊎◌, ◌≤◌, ℕ, Bool, true, false}
+use Rattle.std.proofs.Common.{List, Option, Some, None, slice_set}
+use Rattle.std.proofs.Common.{refl, sym, ◌∙◌, subst}
 use Rattle.std.proofs.lemmas.Bool.{cases_Bool, false≢true}
 use Rattle.std.proofs.lemmas.Option.{none-some}
 use Rattle.arc_block.specs.Place.{Place, nowhere, static_data, on_block}
 use Rattle.arc_block.specs.Table.{Role, Row, Table, row_at}
 use Rattle.arc_parts.specs.Writers.{as_sole, sole_at}
 use Rattle.arc_commands.specs.Blocks.{NoneOfSeveral, is_several}
-use Rattle.arc_commands.specs.Changes.{Setting, Shortage, is_now}
+use Rattle.arc_commands.specs.Changes.{Setting, Shortage}
 use Rattle.arc_commands.specs.Commands.{ListCmd, ListReply}
-use Rattle.arc_commands.specs.Several.{join_answer}
-use Rattle.arc_commands.specs.Step.{Step, answer, answer_any, around_of, changed, count_brought}
-use Rattle.arc_commands.specs.Step.{answer_row, is_allowed, is_for, is_for_both, is_for_several}
-use Rattle.arc_commands.specs.Step.{joined, shortage}
+use Rattle.arc_commands.specs.Step.{Step, answer, count_brought}
+use Rattle.arc_commands.specs.Step.{is_for, is_for_several}
+use Rattle.arc_commands.specs.Step.{shortage}
 use Rattle.arc_commands.specs.declared.command.Cmd.TheVariants as command
 use Rattle.arc_commands.specs.declared.command.Reply.TheVariants as reply
-use Rattle.arc_commands.proofs.Answers.{answer_each, put-back}
+use Rattle.arc_commands.proofs.Answers.{answer_each}
+use Rattle.arc_commands.proofs.Had.{IsKind, off, pair-kind, row-kind}
 use Rattle.arc_commands.proofs.EachRow.{each-push, each-set, this}
 use Rattle.arc_commands.proofs.Outcomes.{TurnsAsMay}
 use Rattle.arc_commands.proofs.Parts.{IsPart, KeepsPart}
 use Rattle.arc_commands.proofs.Roles.{reads-several, several-sole, several-writes, writes-several}
-
--- what isn't, whatever else is
-off : (shares is : Bool) → shares ≡ false → (is && shares) ≡ false
-off shares true none = none
-off shares false none = refl
 
 -- a role that turns only as it may
 still-none : (shares : Bool) (old new : Role) → shares ≡ false → is_several old ≡ false
@@ -117,48 +111,18 @@ module _ {T M : Type 0} where
 
     -- ---- commands for several writers
 
-    -- what is answered so
-    abbrev IsKind : Table T M → ListReply T M × Table T M → Type 0
-    IsKind t answer = ((answer.0 ≡ reply.Kind) ⊎ (answer.0 ≡ reply.NoWindow)) × (answer.1 ≡ t)
-
-    row-kind : (short : Shortage) (places : ℕ) (t : Table T M) (c : ListCmd T M) (i : ℕ)
-        → ((role : Role) → is_allowed setting.calls c role ≡ false) → (x : Option (Row T M))
-        → row_at t i ≡ x
-        → IsKind t (option_map_or (λ row. changed t i
-        (answer_any setting short (around_of places t row) c row)) x (reply.NoWindow, t))
-    row-kind short places t c i not None at = (inr refl, refl)
-    row-kind short places t c i not (Some row) at =
-        subst (λ (b : Bool). IsKind t (changed t i (if b then
-        answer_row setting short (around_of places t row) c row else is_now reply.Kind row)))
-        (sym (not row.role)) (inl refl, put-back t i row at)
-
-    pair-kind : (t : Table T M) (i j : ℕ) (x y : Option (Row T M))
-        → IsKind t (option_map_or (λ row. option_map_or (λ other.
-        if is_for_both setting.calls (command.Join i j) i j row other
-        then joined t i j (join_answer row other) else (reply.Kind, t)) y (reply.NoWindow, t)) x
-        (reply.NoWindow, t))
-    pair-kind t i j None y = (inr refl, refl)
-    pair-kind t i j (Some row) None = (inr refl, refl)
-    pair-kind t i j (Some row) (Some other) =
-        let join : ListCmd T M = command.Join i j in
-        let neither : is_for_both setting.calls join i j row other ≡ false =
-        ap (λ b. b && is_allowed setting.calls join other.role && not (i == j))
-        (off setting.calls.shares (is_for join row.role) none) in
-        subst (λ (b : Bool). IsKind t (if b then joined t i j (join_answer row other) else
-        (reply.Kind, t))) (sym neither) (inl refl, refl)
-
     answer-kind : (short : Shortage) (places : ℕ) (t : Table T M) (c : ListCmd T M)
         → is_for_several c ≡ true → IsKind t (answer setting short places t c)
     answer-kind short places t (command.Share i) is =
-        row-kind short places t (command.Share i) i
+        row-kind setting short places t (command.Share i) i
         (λ role. off setting.calls.shares (is_for {T = T} {M = M} (command.Share i) role) none)
         (row_at t i) refl
     answer-kind short places t (command.Unique i) is =
-        row-kind short places t (command.Unique i) i
+        row-kind setting short places t (command.Unique i) i
         (λ role. off setting.calls.shares (is_for {T = T} {M = M} (command.Unique i) role) none)
         (row_at t i) refl
     answer-kind short places t (command.Join i j) is =
-        pair-kind t i j (row_at t i) (row_at t j)
+        pair-kind setting t i j none (row_at t i) (row_at t j)
     answer-kind short places t other is = absurd (false≢true is)
 
     pub step-kind : (t : Table T M) (c : ListCmd T M) (r : ListReply T M) (new : Table T M)

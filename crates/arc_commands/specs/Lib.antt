@@ -3,6 +3,7 @@ pub mod RunOf
 pub mod Changes
 pub mod Several
 pub mod Step
+pub mod Kinds
 pub mod Seen
 pub mod Blocks
 pub mod Fits

@@ -1,12 +1,13 @@
 //! Laws of the table of lists.
-ghost use Rattle.std.specs.Prelude.{◌≡◌, ◌⊎◌, List, false, true, ℕ};
+ghost use Rattle.std.specs.Prelude.{◌≡◌, ◌⊎◌, List, None, false, is_some, true, ℕ};
 ghost use Rattle.arc_block.specs.Table.{Table};
 ghost use Rattle.arc_commands.specs.Commands.{ListCmd, ListReply};
 ghost use Rattle.arc_commands.specs.Others.{NoneIsOn, OtherRowsStay, OthersStay, RowStays};
 ghost use Rattle.arc_commands.specs.State.{CarriesOut, State};
 ghost use Rattle.arc_commands.specs.Changes.{Setting};
 ghost use Rattle.arc_commands.specs.Blocks.{NoneOfSeveral};
-ghost use Rattle.arc_commands.specs.Step.{Run, Step, is_for_several};
+ghost use Rattle.arc_commands.specs.Kinds.{is_had};
+ghost use Rattle.arc_commands.specs.Step.{Run, Step, is_for_several, row_by, window_of};
 ghost use Rattle.arc_commands.specs.declared.command.Reply.TheVariants as reply;
 ghost use Rattle.arc_commands.specs.Worked.{MayAnswer, alone_for_more, joined_on_nothing};
 ghost use Rattle.arc_commands.specs.Worked.{joined_when_full, leaves_its_vector, not_with_itself};
@@ -40,6 +41,19 @@ pub fn shares_not<T, M>()
         (answer : ListReply T M) (new : Table T M) → setting.calls.shares ≡ false
         → is_for_several command ≡ true → Step setting old command answer new
         → ((answer ≡ reply.Kind) ⊎ (answer ≡ reply.NoWindow)) × (new ≡ old) }
+{}
+
+/// A command that the kind or the layout lacks (`is_had`) is answered `Kind`, or `NoWindow`, and
+/// changes nothing; and one that makes a window of what it brings makes one exactly where they have
+/// it. Does nothing: its contract is the law, for items and metadata of any type.
+pub fn lacks_not<T, M>()
+    ensures kind { (setting : Setting T) (old : Table T M) (command : ListCmd T M)
+        (answer : ListReply T M) (new : Table T M) → is_had setting command ≡ false
+        → Step setting old command answer new
+        → ((answer ≡ reply.Kind) ⊎ (answer ≡ reply.NoWindow)) × (new ≡ old) }
+    ensures makes { (setting : Setting T) (places block : ℕ) (command : ListCmd T M)
+        → window_of command ≡ None
+        → is_some (row_by setting places block command) ≡ is_had setting command }
 {}
 
 /// What a table of bytes may answer to some scripts of several writers. Does nothing: its contract

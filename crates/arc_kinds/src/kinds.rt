@@ -11,6 +11,8 @@ ghost use Rattle.std.proofs.lemmas.Bool.{false≢true};
 ghost use Rattle.std.proofs.lemmas.Str.{IsUtf8-had};
 ghost use Rattle.arc_owners.specs.count.Calls.{IsPassOfNone};
 ghost use Rattle.arc_parts.specs.Writers.{MakesWriter};
+ghost use Rattle.arc_commands.specs.Kinds.{Kind, calls_of, has_zero};
+ghost use Rattle.arc_commands.specs.Kinds.{byte_text_kind, owned_kind, plain_kind, text_kind};
 
 use arc_block::layout::LayoutMut;
 use arc_block::static_slice::StaticSlice;
@@ -57,6 +59,15 @@ pub trait Commands<A: Allocator>: Emptyable + TableKind {
 
     /// Its calls.
     type Calls: CallsOf<Self>;
+
+    /// Which of the four kinds it is.
+    ghost kind: { Kind };
+
+    /// Its calls are those of that kind.
+    ghost calls_are: { Self.Calls.calls ≡ calls_of kind Self.Small.small };
+
+    /// It has a zero where that kind has one.
+    ghost zero_is: { is_some Self.Zero.zero ≡ has_zero kind (is_some Self.Zero.zero) };
 
     /// The items of a list that a command brings.
     ghost items_in: { Self.Items → List Self.Item };
@@ -305,6 +316,12 @@ impl<T: TableItem, A: Allocator> Commands<A> for Plain<T> {
 
     type Calls = AllCalls<T::Small>;
 
+    ghost kind = { plain_kind };
+
+    ghost calls_are = { refl };
+
+    ghost zero_is = { refl };
+
     ghost items_in = { vec_items };
 
     ghost items_in_box = { boxed_slice_items };
@@ -344,6 +361,12 @@ impl<A: Allocator> Commands<A> for ByteText {
     type Zero = HasZero;
 
     type Calls = AllCalls<HasSmall>;
+
+    ghost kind = { byte_text_kind };
+
+    ghost calls_are = { refl };
+
+    ghost zero_is = { refl };
 
     ghost items_in = { vec_items };
 
@@ -385,6 +408,12 @@ impl<A: Allocator> Commands<A> for Text {
 
     type Calls = TextCalls;
 
+    ghost kind = { text_kind };
+
+    ghost calls_are = { refl };
+
+    ghost zero_is = { refl };
+
     ghost items_in = { string_bytes };
 
     ghost items_in_box = { boxed_str_bytes };
@@ -424,6 +453,12 @@ impl<T: Drop, A: Allocator> Commands<A> for Owned<T> {
     type Zero = NoZero;
 
     type Calls = OwnedCalls;
+
+    ghost kind = { owned_kind };
+
+    ghost calls_are = { refl };
+
+    ghost zero_is = { refl };
 
     ghost items_in = { vec_items };
 

@@ -8,6 +8,7 @@ use Rattle.arc_block.specs.Layouts.{LayoutFacts, always, clones_want, never, whe
 use Rattle.arc_block.specs.Table.{Table, empty_table}
 use Rattle.arc_commands.specs.RunOf.{RunOf}
 use Rattle.arc_commands.specs.Changes.{Setting, setting_of}
+use Rattle.arc_commands.specs.Kinds.{calls_of, plain_kind}
 use Rattle.arc_commands.specs.Step.{Step}
 use Rattle.arc_forms.specs.Text.{line_feed, Says, IsBad, answer_text}
 use Rattle.arc_forms.specs.Commands.{ByteCmd, ByteReply}
@@ -37,20 +38,13 @@ pub record AreLines (input : List ℕ) (lines : List (List ℕ)) : Type 0 where
   pub last : HasNoFeed rest
   pub are : lines ≡ whole ++ last_line rest
 
--- A byte window may be cut anywhere; an item is one byte and has a zero; items are copied, pushed
--- and put behind others, and a window may have a few in itself.
+-- A byte window may be cut anywhere; an item is one byte and has a zero; the calls are those of
+-- plain data, and a window may have a few items in itself.
 abbrev pub byte_setting : LayoutFacts → (writes_any : Bool) → (clone_wants : Sort → Bool)
     → Setting ℕ
 byte_setting layout writes_any clone_wants =
     setting_of layout writes_any clone_wants false (λ items at. true) 1 (Some 0)
-    (record {
-      copies = true;
-      pushes = true;
-      extends = true;
-      any_list = true;
-      small = true;
-      shares = true;
-    })
+    (calls_of plain_kind true)
 
 -- it goes together with the whole lines of an input, those that end by a line feed; what stands
 -- behind the last line feed is left

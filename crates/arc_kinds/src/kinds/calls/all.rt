@@ -1,5 +1,6 @@
 //! The calls of `Plain` and `ByteText`.
 ghost use Rattle.std.specs.Prelude.{true};
+ghost use Rattle.arc_commands.specs.Kinds.{calls_of, plain_kind};
 
 use super::{AllCalls, CallsOf, Smalls};
 use crate::place::set_slot;
@@ -19,14 +20,7 @@ where
     S: CopySlice + Extendable + Concatenable + Shareable + Subsliceable,
     S::Item: Copy,
 {
-    ghost calls = { record {
-      copies = true;
-      pushes = true;
-      extends = true;
-      any_list = true;
-      small = W.small;
-      shares = true;
-    } };
+    ghost calls = { calls_of plain_kind W.small };
 
     fn copies() -> bool {
         true

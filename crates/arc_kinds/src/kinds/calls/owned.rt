@@ -1,5 +1,6 @@
 //! The calls of `Owned`.
 ghost use Rattle.std.specs.Prelude.{true, false};
+ghost use Rattle.arc_commands.specs.Kinds.{calls_of, owned_kind};
 
 use super::{CallsOf, OwnedCalls};
 use arc_block::layout::{Layout, LayoutMut};
@@ -14,14 +15,7 @@ use std::alloc::Allocator;
 use std::sync::Wait;
 
 impl<S: Extendable + Subsliceable> CallsOf<S> for OwnedCalls {
-    ghost calls = { record {
-      copies = false;
-      pushes = true;
-      extends = false;
-      any_list = true;
-      small = false;
-      shares = false;
-    } };
+    ghost calls = { calls_of owned_kind false };
 
     fn copies() -> bool {
         false

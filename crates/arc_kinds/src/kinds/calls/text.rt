@@ -1,5 +1,6 @@
 //! The calls of `Text`.
 ghost use Rattle.std.specs.Prelude.{true, false};
+ghost use Rattle.arc_commands.specs.Kinds.{calls_of, text_kind};
 
 use super::{CallsOf, TextCalls, as_text};
 use crate::place::set_slot;
@@ -15,14 +16,7 @@ use std::alloc::Allocator;
 use std::sync::Wait;
 
 impl CallsOf<Text> for TextCalls {
-    ghost calls = { record {
-      copies = true;
-      pushes = false;
-      extends = true;
-      any_list = false;
-      small = true;
-      shares = true;
-    } };
+    ghost calls = { calls_of text_kind true };
 
     fn copies() -> bool {
         true
