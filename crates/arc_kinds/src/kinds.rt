@@ -63,12 +63,6 @@ pub trait Commands<A: Allocator>: Emptyable + TableKind {
     /// Which of the four kinds it is.
     ghost kind: { Kind };
 
-    /// Its calls are those of that kind.
-    ghost calls_are: { Self.Calls.calls ≡ calls_of kind Self.Small.small };
-
-    /// It has a zero where that kind has one.
-    ghost zero_is: { is_some Self.Zero.zero ≡ has_zero kind (is_some Self.Zero.zero) };
-
     /// The items of a list that a command brings.
     ghost items_in: { Self.Items → List Self.Item };
 
@@ -115,6 +109,12 @@ pub trait Commands<A: Allocator>: Emptyable + TableKind {
 
     /// Several write one block where the kind's windows may.
     ghost shares_is: { Self.Calls.calls.shares ≡ Self.SHARES };
+
+    /// Its calls are those of that kind.
+    ghost calls_are: { Self.Calls.calls ≡ calls_of kind Self.Small.small };
+
+    /// It has a zero where that kind has one.
+    ghost zero_is: { is_some Self.Zero.zero ≡ has_zero kind (is_some Self.Zero.zero) };
 }
 
 /// What a table of windows of kind S is asked, with callers' buffers B, metadata M, and A for
@@ -318,10 +318,6 @@ impl<T: TableItem, A: Allocator> Commands<A> for Plain<T> {
 
     ghost kind = { plain_kind };
 
-    ghost calls_are = { refl };
-
-    ghost zero_is = { refl };
-
     ghost items_in = { vec_items };
 
     ghost items_in_box = { boxed_slice_items };
@@ -349,6 +345,10 @@ impl<T: TableItem, A: Allocator> Commands<A> for Plain<T> {
     ghost small_is = { refl };
 
     ghost shares_is = { refl };
+
+    ghost calls_are = { refl };
+
+    ghost zero_is = { refl };
 }
 
 impl<A: Allocator> Commands<A> for ByteText {
@@ -363,10 +363,6 @@ impl<A: Allocator> Commands<A> for ByteText {
     type Calls = AllCalls<HasSmall>;
 
     ghost kind = { byte_text_kind };
-
-    ghost calls_are = { refl };
-
-    ghost zero_is = { refl };
 
     ghost items_in = { vec_items };
 
@@ -395,6 +391,10 @@ impl<A: Allocator> Commands<A> for ByteText {
     ghost small_is = { refl };
 
     ghost shares_is = { refl };
+
+    ghost calls_are = { refl };
+
+    ghost zero_is = { refl };
 }
 
 impl<A: Allocator> Commands<A> for Text {
@@ -409,10 +409,6 @@ impl<A: Allocator> Commands<A> for Text {
     type Calls = TextCalls;
 
     ghost kind = { text_kind };
-
-    ghost calls_are = { refl };
-
-    ghost zero_is = { refl };
 
     ghost items_in = { string_bytes };
 
@@ -441,6 +437,10 @@ impl<A: Allocator> Commands<A> for Text {
     ghost small_is = { refl };
 
     ghost shares_is = { refl };
+
+    ghost calls_are = { refl };
+
+    ghost zero_is = { refl };
 }
 
 impl<T: Drop, A: Allocator> Commands<A> for Owned<T> {
@@ -455,10 +455,6 @@ impl<T: Drop, A: Allocator> Commands<A> for Owned<T> {
     type Calls = OwnedCalls;
 
     ghost kind = { owned_kind };
-
-    ghost calls_are = { refl };
-
-    ghost zero_is = { refl };
 
     ghost items_in = { vec_items };
 
@@ -487,6 +483,10 @@ impl<T: Drop, A: Allocator> Commands<A> for Owned<T> {
     ghost small_is = { refl };
 
     ghost shares_is = { refl };
+
+    ghost calls_are = { refl };
+
+    ghost zero_is = { refl };
 }
 
 impl TableItem for () {
