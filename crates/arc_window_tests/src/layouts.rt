@@ -1,7 +1,8 @@
 //! An `Arc` that is a block by itself, and windows that go to other layouts.
-use arc_block::layout::{ArcLayout, DefaultLayout, RawLayout};
+use arc_block::layout::{ArcLayout, DefaultLayout, DefaultLayoutMut, RawLayout, VecLayout};
 use arc_buffer::kinds::{Owned, Plain};
 use arc_read::slice::ArcSlice;
+use arc_write::slice_mut::{ArcBytesMut, IntoMut};
 use counting_heap::CountingHeap;
 use std::alloc::Global;
 use std::sync::{Arc, Wait};
@@ -96,5 +97,69 @@ fn held_or_handed_back(rt: HostRuntime) -> Result<(), Fail> {
     let told = items_dropped(&rt, rt.alloc(), &heap);
     assert!(rt; told == Some(((true, 2, 1), 1)));
     assert!(rt; heap.pieces() == 0);
+    Ok(())
+}
+
+/// How many items a window on nothing has under a layout that has no static data, and whether it is
+/// alone there.
+fn from_nothing(alloc: Global) -> Option<(usize, bool)> {
+    let window: ArcSlice<Plain<u8>> = ArcSlice::new(alloc);
+    let window = window.try_with_layout::<ArcLayout<true, false>>().ok()?;
+    Some((window.len(), window.is_unique()))
+}
+
+/// A layout of native blocks.
+type Native = ArcLayout<false, true>;
+
+/// Whether a window of a vector comes back with its bytes from a layout that holds none, to which
+/// it goes to be written; and whether one of a list of them doesn't.
+fn not_written(alloc: Global, bytes: &[u8]) -> Option<[bool; 2]> {
+    let items = Vec::from_slice(alloc, bytes).ok()?;
+    let window: ArcSlice<Plain<u8>> = ArcSlice::try_from_vec(alloc, items).ok()?;
+    let back = window.try_into_mut::<Native>().err()?;
+    let is_back = back.eq_slice(bytes);
+    drop(back);
+    let window: ArcSlice<Plain<u8>> = ArcSlice::try_from_slice(alloc, bytes).ok()?;
+    let writer = window.try_into_mut::<Native>().ok()?;
+    Some([is_back, writer.eq_slice(bytes)])
+}
+
+/// The same of a writer that goes to be read.
+fn not_read(alloc: Global, bytes: &[u8]) -> Option<[bool; 2]> {
+    let items = Vec::from_slice(alloc, bytes).ok()?;
+    let writer = ArcBytesMut::<DefaultLayoutMut>::try_from_vec(alloc, items).ok()?;
+    let back = writer.try_freeze::<Native>().err()?;
+    let is_back = back.eq_slice(bytes);
+    drop(back);
+    let writer = ArcBytesMut::<DefaultLayoutMut>::try_from_slice(alloc, bytes).ok()?;
+    let window = writer.try_freeze::<Native>().ok()?;
+    Some([is_back, window.eq_slice(bytes)])
+}
+
+/// Writers over a vector as a caller's buffer, with a number.
+type Over<L> = ArcBytesMut<L, Vec<u8>, u8>;
+
+/// Whether a writer over a buffer of four places has these bytes under another layout, and how many
+/// places and what metadata it has under the first one and under that.
+fn over_buffer(alloc: Global, bytes: &[u8]) -> Option<(bool, [usize; 2], [Option<u8>; 2])> {
+    let mut buffer = Vec::with_capacity(alloc, 4).ok()?;
+    buffer.extend_from_slice(bytes).ok()?;
+    let window = Over::<DefaultLayoutMut>::try_from_buffer_with_metadata(alloc, buffer, 9).ok()?;
+    let (places, metadata) = (window.capacity(), window.metadata().copied());
+    let window = window.try_with_layout::<VecLayout>().ok()?;
+    let is_same = window.as_slice() == bytes;
+    let all_places = [places, window.capacity()];
+    Some((is_same, all_places, [metadata, window.metadata().copied()]))
+}
+
+/// A window goes where the layout holds what it stands on, or makes a block for it, with all that
+/// it has. Else it comes back.
+#[test]
+fn moved_or_handed_back(rt: HostRuntime) -> Result<(), Fail> {
+    assert!(rt; from_nothing(rt.alloc()) == Some((0, true)));
+    assert!(rt; not_written(rt.alloc(), &[1, 2, 3]) == Some([true; 2]));
+    assert!(rt; not_read(rt.alloc(), &[1, 2, 3]) == Some([true; 2]));
+    let told = over_buffer(rt.alloc(), &[1, 2]);
+    assert!(rt; told == Some((true, [4; 2], [Some(9); 2])));
     Ok(())
 }

@@ -28,6 +28,8 @@ mod owned_buffers;
 #[cfg(test)]
 mod printing;
 #[cfg(test)]
+mod read_buffers;
+#[cfg(test)]
 mod reader_adapters;
 #[cfg(test)]
 mod readers;

@@ -1,17 +1,20 @@
-//! A native block is one piece of memory, which its last owner gives back.
-use arc_block::layout::{DefaultLayout, DefaultLayoutMut};
+//! A native block is one piece of memory, which its last owner gives back; what comes in as it is
+//! takes one more for its count.
+use arc_block::layout::{AnyBufferLayout, DefaultLayout, DefaultLayoutMut, RawLayout};
 use arc_buffer::kinds::Plain;
 use arc_read::slice::ArcSlice;
 use arc_write::slice_mut::{ArcSliceMut, IntoMut};
 use counting_heap::CountingHeap;
 use std::alloc::Global;
-use std::sync::Wait;
+use std::sync::{Arc, Wait};
 use std::test::Fail;
 
 /// A heap that counts.
 type Heap<'a> = &'a CountingHeap<Global>;
 
-type Reader<'a> = ArcSlice<Plain<u8>, DefaultLayout, Vec<u8, Heap<'a>>, (), Heap<'a>>;
+type Under<'a, L> = ArcSlice<Plain<u8>, L, Vec<u8, Heap<'a>>, (), Heap<'a>>;
+
+type Reader<'a> = Under<'a, DefaultLayout>;
 
 type Writer<'a> = ArcSliceMut<Plain<u8>, DefaultLayoutMut, 1, Vec<u8, Heap<'a>>, (), Heap<'a>>;
 
@@ -96,5 +99,132 @@ fn one_piece(rt: HostRuntime) -> Result<(), Fail> {
     assert!(rt; ended(&rt, &heap, false) == wanted);
     let heap = CountingHeap::new(rt.alloc());
     assert!(rt; written(&heap) == Some([[1, 1], [2, 1], [2, 1], [2, 0]]));
+    Ok(())
+}
+
+/// What is told of a vector of three bytes, once a window is made of it, once the window has given
+/// it back, and when it has ended.
+fn of_vector(heap: Heap<'_>) -> Option<[[u64; 2]; 4]> {
+    let items = Vec::from_slice(heap, &[1, 2, 3]).ok()?;
+    let given = told(heap);
+    let window = Reader::try_from_vec(heap, items).ok()?;
+    let made = told(heap);
+    let items = window.try_into_vec().ok()?;
+    let taken = told(heap);
+    drop(items);
+    Some([given, made, taken, told(heap)])
+}
+
+/// The same of a box.
+fn of_box(heap: Heap<'_>) -> Option<[[u64; 2]; 4]> {
+    let items = Vec::from_slice(heap, &[1, 2, 3]).ok()?.into_boxed_slice();
+    let given = told(heap);
+    let window = Reader::try_from_boxed(heap, items).ok()?;
+    let made = told(heap);
+    let items = window.try_into_boxed().ok()?;
+    let taken = told(heap);
+    drop(items);
+    Some([given, made, taken, told(heap)])
+}
+
+/// The same of a box whose memory has places to spare.
+fn of_box_with_room(heap: Heap<'_>) -> Option<[[u64; 2]; 4]> {
+    let mut items = Vec::with_capacity(heap, 8).ok()?;
+    items.extend_from_slice(&[1, 2, 3]).ok()?;
+    let items = items.into_boxed_slice();
+    let given = told(heap);
+    let window = Reader::try_from_boxed(heap, items).ok()?;
+    let made = told(heap);
+    let items = window.try_into_boxed().ok()?;
+    let taken = told(heap);
+    drop(items);
+    Some([given, made, taken, told(heap)])
+}
+
+/// The same of a vector as a caller's buffer.
+fn of_buffer(heap: Heap<'_>) -> Option<[[u64; 2]; 4]> {
+    let items = Vec::from_slice(heap, &[1, 2, 3]).ok()?;
+    let given = told(heap);
+    let window = Reader::try_from_buffer(heap, items).ok()?;
+    let made = told(heap);
+    let items = window.try_into_buffer().ok()?;
+    let taken = told(heap);
+    drop(items);
+    Some([given, made, taken, told(heap)])
+}
+
+/// The same of a vector behind an `Arc`.
+fn of_arc<L: AnyBufferLayout>(heap: Heap<'_>) -> Option<[[u64; 2]; 4]> {
+    let items = Vec::from_slice(heap, &[1, 2, 3]).ok()?;
+    let shared = Arc::new(heap, items).ok()?;
+    let given = told(heap);
+    let window = Under::<L>::try_from_raw_buffer(heap, shared).ok()?;
+    let made = told(heap);
+    let shared = window.try_into_raw_buffer().ok()?;
+    let taken = told(heap);
+    drop(shared);
+    Some([given, made, taken, told(heap)])
+}
+
+/// The same of a vector and a writer.
+fn writer_of_vector(heap: Heap<'_>) -> Option<[[u64; 2]; 4]> {
+    let items = Vec::from_slice(heap, &[1, 2, 3]).ok()?;
+    let given = told(heap);
+    let window = Writer::try_from_vec(heap, items).ok()?;
+    let made = told(heap);
+    let items = window.try_into_vec().ok()?;
+    let taken = told(heap);
+    drop(items);
+    Some([given, made, taken, told(heap)])
+}
+
+/// The same of a caller's buffer and a writer.
+fn writer_of_buffer(heap: Heap<'_>) -> Option<[[u64; 2]; 4]> {
+    let items = Vec::from_slice(heap, &[1, 2, 3]).ok()?;
+    let given = told(heap);
+    let window = Writer::try_from_buffer(heap, items).ok()?;
+    let made = told(heap);
+    let items = window.try_into_buffer().ok()?;
+    let taken = told(heap);
+    drop(items);
+    Some([given, made, taken, told(heap)])
+}
+
+/// The same heap, which counts its requests anew.
+fn anew(heap: Heap<'_>) -> Heap<'_> {
+    heap.refuse(0);
+    heap
+}
+
+/// What is told of each that is one piece of memory, of readers first.
+fn of_each(heap: Heap<'_>) -> [Option<[[u64; 2]; 4]>; 5] {
+    [
+        of_vector(anew(heap)),
+        of_box(anew(heap)),
+        of_buffer(anew(heap)),
+        writer_of_vector(anew(heap)),
+        writer_of_buffer(anew(heap)),
+    ]
+}
+
+/// What is told of an `Arc`, that is counted once more and that is a block by itself.
+fn of_arcs(heap: Heap<'_>) -> [Option<[[u64; 2]; 4]>; 2] {
+    [
+        of_arc::<DefaultLayout>(anew(heap)),
+        of_arc::<RawLayout>(anew(heap)),
+    ]
+}
+
+/// What comes in takes one request more, for the count, and none where an `Arc` is a block by
+/// itself: its items aren't copied, but those of a box with places to spare. It is given back
+/// without one.
+#[test]
+fn one_request(rt: HostRuntime) -> Result<(), Fail> {
+    let heap = CountingHeap::new(rt.alloc());
+    assert!(rt; of_box_with_room(&heap) == Some([[1, 1], [3, 2], [3, 1], [3, 0]]));
+    assert!(rt; of_each(&heap) == [Some([[1, 1], [2, 2], [2, 1], [2, 0]]); 5]);
+    let counted = Some([[2, 2], [3, 3], [3, 2], [3, 0]]);
+    let by_itself = Some([[2, 2], [2, 2], [2, 2], [2, 0]]);
+    assert!(rt; of_arcs(&heap) == [counted, by_itself]);
     Ok(())
 }

@@ -13,7 +13,7 @@ use std::collections::{BTreeMap, HashMap};
 use std::convert::{AsSlice, AsStr};
 use std::hash::{DefaultHasher, Hash, Hasher};
 use std::io::{ErrorKind, Read};
-use std::sync::Wait;
+use std::sync::{Arc, Wait};
 use std::test::Fail;
 
 /// Whether a window over these bytes is written so, in lower case digits and in upper case ones.
@@ -310,12 +310,24 @@ fn printed(rt: HostRuntime) -> Result<(), Fail> {
     Ok(())
 }
 
-/// A window of these bytes, over a vector or a block of its own.
-fn standing(alloc: Global, is_vector: bool, bytes: &[u8]) -> Option<Key> {
-    if is_vector {
-        return Key::try_from_vec(alloc, Vec::from_slice(alloc, bytes).ok()?).ok();
+/// What a window stands on.
+#[derive(Clone, Copy)]
+enum Sort {
+    Native,
+    Vector,
+    Buffer,
+    Shared,
+}
+
+/// A window of these bytes that stands on this.
+fn standing(alloc: Global, sort: Sort, bytes: &[u8]) -> Option<Key> {
+    let items = Vec::from_slice(alloc, bytes).ok()?;
+    match sort {
+        Sort::Native => Key::try_from_slice(alloc, bytes).ok(),
+        Sort::Vector => Key::try_from_vec(alloc, items).ok(),
+        Sort::Buffer => Key::try_from_buffer(alloc, items).ok(),
+        Sort::Shared => Key::try_from_raw_buffer(alloc, Arc::new(alloc, items).ok()?).ok(),
     }
-    Key::try_from_slice(alloc, bytes).ok()
 }
 
 /// Whether the three bytes behind the first of a window are equal to those of another window, and
@@ -329,17 +341,17 @@ fn part_beside(rt: &impl Wait, window: Key, other: Key) -> Option<[bool; 2]> {
     Some([part == other, hash_of(&part) == hash_of(&other)])
 }
 
-/// The same of windows of which either may stand on a vector.
+/// The same of windows that stand on these.
 fn parts_beside(
     rt: &impl Wait,
     alloc: Global,
-    are_vectors: (bool, bool),
+    sorts: (Sort, Sort),
     other: &[u8],
 ) -> Option<[bool; 2]> {
     part_beside(
         rt,
-        standing(alloc, are_vectors.0, b"xabc")?,
-        standing(alloc, are_vectors.1, other)?,
+        standing(alloc, sorts.0, b"xabc")?,
+        standing(alloc, sorts.1, other)?,
     )
 }
 
@@ -347,9 +359,12 @@ fn parts_beside(
 /// hash.
 #[test]
 fn parts_compared(rt: HostRuntime) -> Result<(), Fail> {
-    for both in [(false, false), (true, false), (false, true), (true, true)] {
-        assert!(rt; parts_beside(&rt, rt.alloc(), both, b"abc") == Some([true; 2]));
-        assert!(rt; parts_beside(&rt, rt.alloc(), both, b"xab") == Some([false; 2]));
+    let sorts = [Sort::Native, Sort::Vector, Sort::Buffer, Sort::Shared];
+    for one in sorts {
+        for two in sorts {
+            assert!(rt; parts_beside(&rt, rt.alloc(), (one, two), b"abc") == Some([true; 2]));
+            assert!(rt; parts_beside(&rt, rt.alloc(), (one, two), b"xab") == Some([false; 2]));
+        }
     }
     Ok(())
 }

@@ -1,5 +1,6 @@
 //! Windows in other threads, which read, write and end them: over items, callers' buffers and
 //! metadata that may go there.
+use crate::living::{Values, first_three, living, values};
 use arc_block::layout::{DefaultLayout, DefaultLayoutMut, RawLayout};
 use arc_buffer::kinds::{Owned, Plain};
 use arc_read::slice::ArcSlice;
@@ -202,5 +203,70 @@ fn arcs_go_to_threads(rt: HostRuntime) -> Result<(), Fail> {
     for _ in 0..100u32 {
         assert!(rt; ended_by_two_told(&rt, rt.alloc()) == Some(((1, 1), 1)));
     }
+    Ok(())
+}
+
+/// Values on a block of ours.
+type OwnValues = ArcSlice<Owned<Arc<u8>>>;
+
+/// A reader of the first three values, which a writer had.
+fn frozen(alloc: Global, values: &Values) -> Option<OwnValues> {
+    let items = first_three(values)?;
+    let writer = ArcSliceMut::<Owned<Arc<u8>>, DefaultLayoutMut, 1>::try_from_array(
+        alloc, items,
+    ).ok()?;
+    writer.try_freeze::<DefaultLayout>().ok()
+}
+
+/// How many values a window and another one have, which another thread ends, and a third, which
+/// this one ends.
+fn ended_apart(
+    rt: &impl Threads,
+    there: (OwnValues, OwnValues),
+    here: OwnValues,
+) -> ([usize; 2], usize) {
+    thread::join(
+        rt,
+        move || [there.0.len(), there.1.len()],
+        move || here.len(),
+    )
+}
+
+/// The same of a clone and a cut of the first three values' window, and of that itself; and how
+/// many owners each value has before and then.
+fn ended_apart_told<R: Threads + Wait>(
+    rt: &R,
+    alloc: Global,
+    values: &Values,
+) -> Option<(([usize; 2], usize), [[usize; 5]; 2])> {
+    let here = frozen(alloc, values)?;
+    let clone = here.try_clone(rt).ok()?;
+    if here.check_range(1, 3).is_err() {
+        return None;
+    }
+    let part = here.try_subslice(rt, 1, 3).ok()?;
+    let before = living(values);
+    let counted = ended_apart(rt, (clone, part), here);
+    Some((counted, [before, living(values)]))
+}
+
+/// How often of so many rounds the windows of one block end in two threads, and each item of it is
+/// dropped once.
+fn rounds_passed<R: Threads + Wait>(rt: &R, alloc: Global, rounds: u32) -> Option<u32> {
+    let values = values(alloc)?;
+    let wanted = (([3, 2], 3), [[2, 2, 2, 1, 1], [1; 5]]);
+    let mut passed = 0u32;
+    for _ in 0..rounds {
+        if ended_apart_told(rt, alloc, &values) == Some(wanted) {
+            passed = passed.wrapping_add(1);
+        }
+    }
+    Some(passed)
+}
+
+/// Items that are dropped one by one are dropped once, whichever thread ends the last window.
+#[test]
+fn items_dropped_once(rt: HostRuntime) -> Result<(), Fail> {
+    assert!(rt; rounds_passed(&rt, rt.alloc(), 100) == Some(100));
     Ok(())
 }

@@ -1,4 +1,4 @@
-//! Vectors in and out: with places to spare, and of items of no size.
+//! Vectors and boxes in and out: with places to spare, and of items of no size.
 use arc_block::layout::DefaultLayoutMut;
 use arc_buffer::kinds::{Owned, Plain, VecIn, Wraps};
 use arc_read::slice::ArcSlice;
@@ -97,5 +97,31 @@ fn told(len: usize) -> Told {
 fn in_and_out(rt: HostRuntime) -> Result<(), Fail> {
     assert!(rt; read(rt.alloc()) == Some([told(3), told(3)]));
     assert!(rt; written(rt.alloc()) == Some([told(3), told(3), told(2)]));
+    Ok(())
+}
+
+/// Whether a window of a box whose memory has places to spare has the box's bytes, and the box that
+/// it gives back.
+fn of_box(alloc: Global, wanted: &[u8]) -> Option<[bool; 2]> {
+    let items = bytes(alloc)?.into_boxed_slice();
+    let window = ArcSlice::<Plain<u8>>::try_from_boxed(alloc, items).ok()?;
+    let is_same = window.as_slice() == wanted;
+    let back = window.try_into_boxed().ok()?;
+    Some([is_same, &back[..] == wanted])
+}
+
+/// The same of a box of boxes: how many come back, and what the first one has.
+fn of_box_of_boxes(alloc: Global) -> Option<(usize, Option<u8>)> {
+    let items = boxes(alloc)?.into_boxed_slice();
+    let window = ArcSlice::<Owned<Box<u8>>>::try_from_boxed(alloc, items).ok()?;
+    let back = window.try_into_boxed().ok()?;
+    Some((back.len(), back.first().map(|item| **item)))
+}
+
+/// A box keeps its items where its memory has to be cut to them.
+#[test]
+fn boxed_with_room(rt: HostRuntime) -> Result<(), Fail> {
+    assert!(rt; of_box(rt.alloc(), &[1, 2, 3]) == Some([true; 2]));
+    assert!(rt; of_box_of_boxes(rt.alloc()) == Some((2, Some(7))));
     Ok(())
 }
