@@ -8,10 +8,10 @@ use call::Line;
 use counting_heap::CountingHeap;
 use kept::{TAKINGS, Taking, takes};
 use rows::{
-    BY_ITSELF, COUNTED, GIVEN, READ_OR_WRITTEN, SEVERAL, TO_BLOCK, VECTORS, WITH_NOTHING,
-    WITHOUT_NOTHING,
+    BY_ITSELF, COUNTED, GIVEN, READ_OR_WRITTEN, TO_BLOCK, VECTORS, WITH_NOTHING, WITHOUT_NOTHING,
 };
 use run::run;
+use several_rows::SEVERAL;
 use std::alloc::{AllocError, Global};
 use std::sync::Wait;
 use std::test::Fail;
@@ -28,6 +28,7 @@ mod part;
 mod rows;
 mod run;
 mod several;
+mod several_rows;
 mod text;
 mod turn;
 mod window;
@@ -118,9 +119,10 @@ fn missed_by_row(
     rt: &impl Wait,
     alloc: Global,
     heap: Heap<'_>,
-) -> Result<[Option<(usize, Miss)>; 10], AllocError> {
+) -> Result<[Option<(usize, Miss)>; 11], AllocError> {
     Ok([
         missed::<DefaultLayout, DefaultLayoutMut>(rt, alloc, heap, COUNTED)?,
+        missed::<Any, Any>(rt, alloc, heap, COUNTED)?,
         missed::<VecLayout, VecLayout>(rt, alloc, heap, COUNTED)?,
         missed::<RawLayout, DefaultLayoutMut>(rt, alloc, heap, BY_ITSELF)?,
         missed::<BoxedSliceLayout, DefaultLayoutMut>(rt, alloc, heap, WITH_NOTHING)?,
@@ -202,7 +204,7 @@ fn refused_in_turn(rt: HostRuntime) -> Result<(), Fail> {
     assert!(rt; missed_by_layout(&rt, rt.alloc(), &heap, READ_OR_WRITTEN)? == [None; 7]);
     assert!(rt; missed_by_layout(&rt, rt.alloc(), &heap, GIVEN)? == [None; 7]);
     assert!(rt; missed_by_layout(&rt, rt.alloc(), &heap, SEVERAL)? == [None; 7]);
-    assert!(rt; missed_by_row(&rt, rt.alloc(), &heap)? == [None; 10]);
+    assert!(rt; missed_by_row(&rt, rt.alloc(), &heap)? == [None; 11]);
     assert!(rt; takings_counted(&heap) == TAKINGS.len());
     assert!(rt; texts_counted::<DefaultLayout>(&rt, rt.alloc(), &heap)? == TEXTS.len());
     assert!(rt; texts_counted::<BoxedSliceLayout>(&rt, rt.alloc(), &heap)? == TEXTS.len());
