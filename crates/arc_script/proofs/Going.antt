@@ -264,6 +264,19 @@ exchange_begun fault r r' w w' state input given b = record {
   fit = (b.left, b.lacking, b.begins, b.lacks);
 }
 
+-- where a write failed, what is held then is lacking too
+unwritten : {layout : ScriptLayout} (start input : List ℕ) (w : Traffic) (out : List ℕ)
+    (state : ByteState) → IsBegun layout Write start input w out state
+    → IsBegun layout Write start input w [] state
+unwritten start input w out state b = record {
+  text = b.text;
+  left = b.left;
+  lacking = out ++ b.lacking;
+  taken = b.taken;
+  begins = b.begins;
+  lacks = tt;
+}
+
 module _ {layout : ScriptLayout} {L A W : Type 0} {N : Named.Ghosts L W}
     {G : Layout.Ghosts L W} {K : Layout.Ghosts W W} where
   -- a run that stops without reading more
@@ -297,6 +310,18 @@ module _ {layout : ScriptLayout} {L A W : Type 0} {N : Named.Ghosts L W}
       (more ∙ ap (λ xs. xs ++ bytes) run.given ∙ append_assoc r.bytes run.input bytes)
       (subst (λ o. IsBegun layout fault w.bytes (run.input ++ bytes) w2 o e1.table) none
       (subst (λ xs. IsBegun layout fault w.bytes (run.input ++ xs) w2 e1.out.items e1.table)
+      (append-nil bytes) (stops w.bytes run.input [] run.read)))
+
+  -- a run that stops there because a write failed, whatever is held
+  pub run_stops_writing : (r r1 r2 w w1 w2 : Traffic) (e e1 : Engine L A W N G K)
+      (bytes : List ℕ) → IsRunning layout r r1 w w1 e → r2.bytes ≡ r1.bytes ++ bytes
+      → Stops layout bytes w1 w2 e e1 Write
+      → Exchanges (IsBrokenOff layout Write e1.table) r r2 w w2
+  run_stops_writing r r1 r2 w w1 w2 e e1 bytes run more stops =
+      exchange_begun Write r r2 w w2 e1.table (run.input ++ bytes)
+      (more ∙ ap (λ xs. xs ++ bytes) run.given ∙ append_assoc r.bytes run.input bytes)
+      (unwritten w.bytes (run.input ++ bytes) w2 e1.out.items e1.table
+      (subst (λ xs. IsBegun layout Write w.bytes (run.input ++ xs) w2 e1.out.items e1.table)
       (append-nil bytes) (stops w.bytes run.input [] run.read)))
 
   -- a run that goes on

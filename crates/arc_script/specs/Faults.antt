@@ -12,13 +12,13 @@ IsWhy writer writer' Read = ⊥
 IsWhy writer writer' Write = faults writer' ≡ faults writer + 1
 IsWhy writer writer' Alloc = NoFault writer writer'
 
--- The cause of a run's fault: a read failed, or a call of the writer went wrong, or memory was
+-- The cause of a run's fault: one read failed, or one call of the writer went wrong, or memory was
 -- refused. Of the other calls none went wrong.
 abbrev pub IsCause : Traffic → Traffic → Traffic → Traffic → ScriptError → Type 0
-IsCause reader reader' writer writer' Read = (reader.failures < reader'.failures)
+IsCause reader reader' writer writer' Read = (reader'.failures ≡ reader.failures + 1)
     × NoFault writer writer'
 IsCause reader reader' writer writer' Write = (reader'.failures ≡ reader.failures)
-    × (faults writer < faults writer')
+    × (faults writer' ≡ faults writer + 1)
 IsCause reader reader' writer writer' Alloc = (reader'.failures ≡ reader.failures)
     × NoFault writer writer'
 

@@ -438,9 +438,13 @@ where
         if read == 0 {
             return Ok(false);
         }
+        let fed = self.feed(rt, writer, &piece[..read]);
+        if let Err(ScriptError::Write) = fed {
+            // Nothing is written behind a call that went wrong.
+            return Err(ScriptError::Write);
+        }
         // A write that fails is the fault, also where memory was refused before: `Alloc` says that
         // every reply that had room was taken.
-        let fed = self.feed(rt, writer, &piece[..read]);
         self.flush(writer)?;
         fed?;
         Ok(true)
