@@ -314,15 +314,16 @@ module _ {layout : ScriptLayout} {L A W : Type 0} {N : Named.Ghosts L W}
 
   -- a run that stops there because a write failed, whatever is held
   pub run_stops_writing : (r r1 r2 w w1 w2 : Traffic) (e e1 : Engine L A W N G K)
-      (bytes : List ℕ) → IsRunning layout r r1 w w1 e → r2.bytes ≡ r1.bytes ++ bytes
-      → Stops layout bytes w1 w2 e e1 Write
+      (bytes : List ℕ) (fault : ScriptError) → IsRunning layout r r1 w w1 e
+      → r2.bytes ≡ r1.bytes ++ bytes → fault ≡ Write → Stops layout bytes w1 w2 e e1 fault
       → Exchanges (IsBrokenOff layout Write e1.table) r r2 w w2
-  run_stops_writing r r1 r2 w w1 w2 e e1 bytes run more stops =
+  run_stops_writing r r1 r2 w w1 w2 e e1 bytes fault run more is stops =
+      let lost = subst (Stops layout bytes w1 w2 e e1) is stops in
       exchange_begun Write r r2 w w2 e1.table (run.input ++ bytes)
       (more ∙ ap (λ xs. xs ++ bytes) run.given ∙ append_assoc r.bytes run.input bytes)
       (unwritten w.bytes (run.input ++ bytes) w2 e1.out.items e1.table
       (subst (λ xs. IsBegun layout Write w.bytes (run.input ++ xs) w2 e1.out.items e1.table)
-      (append-nil bytes) (stops w.bytes run.input [] run.read)))
+      (append-nil bytes) (lost w.bytes run.input [] run.read)))
 
   -- a run that goes on
   pub run_goes_on : (r r1 r2 w w1 w2 : Traffic) (e e1 : Engine L A W N G K) (bytes : List ℕ)

@@ -438,16 +438,20 @@ where
         if read == 0 {
             return Ok(false);
         }
-        let fed = self.feed(rt, writer, &piece[..read]);
-        if let Err(ScriptError::Write) = fed {
+        match self.feed(rt, writer, &piece[..read]) {
+            Ok(()) => {
+                self.flush(writer)?;
+                Ok(true)
+            }
             // Nothing is written behind a call that went wrong.
-            return Err(ScriptError::Write);
+            Err(ScriptError::Write) => Err(ScriptError::Write),
+            // A write that fails is the fault, also where memory was refused before: `Alloc` says
+            // that every reply that had room was taken.
+            Err(fault) => {
+                self.flush(writer)?;
+                Err(fault)
+            }
         }
-        // A write that fails is the fault, also where memory was refused before: `Alloc` says that
-        // every reply that had room was taken.
-        self.flush(writer)?;
-        fed?;
-        Ok(true)
     }
 
     /// Answers what stands behind the last line feed, unless it is empty.
