@@ -7,7 +7,7 @@ use arc_buffer::kinds::Owned;
 use arc_table::table::Table;
 use counting_heap::CountingHeap;
 use rows::{ROWS, Row};
-use sent::{Heap, Items, Line, Values, command, living, values};
+use sent::{Heap, Items, Line, Values, command, has_values, living, values, wanted};
 use std::alloc::Global;
 use std::sync::{Arc, Wait};
 
@@ -17,7 +17,8 @@ mod sent;
 /// A table of values.
 type Owning<'a> = Table<Owned<Arc<u8>>, DefaultLayout, Items<'a>, u8, Heap<'a>>;
 
-/// Whether a command is answered as it is to be. It isn't where memory for it is refused.
+/// Whether a command is answered as it is to be, and gives the values that it is to. It isn't where
+/// memory for it is refused.
 fn is_answered<'a>(
     rt: &impl Wait,
     heap: Heap<'a>,
@@ -25,9 +26,13 @@ fn is_answered<'a>(
     values: &Values,
     line: Line,
 ) -> bool {
-    let (call, wanted) = line;
+    let (call, answer) = line;
     match command(heap, values, call) {
-        Some(sent) => told(table.step(rt, sent)) == wanted,
+        Some(sent) => {
+            let reply = table.step(rt, sent);
+            let has_values = has_values(&reply, wanted(call));
+            (told(reply), has_values) == (answer, answer.is_of_items())
+        }
         None => false,
     }
 }

@@ -35,6 +35,16 @@ pub enum Said {
     Alloc,
 }
 
+impl Said {
+    /// Whether such a reply has items.
+    pub fn is_of_items(self) -> bool {
+        match self {
+            Said::Items | Said::Vec | Said::Boxed | Said::Buffer | Said::Raw | Said::Static => true,
+            _ => false,
+        }
+    }
+}
+
 /// What a reply says. The items that it hands out are dropped.
 pub fn told<G: Given>(reply: Reply<G>) -> Said
 where

@@ -1,38 +1,42 @@
 //! Tables of text, which is cut, split and joined between characters alone, and has no bytes pushed
-//! into it.
-use crate::tables::{Said, has_items, told};
-use arc_block::layout::DefaultLayout;
+//! into it. What they answer is the same under each layout that has static data and vectors.
+use crate::tables::told;
+use arc_block::layout::{DefaultLayout, Layout, LayoutMut, VecLayout};
 use arc_buffer::kinds::Text;
 use arc_table::table::Table;
 use rows::{Line, ROWS};
-use sent::{command, shown};
+use sent::{command, has_text, wanted};
 use std::alloc::Global;
 use std::sync::Wait;
 
 mod rows;
 mod sent;
 
-/// A table of texts.
-type Texts = Table<Text, DefaultLayout, Vec<u8>, (), Global>;
+/// A table of texts under a layout.
+type Texts<L> = Table<Text, L, Vec<u8>, (), Global>;
 
-/// Whether a command is answered as it is to be, and shows the text that it is to show.
-fn is_answered(rt: &impl Wait, alloc: Global, table: &mut Texts, line: Line) -> bool {
-    let (call, wanted) = line;
-    let text = shown(call);
+/// Whether a command is answered as it is to be, and shows or gives the text that it is to.
+fn is_answered<L: Layout>(rt: &impl Wait, alloc: Global, table: &mut Texts<L>, line: Line) -> bool
+where
+    L::Writable: LayoutMut,
+{
+    let (call, answer) = line;
     match command(alloc, call) {
         Some(sent) => {
             let reply = table.step(rt, sent);
-            let is_shown = has_items(&reply, text.as_bytes());
-            let said = told(reply);
-            (said, is_shown) == (wanted, said == Said::Items)
+            let has_text = has_text(&reply, wanted(call));
+            (told(reply), has_text) == (answer, answer.is_of_items())
         }
         None => false,
     }
 }
 
 /// How many lines of a row a table answers otherwise. The table has ended.
-fn run(rt: &impl Wait, alloc: Global, row: &[Line]) -> usize {
-    let mut table: Texts = Table::new(alloc);
+fn run<L: Layout>(rt: &impl Wait, alloc: Global, row: &[Line]) -> usize
+where
+    L::Writable: LayoutMut,
+{
+    let mut table: Texts<L> = Table::new(alloc);
     let mut others = 0usize;
     for line in row {
         if !is_answered(rt, alloc, &mut table, *line) {
@@ -44,10 +48,13 @@ fn run(rt: &impl Wait, alloc: Global, row: &[Line]) -> usize {
 }
 
 /// The first row that goes otherwise, by its place; all rows' number where none does.
-fn passed(rt: &impl Wait, alloc: Global) -> usize {
+fn passed<L: Layout>(rt: &impl Wait, alloc: Global) -> usize
+where
+    L::Writable: LayoutMut,
+{
     let mut count = 0usize;
     for row in ROWS {
-        if run(rt, alloc, row) != 0 {
+        if run::<L>(rt, alloc, row) != 0 {
             return count;
         }
         count = count.saturating_add(1);
@@ -57,6 +64,9 @@ fn passed(rt: &impl Wait, alloc: Global) -> usize {
 
 #[test]
 fn texts(rt: HostRuntime) {
-    let passed = passed(&rt, rt.alloc());
-    assert!(rt; passed == ROWS.len());
+    let passed = [
+        passed::<DefaultLayout>(&rt, rt.alloc()),
+        passed::<VecLayout>(&rt, rt.alloc()),
+    ];
+    assert!(rt; passed == [ROWS.len(); 2]);
 }

@@ -1,10 +1,12 @@
 //! Commands of rows, and the values that go in with them.
 use crate::tables::Said;
+use arc_block::static_slice::StaticSlice;
 use arc_buffer::kinds::Owned;
-use arc_table::command::Cmd;
+use arc_table::command::{Cmd, Given, Reply};
 use arc_table::kinds::TableCmd;
 use counting_heap::CountingHeap;
-use std::alloc::Global;
+use std::alloc::{Allocator, Global};
+use std::boxed::BoxedSlice;
 use std::sync::Arc;
 
 /// A heap that counts. The memory of the table, of its windows, and of the vectors and buffers on
@@ -51,7 +53,8 @@ fn first_three<'a>(heap: Heap<'a>, values: &Values) -> Option<Items<'a>> {
     Vec::from_array(heap, items).ok()
 }
 
-/// A command without what it brings. Windows go by their numbers, and values by theirs.
+/// A command without what it brings, with what it is to give. Windows go by their numbers, and
+/// values by theirs.
 #[derive(Clone, Copy)]
 pub enum Call {
     /// A copy of the first three values, to be read.
@@ -97,11 +100,62 @@ pub enum Call {
     Unique(usize),
     Join(usize, usize),
     Drop(usize),
-    Take(usize),
-    TakeBox(usize),
-    TakeBuf(usize),
-    TakeRaw(usize),
-    TakeStatic(usize),
+    /// These values come back, as a vector; none where that is refused.
+    Take(usize, &'static [u8]),
+    /// The same, as a box.
+    TakeBox(usize, &'static [u8]),
+    /// The same, as a buffer.
+    TakeBuf(usize, &'static [u8]),
+    /// The same, as an `Arc` of a buffer.
+    TakeRaw(usize, &'static [u8]),
+    /// The same, as those that lie there for good.
+    TakeStatic(usize, &'static [u8]),
+}
+
+/// The values that a command is to give.
+pub fn wanted(call: Call) -> &'static [u8] {
+    match call {
+        Call::Take(_, values)
+        | Call::TakeBox(_, values)
+        | Call::TakeBuf(_, values)
+        | Call::TakeRaw(_, values)
+        | Call::TakeStatic(_, values) => values,
+        _ => &[],
+    }
+}
+
+/// Whether items are these values.
+fn are_values(items: &[Arc<u8>], values: &[u8]) -> bool {
+    if items.len() != values.len() {
+        return false;
+    }
+    for (item, value) in items.iter().zip(values) {
+        if **item != *value {
+            return false;
+        }
+    }
+    true
+}
+
+/// Whether a reply gives these values.
+pub fn has_values<
+    A: Allocator,
+    G: Given<
+        Vector = Vec<Arc<u8>, A>,
+        Boxed = BoxedSlice<Arc<u8>, A>,
+        Buffer = Vec<Arc<u8>, A>,
+        Raw = Arc<Vec<Arc<u8>, A>, A>,
+        Static = StaticSlice<Arc<u8>>,
+    >,
+>(reply: &Reply<G>, values: &[u8]) -> bool {
+    match reply {
+        Reply::Vec(items) => are_values(items.as_slice(), values),
+        Reply::Boxed(items) => are_values(items.as_slice(), values),
+        Reply::Buffer(items) => are_values(items.as_slice(), values),
+        Reply::Raw(shared) => are_values(shared.as_slice(), values),
+        Reply::Static(items) => are_values(items.as_slice(), values),
+        _ => false,
+    }
 }
 
 /// A command, and what it is to be answered.
@@ -166,11 +220,11 @@ pub fn command<'a>(heap: Heap<'a>, values: &Values, call: Call) -> Option<Sent<'
         Call::Unique(window) => Cmd::Unique { window },
         Call::Join(window, other) => Cmd::Join { window, other },
         Call::Drop(window) => Cmd::Drop { window },
-        Call::Take(window) => Cmd::Take { window },
-        Call::TakeBox(window) => Cmd::TakeBox { window },
-        Call::TakeBuf(window) => Cmd::TakeBuf { window },
-        Call::TakeRaw(window) => Cmd::TakeRaw { window },
-        Call::TakeStatic(window) => Cmd::TakeStatic { window },
+        Call::Take(window, _) => Cmd::Take { window },
+        Call::TakeBox(window, _) => Cmd::TakeBox { window },
+        Call::TakeBuf(window, _) => Cmd::TakeBuf { window },
+        Call::TakeRaw(window, _) => Cmd::TakeRaw { window },
+        Call::TakeStatic(window, _) => Cmd::TakeStatic { window },
         _ => return bringing(heap, values, call),
     };
     Some(told)
