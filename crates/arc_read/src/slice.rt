@@ -115,7 +115,6 @@ mod cuts;
 mod make;
 mod moves;
 mod own;
-mod plain;
 mod read;
 mod splits;
 mod text;

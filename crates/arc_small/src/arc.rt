@@ -156,7 +156,6 @@ impl<
 
 mod cuts;
 mod make;
-mod plain;
 mod read;
 mod text;
 mod vectors;

@@ -152,11 +152,7 @@ impl<S: Slice<Item = u8>, L: Layout> SmallSlice<S, L> {
     {
         &self.bytes[..self.end as usize][self.start as usize..]
     }
-}
 
-const _: () = prove!(size_of::<SmallSlice<Plain<u8>>>() == 32);
-
-impl<S: Subsliceable<Item = u8>, L: Layout> SmallSlice<S, L> {
     /// Whether `start` to `end` is a range of the list.
     ///
     /// # Errors
@@ -164,6 +160,8 @@ impl<S: Subsliceable<Item = u8>, L: Layout> SmallSlice<S, L> {
     /// `OutOfRange` where the end is past the length, else `InvalidRange` where the start is past
     /// the end, else `NotBoundary` where the kind may not be cut at one of them.
     pub fn check_range(&self, start: usize, end: usize) -> Result<(), RangeError>
+    where
+        S: Subsliceable,
         ensures answer { result ≡ range_answer S.boundary self.now.items start end }
         ensures ok { IsOk result ↔ IsRange S.boundary self.now.items start end }
     {
@@ -188,6 +186,8 @@ impl<S: Subsliceable<Item = u8>, L: Layout> SmallSlice<S, L> {
     /// `OutOfRange` where that is past the length, else `NotBoundary` where the kind may not be cut
     /// there.
     pub fn check_at(&self, at: usize) -> Result<(), RangeError>
+    where
+        S: Subsliceable,
         ensures answer { result ≡ edge_answer S.boundary self.now.items at }
         ensures ok { IsOk result ↔ IsEdge S.boundary self.now.items at }
     {
@@ -203,6 +203,8 @@ impl<S: Subsliceable<Item = u8>, L: Layout> SmallSlice<S, L> {
 
     /// The list may be cut at both ends.
     fn has_edges(&self)
+    where
+        S: Subsliceable,
         ensures start { IsEdge S.boundary self.now.items 0 }
         ensures end { IsEdge S.boundary self.now.items (length self.now.items) }
     {
@@ -212,6 +214,8 @@ impl<S: Subsliceable<Item = u8>, L: Layout> SmallSlice<S, L> {
     /// Leaves the bytes from `start` to `end`.
     #[inline(always)]
     fn keep(&mut self, start: usize, end: usize)
+    where
+        S: Subsliceable,
         requires { IsRange S.boundary self.old.items start end }
         ensures { self.new.items ≡ sub self.old.items start end }
     {
@@ -221,6 +225,8 @@ impl<S: Subsliceable<Item = u8>, L: Layout> SmallSlice<S, L> {
 
     /// The bytes from `start` to `end`.
     pub fn subslice(&self, start: usize, end: usize) -> Self
+    where
+        S: Subsliceable,
         requires { IsRange S.boundary self.now.items start end }
         ensures items { result.items ≡ sub self.now.items start end }
         ensures slice { result.items ≡ slice_range self.now.items start end }
@@ -232,6 +238,8 @@ impl<S: Subsliceable<Item = u8>, L: Layout> SmallSlice<S, L> {
 
     /// Takes the first `n` bytes off the list.
     pub fn advance(&mut self, n: usize)
+    where
+        S: Subsliceable,
         requires { IsEdge S.boundary self.old.items n }
         ensures { self.new.items ≡ drop n self.old.items }
     {
@@ -242,6 +250,8 @@ impl<S: Subsliceable<Item = u8>, L: Layout> SmallSlice<S, L> {
 
     /// Leaves the list's first `n` bytes, or all where it has no more.
     pub fn truncate(&mut self, n: usize)
+    where
+        S: Subsliceable,
         requires { n < length self.old.items → IsEdge S.boundary self.old.items n }
         ensures { self.new.items ≡ take n self.old.items }
     {
@@ -251,6 +261,8 @@ impl<S: Subsliceable<Item = u8>, L: Layout> SmallSlice<S, L> {
         }
     }
 }
+
+const _: () = prove!(size_of::<SmallSlice<Plain<u8>>>() == 32);
 
 impl<L: Layout> SmallSlice<Text, L> {
     /// A copy of the text, where it is within the limit.

@@ -8,12 +8,11 @@ ghost use Rattle.arc_parts.specs.Writers.{IsWriterPlace, idle_writer};
 use arc_block::layout::{DefaultLayoutMut, LayoutMut};
 use arc_buffer::buffer::BufferMut;
 use arc_buffer::kinds::{Emptyable, Plain, Slice, Text};
-use arc_owners::hint::assert_unchecked;
 use arc_owners::mark::{Mark, Open};
 use arc_writer_parts::shared::SharedParts;
 use arc_writer_parts::sole::SoleParts;
 pub use into_mut::IntoMut;
-use parts::WriterStorage;
+use parts::{WriterStorage, as_sole};
 use std::alloc::{Allocator, Global};
 use std::marker::{Model, PhantomData};
 
@@ -131,16 +130,7 @@ impl<
     {
         let _ = &self.parts;
     }
-}
 
-impl<
-    S: Slice,
-    L: LayoutMut,
-    B: BufferMut<S::Item> + Drop,
-    M: Drop,
-    A: Allocator + Copy,
-    H: Mark,
-> ArcSliceMut<S, L, 1, B, M, A, H> {
     /// A window with no items and no places, which stands on nothing.
     pub fn new(alloc: A) -> Self
     where
@@ -169,13 +159,7 @@ impl<
     pub fn known_place(&self)
         ensures { IsWriterPlace self.now.place }
     {
-        match &self.parts {
-            WriterStorage::Sole(parts) => parts.known_place(),
-            WriterStorage::Several(_) => unsafe {
-                assert_unchecked(false);
-                unreachable!()
-            },
-        }
+        as_sole!(&self.parts, parts => parts.known_place())
     }
 
     /// What the window is made of. It adds nothing.
@@ -186,13 +170,7 @@ impl<
         ensures legal { ∥ S.is_legal result.items ∥₁ }
     {
         let ArcSliceMut { parts, of: _ } = self;
-        match parts {
-            WriterStorage::Sole(parts) => parts,
-            WriterStorage::Several(_) => unsafe {
-                assert_unchecked(false);
-                unreachable!()
-            },
-        }
+        as_sole!(parts, parts => parts)
     }
 }
 
@@ -205,9 +183,11 @@ mod iterate;
 mod make;
 mod own;
 mod parts;
-mod plain;
 mod read;
+mod room;
 mod several;
+mod splits;
+mod take;
 mod text;
 mod vectors;
 mod write;

@@ -137,17 +137,7 @@ impl<
     {
         self.window.try_subslice_as(rt, self.start, self.end, pass)
     }
-}
 
-impl<
-    'a,
-    S: Subsliceable,
-    L: Layout,
-    B: Buffer<S::Item> + Drop,
-    M: Drop,
-    A: Allocator + Copy,
-    H: Stepping,
-> ArcSliceBorrow<'a, S, L, B, M, A, H> {
     /// A window over the part: `try_clone_arc_as` with a new pass of the window's block.
     ///
     /// # Errors
@@ -163,6 +153,8 @@ impl<
     /// That of `try_clone_arc_as`.
     #[inline(always)]
     pub fn try_clone_arc(self, rt: &impl Wait) -> Result<ArcSlice<S, L, B, M, A, H>, OwnerError>
+    where
+        H: Stepping,
         ensures items { IfOk result (λ window. window.items ≡ (borrowed_part self.entry).items) }
         ensures place { IfOk result (λ window.
             WithNewPass {H = H} H.real (borrowed_part self.entry).place (λ first last.

@@ -24,8 +24,8 @@ use std::alloc::Allocator;
 use std::sync::Arc;
 
 impl<
-    S: AnyItems,
-    L: AnyBufferLayout,
+    S: Slice,
+    L: Layout,
     B: Buffer<S::Item> + Drop,
     M: Drop,
     A: Allocator + Copy,
@@ -39,6 +39,9 @@ impl<
         metadata: Option<M>,
         pass: &mut Pass<H>,
     ) -> Result<Self, (B, Option<M>)>
+    where
+        S: AnyItems,
+        L: AnyBufferLayout,
         requires pass { IsPassOfNone pass.old }
         ensures made { IfOk result (λ window. MakesOver Counted H.whole
             (buffer_info false (B.places buffer) (length (B.list buffer)) metadata)
@@ -65,6 +68,9 @@ impl<
     ///
     /// Once.
     pub fn try_from_buffer_as(alloc: A, buffer: B, pass: &mut Pass<H>) -> Result<Self, B>
+    where
+        S: AnyItems,
+        L: AnyBufferLayout,
         requires pass { IsPassOfNone pass.old }
         ensures made { IfOk result (λ window. MakesOver Counted H.whole
             (buffer_info false (B.places buffer) (length (B.list buffer)) None)
@@ -95,6 +101,9 @@ impl<
         metadata: M,
         pass: &mut Pass<H>,
     ) -> Result<Self, (B, M)>
+    where
+        S: AnyItems,
+        L: AnyBufferLayout,
         requires pass { IsPassOfNone pass.old }
         ensures made { IfOk result (λ window. MakesOver Counted H.whole
             (buffer_info false (B.places buffer) (length (B.list buffer)) (Some metadata))
@@ -130,6 +139,9 @@ impl<
         shared: Arc<B, A>,
         pass: &mut Pass<H>,
     ) -> Result<Self, Arc<B, A>>
+    where
+        S: AnyItems,
+        L: AnyBufferLayout,
         requires pass { IsPassOfNone pass.old }
         ensures made { IfOk result (λ window. MakesOverRaw L.RAW H.whole
             (B.list (arc_value shared)) window) }
@@ -142,16 +154,7 @@ impl<
             Err(back) => Err(back),
         }
     }
-}
 
-impl<
-    S: Slice,
-    L: Layout,
-    B: Buffer<S::Item> + Drop,
-    M: Drop,
-    A: Allocator + Copy,
-    H: Mark,
-> ArcSlice<S, L, B, M, A, H> {
     /// The metadata of the block, where it was made with some.
     pub fn metadata(&self) -> Option<&M>
         ensures some { IfSome result (λ m. metadata_at self.now.place ≡ Some m.now) }
@@ -222,18 +225,7 @@ impl<
             Err(parts) => Err(Self::from_parts(parts)),
         }
     }
-}
 
-// The plain forms. They are generic over the marks under which a block has many passes, as the
-// other plain forms are.
-impl<
-    S: AnyItems,
-    L: AnyBufferLayout,
-    B: Buffer<S::Item> + Drop,
-    M: Drop,
-    A: Allocator + Copy,
-    H: Stepping,
-> ArcSlice<S, L, B, M, A, H> {
     /// A window over all items of a caller's buffer: `try_from_buffer_as` with a new pass.
     ///
     /// # Errors
@@ -244,6 +236,10 @@ impl<
     ///
     /// Once.
     pub fn try_from_buffer(alloc: A, buffer: B) -> Result<Self, B>
+    where
+        S: AnyItems,
+        L: AnyBufferLayout,
+        H: Stepping,
         ensures made { IfOk result (λ window. MakesOver Counted H.whole
             (buffer_info false (B.places buffer) (length (B.list buffer)) None)
             (B.list buffer) window) }
@@ -268,6 +264,10 @@ impl<
     ///
     /// Once.
     pub fn try_from_buffer_with_metadata(alloc: A, buffer: B, metadata: M) -> Result<Self, (B, M)>
+    where
+        S: AnyItems,
+        L: AnyBufferLayout,
+        H: Stepping,
         ensures made { IfOk result (λ window. MakesOver Counted H.whole
             (buffer_info false (B.places buffer) (length (B.list buffer)) (Some metadata))
             (B.list buffer) window) }
@@ -292,6 +292,10 @@ impl<
     ///
     /// Once, unless the `Arc` is a block by itself.
     pub fn try_from_raw_buffer(alloc: A, shared: Arc<B, A>) -> Result<Self, Arc<B, A>>
+    where
+        S: AnyItems,
+        L: AnyBufferLayout,
+        H: Stepping,
         ensures made { IfOk result (λ window. MakesOverRaw L.RAW H.whole
             (B.list (arc_value shared)) window) }
         ensures pass { IfOk result (λ window.
@@ -303,16 +307,7 @@ impl<
         pass.show();
         made
     }
-}
 
-impl<
-    S: Slice,
-    L: Layout,
-    B: Buffer<S::Item> + Drop,
-    M: Drop,
-    A: Allocator + Copy,
-    H: Stepping,
-> ArcSlice<S, L, B, M, A, H> {
     /// The caller's buffer: `try_into_buffer_as` with a new pass.
     ///
     /// # Errors
@@ -323,6 +318,8 @@ impl<
     ///
     /// That of `try_into_buffer_as`.
     pub fn try_into_buffer(self) -> Result<B, Self>
+    where
+        H: Stepping,
         ensures taken { IfOk result (λ buffer. IsBufferWhole self.items self.place
             × (B.list buffer ≡ self.items) × (B.places buffer ≡ size_at self.place)) }
         ensures entries { IfOk result (λ _. WithNewPass {H = H} H.real self.place (λ first last.
@@ -347,6 +344,8 @@ impl<
     ///
     /// That of `try_into_raw_buffer_as`.
     pub fn try_into_raw_buffer(self) -> Result<Arc<B, A>, Self>
+    where
+        H: Stepping,
         ensures taken { IfOk result (λ shared. IsRawWhole self.items self.place
             × (B.list (arc_value shared) ≡ self.items)) }
         ensures entries { IfOk result (λ _. WithNewPass {H = H} H.real self.place (λ first last.

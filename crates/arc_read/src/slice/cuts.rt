@@ -5,6 +5,7 @@ ghost use Rattle.arc_buffer.specs.Slice.{IsEdge, IsRange, sub};
 ghost use Rattle.arc_block.specs.Place.{moved};
 ghost use Rattle.arc_parts.specs.Steps.{IsPassAt, MayJoinAt, Shares, Refuses};
 ghost use Rattle.arc_read.specs.Cuts.{sub_place};
+ghost use Rattle.arc_read.specs.Steps.{WithNewPass};
 
 use super::ArcSlice;
 use arc_block::layout::Layout;
@@ -12,7 +13,7 @@ use arc_buffer::buffer::Buffer;
 use arc_buffer::kinds::{Slice, Subsliceable};
 use arc_owners::error::OwnerError;
 use arc_owners::leave::RaiseLeave;
-use arc_owners::mark::Mark;
+use arc_owners::mark::{Mark, Stepping};
 use arc_owners::owners::Pass;
 use std::alloc::Allocator;
 use std::sync::Wait;
@@ -85,6 +86,40 @@ impl<
             }
         }
         unreachable!()
+    }
+
+    /// Another window with the same items at the same place: `try_clone_as` with a new pass.
+    ///
+    /// # Errors
+    ///
+    /// Those of `try_clone_as`.
+    ///
+    /// # Allocates
+    ///
+    /// As `try_clone_as`.
+    ///
+    /// # History
+    ///
+    /// That of `try_clone_as`.
+    #[inline(always)]
+    pub fn try_clone(&self, rt: &impl Wait) -> Result<Self, OwnerError>
+    where
+        H: Stepping,
+        ensures items { IfOk result (λ window. window.items ≡ self.now.items) }
+        ensures place { IfOk result (λ window. WithNewPass {H = H} H.real self.now.place
+            (λ first last. Shares self.now.place first last window.place)) }
+        ensures refused { IfErr result (λ e. WithNewPass {H = H} H.real self.now.place
+            (λ first last. Refuses L.clone_wants self.now.place first last e)) }
+    {
+        let mut pass = self.pass();
+        // The first attempt stands here: where it succeeds, no call is made that may wait.
+        if let Some(made) = self.try_clone_once_as(RaiseLeave::of(rt), &mut pass) {
+            pass.show();
+            return made;
+        }
+        let made = self.try_clone_as(rt, &mut pass);
+        pass.show();
+        made
     }
 
     /// One attempt of `try_subslice_as`: nothing where another thread's step came between. A pass
@@ -163,6 +198,44 @@ impl<
         unreachable!()
     }
 
+    /// A window over the items from `start` to `end`: `try_subslice_as` with a new pass of this
+    /// window's block.
+    ///
+    /// # Errors
+    ///
+    /// Those of `try_subslice_as`.
+    ///
+    /// # Allocates
+    ///
+    /// As `try_subslice_as`.
+    ///
+    /// # History
+    ///
+    /// That of `try_subslice_as`.
+    #[inline(always)]
+    pub fn try_subslice(&self, rt: &impl Wait, start: usize, end: usize) -> Result<Self, OwnerError>
+    where
+        H: Stepping,
+        S: Subsliceable,
+        requires { IsRange S.boundary self.now.items start end }
+        ensures items { IfOk result (λ part. part.items ≡ sub self.now.items start end) }
+        ensures slice { IfOk result (λ part. part.items ≡ slice_range self.now.items start end) }
+        ensures place { IfOk result (λ part. WithNewPass {H = H} H.real self.now.place
+            (λ first last. Shares (sub_place L.STATIC self.now start end) first last part.place)) }
+        ensures refused { IfErr result (λ e. WithNewPass {H = H} H.real self.now.place (λ old new.
+            Refuses L.clone_wants (sub_place L.STATIC self.now start end) old new e)) }
+    {
+        let mut pass = self.pass();
+        let leave = RaiseLeave::of(rt);
+        if let Some(made) = self.try_subslice_once_as(leave, start, end, &mut pass) {
+            pass.show();
+            return made;
+        }
+        let made = self.try_subslice_again_as(rt, start, end, &mut pass);
+        pass.show();
+        made
+    }
+
     /// `try_subslice_as` where another thread's step came between already, apart so that the first
     /// attempt is inlined alone.
     #[inline(never)]
@@ -186,19 +259,12 @@ impl<
     {
         self.try_subslice_as(rt, start, end, pass)
     }
-}
 
-impl<
-    S: Subsliceable,
-    L: Layout,
-    B: Buffer<S::Item> + Drop,
-    M: Drop,
-    A: Allocator + Copy,
-    H: Mark,
-> ArcSlice<S, L, B, M, A, H> {
     /// Takes the first `n` items off the window, which stays on its block, also with no items. It
     /// adds nothing.
     pub fn advance(&mut self, n: usize)
+    where
+        S: Subsliceable,
         requires { IsEdge S.boundary self.old.items n }
         ensures { self.new
             ≡ record { items = drop n self.old.items; place = moved n self.old.place } }
@@ -210,6 +276,8 @@ impl<
     /// Leaves the window's first `n` items, or all where it has no more. It stays on its block,
     /// also with no items. It adds nothing.
     pub fn truncate(&mut self, n: usize)
+    where
+        S: Subsliceable,
         requires { n < length self.old.items → IsEdge S.boundary self.old.items n }
         ensures { self.new ≡ record { items = take n self.old.items; place = self.old.place } }
     {

@@ -101,38 +101,19 @@ impl<
             Err(back) => Err(back),
         }
     }
-}
 
-impl<
-    S: AnyItems,
-    L: StaticLayout,
-    B: Buffer<S::Item> + Drop,
-    M: Drop,
-    A: Allocator + Copy,
-    H: Mark,
-> ArcSlice<S, L, B, M, A, H> {
     /// A window over a slice that is there for good. It is no owner: its clones and cuts add
     /// nothing and are never refused.
     pub fn from_static(alloc: A, items: &'static [S::Item]) -> Self
     where
+        S: AnyItems,
+        L: StaticLayout,
         S::Item: 'static,
         ensures { result ≡ record { items = items.now; place = static_data } }
     {
         Self::from_parts(Parts::on_static(alloc, StaticSlice::new(items)))
     }
-}
 
-// The plain forms. They are generic over the marks under which a block has many passes, which
-// `Open` alone is: so a body can show a pass only by one that is there (`Pass::show`), and none
-// that it made up.
-impl<
-    S: Slice,
-    L: Layout,
-    B: Buffer<S::Item> + Drop,
-    M: Drop,
-    A: Allocator + Copy,
-    H: Stepping,
-> ArcSlice<S, L, B, M, A, H> {
     /// A window over a copy of the items: `try_from_slice_as` with a new pass.
     ///
     /// # Errors
@@ -144,6 +125,7 @@ impl<
     /// Where the items need a block.
     pub fn try_from_slice(alloc: A, items: &[S::Item]) -> Result<Self, AllocError>
     where
+        H: Stepping,
         S: CopySlice,
         S::Item: Copy,
         ensures ok { IfOk result (λ window. Makes L.STATIC S.DROPS H.whole items.now window) }
@@ -171,6 +153,7 @@ impl<
         array: [S::Item; N],
     ) -> Result<Self, [S::Item; N]>
     where
+        H: Stepping,
         S: AnyItems,
         ensures ok { IfOk result (λ window. Makes L.STATIC S.DROPS H.whole array window) }
         ensures pass { IfOk result (λ window.

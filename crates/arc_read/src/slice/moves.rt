@@ -60,18 +60,7 @@ impl<
             Err(parts) => Err(Self::from_parts(parts)),
         }
     }
-}
 
-// The plain form. It is generic over the marks under which a block has many passes, as the other
-// plain forms are.
-impl<
-    S: Slice,
-    L: Layout,
-    B: Buffer<S::Item> + Drop,
-    M: Drop,
-    A: Allocator + Copy,
-    H: Stepping,
-> ArcSlice<S, L, B, M, A, H> {
     /// The same items, as a window under the layout `K`: `try_with_layout_as` with a new pass.
     ///
     /// # Errors
@@ -86,6 +75,8 @@ impl<
     ///
     /// That of `try_with_layout_as`.
     pub fn try_with_layout<K: Layout>(self) -> Result<ArcSlice<S, K, B, M, A, H>, Self>
+    where
+        H: Stepping,
         ensures moved { IfOk result (λ window. WithNewPass {H = H} H.real self.place (λ first last.
             Moves (layout_move (layout_facts K.Layout) self.place)
             S.DROPS H.whole (parts_of self) (parts_of window) first last)) }

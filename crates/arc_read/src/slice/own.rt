@@ -7,6 +7,7 @@ ghost use Rattle.arc_parts.specs.Steps.{IsPassAt, RefusesArray, EndsAt};
 ghost use Rattle.arc_block.specs.Unique.{AsksUniqueAt, AsksOwnAt, IsAnswerAt};
 ghost use Rattle.arc_owners.specs.count.Calls.{IsPassOfNone, IsNewPass, Learns, Leaves};
 ghost use Rattle.arc_owners.specs.count.Calls.{TakesBlock, AsksAndLeaves};
+ghost use Rattle.arc_read.specs.Steps.{WithNewPass};
 
 use super::ArcSlice;
 use arc_block::layout::Layout;
@@ -16,6 +17,8 @@ use arc_owners::mark::{Mark, Stepping};
 use arc_owners::owners::Pass;
 use std::alloc::Allocator;
 
+// A plain form is generic over the marks under which a block has many passes, which `Open` alone
+// is: so a body can show a pass only by one that is there (`Pass::show`), and none that it made up.
 impl<
     S: Slice,
     L: Layout,
@@ -41,6 +44,27 @@ impl<
         self.parts.is_unique_as(pass)
     }
 
+    /// Whether nobody else has a part of what the window stands on: `is_unique_as` with a new pass.
+    ///
+    /// # History
+    ///
+    /// That of `is_unique_as`.
+    #[inline(always)]
+    pub fn is_unique(&self) -> bool
+    where
+        H: Stepping,
+        ensures entry { WithNewPass {H = H} H.real self.now.place (λ first last.
+            AsksUniqueAt self.now.place first last result) }
+        ensures own { WithNewPass {H = H} H.real self.now.place (λ first last.
+            AsksOwnAt (IsAnswerAt B.list B.says_unique self.now.place self.now.items)
+            self.now.place first last result) }
+    {
+        let mut pass = self.pass();
+        let found = self.is_unique_as(&mut pass);
+        pass.show();
+        found
+    }
+
     /// The items as an array, where the window has `N` of them, which are all places of a native
     /// block, and no other owner lives. Else the window comes back.
     ///
@@ -64,6 +88,31 @@ impl<
             Ok(array) => Ok(array),
             Err(parts) => Err(Self::from_parts(parts)),
         }
+    }
+
+    /// The items as an array: `try_into_array_as` with a new pass.
+    ///
+    /// # Errors
+    ///
+    /// Those of `try_into_array_as`.
+    ///
+    /// # History
+    ///
+    /// That of `try_into_array_as`.
+    pub fn try_into_array<const N: usize>(self) -> Result<[S::Item; N], Self>
+    where
+        H: Stepping,
+        ensures taken { IfOk result (λ array. IsWholeOf N self × (array ≡ self.items)) }
+        ensures entries { IfOk result (λ _. WithNewPass {H = H} H.real self.place (λ first last.
+            at_owner self.place ⊥ (λ o. TakesBlock o first last))) }
+        ensures refused { IfErr result (λ window. window ≡ self) }
+        ensures asked { IfErr result (λ _.
+            WithNewPass {H = H} H.real self.place (λ first last. RefusesArray N self first last)) }
+    {
+        let mut pass = self.pass();
+        let taken = self.try_into_array_as(&mut pass);
+        pass.show();
+        taken
     }
 
     /// The items as a slice that is there for good, where the window stands on one, or on nothing.
@@ -127,6 +176,22 @@ impl<
         self.into_parts().drop_with_unique_hint_as(pass);
     }
 
+    /// Ends the window: `drop_with_unique_hint_as` with a new pass.
+    ///
+    /// # History
+    ///
+    /// That of `drop_with_unique_hint_as`.
+    pub fn drop_with_unique_hint(self)
+    where
+        H: Stepping,
+        ensures entries { WithNewPass {H = H} H.real self.place (λ first last.
+            at_owner self.place (last ≡ first) (λ o. AsksAndLeaves o first last)) }
+    {
+        let mut pass = self.pass();
+        self.drop_with_unique_hint_as(&mut pass);
+        pass.show();
+    }
+
     /// The same window, of items of another kind, for which its list is legal.
     pub(super) fn into_kind<K: Slice<Item = S::Item>>(self) -> ArcSlice<K, L, B, M, A, H>
         requires drops { K.DROPS ≡ S.DROPS }
@@ -145,16 +210,7 @@ impl<
     {
         self.parts.learn(pass, other);
     }
-}
 
-impl<
-    S: Slice,
-    L: Layout,
-    B: Buffer<S::Item> + Drop,
-    M: Drop,
-    A: Allocator + Copy,
-    H: Mark,
-> ArcSlice<S, L, B, M, A, H> {
     /// How many owners the window's block may have at once, and under which mark it is.
     pub fn max_owners(&self) -> u64
         ensures answer { result ≡ 9223372036854775807 }
@@ -163,19 +219,12 @@ impl<
     {
         self.parts.max_owners()
     }
-}
 
-impl<
-    S: Slice,
-    L: Layout,
-    B: Buffer<S::Item> + Drop,
-    M: Drop,
-    A: Allocator + Copy,
-    H: Stepping,
-> ArcSlice<S, L, B, M, A, H> {
     /// A new pass of the window's block, which has seen at least how the window became an owner,
     /// and made nothing; on no block a pass of none. It adds nothing.
     pub fn pass(&self) -> Pass<H>
+    where
+        H: Stepping,
         ensures { at_owner self.now.place (IsPassOfNone result) (λ o. IsNewPass o result) }
     {
         self.parts.pass()

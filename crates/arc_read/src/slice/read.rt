@@ -49,16 +49,7 @@ impl<
     {
         self.parts.as_slice::<L>()
     }
-}
 
-impl<
-    S: Subsliceable,
-    L: Layout,
-    B: Buffer<S::Item> + Drop,
-    M: Drop,
-    A: Allocator + Copy,
-    H: Mark,
-> ArcSlice<S, L, B, M, A, H> {
     /// Whether `start` to `end` is a range of the window.
     ///
     /// # Errors
@@ -66,6 +57,8 @@ impl<
     /// `OutOfRange` where the end is past the length, else `InvalidRange` where the start is past
     /// the end, else `NotBoundary` where the kind may not be cut at one of them.
     pub fn check_range(&self, start: usize, end: usize) -> Result<(), RangeError>
+    where
+        S: Subsliceable,
         ensures answer { result ≡ range_answer S.boundary self.now.items start end }
         ensures ok { IsOk result ↔ IsRange S.boundary self.now.items start end }
     {
@@ -90,6 +83,8 @@ impl<
     /// `OutOfRange` where that is past the length, else `NotBoundary` where the kind may not be cut
     /// there.
     pub fn check_at(&self, at: usize) -> Result<(), RangeError>
+    where
+        S: Subsliceable,
         ensures answer { result ≡ edge_answer S.boundary self.now.items at }
         ensures ok { IsOk result ↔ IsEdge S.boundary self.now.items at }
     {

@@ -130,16 +130,7 @@ impl<
         self.advance(at);
         Ok(front)
     }
-}
 
-impl<
-    S: Subsliceable,
-    L: Layout,
-    B: Buffer<S::Item> + Drop,
-    M: Drop,
-    A: Allocator + Copy,
-    H: Stepping,
-> ArcSlice<S, L, B, M, A, H> {
     /// Splits the window at `at` and hands out the back: `try_split_off_as` with a new pass.
     ///
     /// Copies no item.
@@ -157,6 +148,8 @@ impl<
     ///
     /// That of `try_split_off_as`.
     pub fn try_split_off(&mut self, rt: &impl Wait, at: usize) -> Result<Self, OwnerError>
+    where
+        H: Stepping,
         requires { IsEdge S.boundary self.old.items at }
         ensures ok { IfOk result (λ back. WithNewPass {H = H} H.real self.old.place (λ first last.
             SplitsOff L.STATIC self.old at first last self.new back)) }
@@ -187,6 +180,8 @@ impl<
     ///
     /// That of `try_split_to_as`.
     pub fn try_split_to(&mut self, rt: &impl Wait, at: usize) -> Result<Self, OwnerError>
+    where
+        H: Stepping,
         requires { IsEdge S.boundary self.old.items at }
         ensures ok { IfOk result (λ front. WithNewPass {H = H} H.real self.old.place (λ first last.
             SplitsTo L.STATIC self.old at first last front self.new)) }

@@ -83,33 +83,16 @@ impl<L: Layout, B: Buffer<u8> + Drop, M: Drop, A: Allocator + Copy, H: Mark> Arc
             Err(error) => Err((error, bytes)),
         }
     }
-}
 
-impl<L: StaticLayout, B: Buffer<u8> + Drop, M: Drop, A: Allocator + Copy, H: Mark> ArcSlice<
-    Text,
-    L,
-    B,
-    M,
-    A,
-    H,
-> {
     /// A window over a text that is there for good, as `from_static` of items.
     pub fn from_static_str(alloc: A, text: &'static str) -> Self
+    where
+        L: StaticLayout,
         ensures { result ≡ record { items = text.now; place = static_data } }
     {
         Self::from_parts(Parts::on_static(alloc, StaticSlice::new(text.as_bytes())))
     }
-}
 
-// It is generic over the marks under which a block has many passes, as the other plain forms are.
-impl<L: Layout, B: Buffer<u8> + Drop, M: Drop, A: Allocator + Copy, H: Stepping> ArcSlice<
-    Text,
-    L,
-    B,
-    M,
-    A,
-    H,
-> {
     /// A window over a copy of the text: `try_from_str_as` with a new pass.
     ///
     /// # Errors
@@ -120,6 +103,8 @@ impl<L: Layout, B: Buffer<u8> + Drop, M: Drop, A: Allocator + Copy, H: Stepping>
     ///
     /// Where the text needs a block.
     pub fn try_from_str(alloc: A, text: &str) -> Result<Self, AllocError>
+    where
+        H: Stepping,
         ensures ok { IfOk result (λ window. Makes L.STATIC false H.whole text.now window) }
         ensures pass { IfOk result (λ window.
             WithNewPass {M = M} {H = H} H.real nowhere (λ first last. Begins window first last)) }

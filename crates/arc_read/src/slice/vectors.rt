@@ -23,7 +23,7 @@ use std::boxed::BoxedSlice;
 
 impl<
     S: Slice,
-    L: AnyBufferLayout,
+    L: Layout,
     B: Buffer<S::Item> + Drop,
     M: Drop,
     A: Allocator + Copy,
@@ -35,6 +35,8 @@ impl<
         items: Vec<S::Item, A>,
         pass: &mut Pass<H>,
     ) -> Result<Self, Vec<S::Item, A>>
+    where
+        L: AnyBufferLayout,
         requires legal { S.is_legal items.items }
         requires pass { IsPassOfNone pass.old }
         ensures made { IfOk result (λ window.
@@ -63,6 +65,7 @@ impl<
     /// Once, where a block is needed.
     pub fn try_from_vec_as(alloc: A, items: S::Vec, pass: &mut Pass<H>) -> Result<Self, S::Vec>
     where
+        L: AnyBufferLayout,
         S: VecIn<A>,
         requires pass { IsPassOfNone pass.old }
         ensures made { IfOk result (λ window. (inner : Vec S.Item A) × S.Vec.wraps items inner
@@ -98,6 +101,7 @@ impl<
         pass: &mut Pass<H>,
     ) -> Result<Self, S::Boxed>
     where
+        L: AnyBufferLayout,
         S: VecIn<A>,
         requires pass { IsPassOfNone pass.old }
         ensures made { IfOk result (λ window. MakesOfVec L.STATIC L.lone S.DROPS H.whole
@@ -114,16 +118,7 @@ impl<
             Err(back) => Err(S::Boxed::from_inner(back.into_boxed_slice())),
         }
     }
-}
 
-impl<
-    S: Slice,
-    L: Layout,
-    B: Buffer<S::Item> + Drop,
-    M: Drop,
-    A: Allocator + Copy,
-    H: Mark,
-> ArcSlice<S, L, B, M, A, H> {
     /// The items as their block's vector, moved to its front, where the block is a vector and no
     /// other owner lives. Items that are dropped one by one have to be all of the vector.
     ///
@@ -181,18 +176,7 @@ impl<
             Err(parts) => Err(Self::from_parts(parts)),
         }
     }
-}
 
-// The plain forms. They are generic over the marks under which a block has many passes, as the
-// other plain forms are.
-impl<
-    S: Slice,
-    L: AnyBufferLayout,
-    B: Buffer<S::Item> + Drop,
-    M: Drop,
-    A: Allocator + Copy,
-    H: Stepping,
-> ArcSlice<S, L, B, M, A, H> {
     /// A window over all items of a vector: `try_from_vec_as` with a new pass.
     ///
     /// # Errors
@@ -204,6 +188,8 @@ impl<
     /// Once, where a block is needed.
     pub fn try_from_vec(alloc: A, items: S::Vec) -> Result<Self, S::Vec>
     where
+        L: AnyBufferLayout,
+        H: Stepping,
         S: VecIn<A>,
         ensures made { IfOk result (λ window. (inner : Vec S.Item A) × S.Vec.wraps items inner
             × MakesOfVec L.STATIC L.lone S.DROPS H.whole (S.list_in_vec items) (vec_capacity inner)
@@ -230,6 +216,8 @@ impl<
     /// That of `try_from_boxed_as`.
     pub fn try_from_boxed(alloc: A, items: S::Boxed) -> Result<Self, S::Boxed>
     where
+        L: AnyBufferLayout,
+        H: Stepping,
         S: VecIn<A>,
         ensures made { IfOk result (λ window. MakesOfVec L.STATIC L.lone S.DROPS H.whole
             (S.list_in_boxed items) (length (S.list_in_boxed items)) window) }
@@ -243,16 +231,7 @@ impl<
         pass.show();
         made
     }
-}
 
-impl<
-    S: Slice,
-    L: Layout,
-    B: Buffer<S::Item> + Drop,
-    M: Drop,
-    A: Allocator + Copy,
-    H: Stepping,
-> ArcSlice<S, L, B, M, A, H> {
     /// The items as their block's vector: `try_into_vec_as` with a new pass.
     ///
     /// # Errors
@@ -264,6 +243,7 @@ impl<
     /// That of `try_into_vec_as`.
     pub fn try_into_vec(self) -> Result<S::Vec, Self>
     where
+        H: Stepping,
         S: VecIn<A>,
         ensures taken { IfOk result (λ v. IsVecPart S.DROPS self.items self.place
             × (S.list_in_vec v ≡ self.items)) }
@@ -292,6 +272,7 @@ impl<
     /// That of `try_into_boxed_as`.
     pub fn try_into_boxed(self) -> Result<S::Boxed, Self>
     where
+        H: Stepping,
         S: VecIn<A>,
         ensures taken { IfOk result (λ b. IsBoxWhole self.items self.place
             × (S.list_in_boxed b ≡ self.items)) }

@@ -91,36 +91,18 @@ impl<
             Err(back) => Err(back),
         }
     }
-}
 
-impl<
-    S: AnyItems<Item = u8>,
-    L: StaticLayout,
-    B: Buffer<u8> + Drop,
-    M: Drop,
-    A: Allocator + Copy,
-    H: Mark,
-> SmallArcSlice<S, L, B, M, A, H> {
     /// A window over bytes that are there for good, and never a copy of them, as
     /// `ArcSlice::from_static`.
     pub fn from_static(alloc: A, items: &'static [u8]) -> Self
+    where
+        S: AnyItems,
+        L: StaticLayout,
         ensures { result ≡ record { items = items.now; place = static_data; role = reader } }
     {
         Self::from(ArcSlice::from_static(alloc, items))
     }
-}
 
-// The plain forms. They are generic over the marks under which a block has many passes, which
-// `Open` alone is: so a body can show a pass only by one that is there (`Pass::show`), and none
-// that it made up.
-impl<
-    S: Slice<Item = u8>,
-    L: Layout,
-    B: Buffer<u8> + Drop,
-    M: Drop,
-    A: Allocator + Copy,
-    H: Stepping,
-> SmallArcSlice<S, L, B, M, A, H> {
     /// A window over a copy of the bytes: `try_from_slice_as` with a new pass.
     ///
     /// # Errors
@@ -132,6 +114,7 @@ impl<
     /// Where there are more bytes than the limit.
     pub fn try_from_slice(alloc: A, items: &[u8]) -> Result<Self, AllocError>
     where
+        H: Stepping,
         S: CopySlice,
         ensures ok { IfOk result (λ window. MakesSmall (inline_limit (layout_facts L.Layout))
             L.STATIC S.DROPS H.whole items.now window) }
@@ -157,6 +140,7 @@ impl<
     /// Where there are more bytes than the limit.
     pub fn try_from_array<const N: usize>(alloc: A, array: [u8; N]) -> Result<Self, [u8; N]>
     where
+        H: Stepping,
         S: AnyItems,
         ensures ok { IfOk result (λ window. MakesSmall (inline_limit (layout_facts L.Layout))
             L.STATIC S.DROPS H.whole array.entry window) }

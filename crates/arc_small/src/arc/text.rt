@@ -67,33 +67,16 @@ impl<L: Layout, B: Buffer<u8> + Drop, M: Drop, A: Allocator + Copy, H: Mark> Sma
             Right(window) => window.as_str(),
         }
     }
-}
 
-impl<L: StaticLayout, B: Buffer<u8> + Drop, M: Drop, A: Allocator + Copy, H: Mark> SmallArcSlice<
-    Text,
-    L,
-    B,
-    M,
-    A,
-    H,
-> {
     /// A window over a text that is there for good, as `from_static` of bytes.
     pub fn from_static_str(alloc: A, text: &'static str) -> Self
+    where
+        L: StaticLayout,
         ensures { result ≡ record { items = text.now; place = static_data; role = reader } }
     {
         Self::from(ArcSlice::from_static_str(alloc, text))
     }
-}
 
-// It is generic over the marks under which a block has many passes, as the other plain forms are.
-impl<L: Layout, B: Buffer<u8> + Drop, M: Drop, A: Allocator + Copy, H: Stepping> SmallArcSlice<
-    Text,
-    L,
-    B,
-    M,
-    A,
-    H,
-> {
     /// A window over a copy of the text: `try_from_str_as` with a new pass.
     ///
     /// # Errors
@@ -104,6 +87,8 @@ impl<L: Layout, B: Buffer<u8> + Drop, M: Drop, A: Allocator + Copy, H: Stepping>
     ///
     /// Where there are more bytes than the limit.
     pub fn try_from_str(alloc: A, text: &str) -> Result<Self, AllocError>
+    where
+        H: Stepping,
         ensures ok { IfOk result (λ window. MakesSmall (inline_limit (layout_facts L.Layout))
             L.STATIC false H.whole text.now window) }
         ensures pass { IfOk result (λ window.

@@ -85,18 +85,7 @@ impl<
             Err(back) => Err(back),
         }
     }
-}
 
-// They are generic over the marks under which a block has many passes, as the other plain forms
-// are.
-impl<
-    S: Slice<Item = u8>,
-    L: AnyBufferLayout,
-    B: Buffer<u8> + Drop,
-    M: Drop,
-    A: Allocator + Copy,
-    H: Stepping,
-> SmallArcSlice<S, L, B, M, A, H> {
     /// A window that is read over all bytes of a vector: `try_from_vec_as` with a new pass.
     ///
     /// # Errors
@@ -108,6 +97,7 @@ impl<
     /// Once, where a block is needed.
     pub fn try_from_vec(alloc: A, items: S::Vec) -> Result<Self, S::Vec>
     where
+        H: Stepping,
         S: VecIn<A>,
         ensures role { IfOk result (λ window. window.role ≡ reader) }
         ensures made { IfOk result (λ window. (inner : Vec ℕ A) × S.Vec.wraps items inner
@@ -136,6 +126,7 @@ impl<
     /// That of `try_from_boxed_as`.
     pub fn try_from_boxed(alloc: A, items: S::Boxed) -> Result<Self, S::Boxed>
     where
+        H: Stepping,
         S: VecIn<A>,
         ensures role { IfOk result (λ window. window.role ≡ reader) }
         ensures made { IfOk result (λ window. MakesOfVec L.STATIC L.lone S.DROPS H.whole

@@ -1,19 +1,18 @@
 //! Cuts of a write window.
-ghost use Rattle.std.specs.Prelude.{◌≡◌, ◌<◌, length};
+ghost use Rattle.std.specs.Prelude.{◌<◌, ◌≡◌, length};
 ghost use Rattle.arc_buffer.specs.Slice.{IsEdge};
 ghost use Rattle.arc_parts.specs.Writers.{after_advance, after_truncate};
 
-use super::ArcSliceMut;
-use super::parts::WriterStorage;
+use crate::slice_mut::ArcSliceMut;
+use crate::slice_mut::parts::{as_several, as_sole};
 use arc_block::layout::LayoutMut;
 use arc_buffer::buffer::BufferMut;
-use arc_buffer::kinds::Subsliceable;
-use arc_owners::hint::assert_unchecked;
+use arc_buffer::kinds::{Slice, Subsliceable};
 use arc_owners::mark::Mark;
 use std::alloc::Allocator;
 
 impl<
-    S: Subsliceable,
+    S: Slice,
     L: LayoutMut,
     B: BufferMut<S::Item> + Drop,
     M: Drop,
@@ -23,16 +22,12 @@ impl<
     /// Takes the first `n` items and their places off the window, which stays on its block, also
     /// with no items. It adds nothing.
     pub fn advance(&mut self, n: usize)
+    where
+        S: Subsliceable,
         requires { IsEdge S.boundary self.old.items n }
         ensures { self.new ≡ after_advance n self.old }
     {
-        match &mut self.parts {
-            WriterStorage::Sole(parts) => parts.advance(n),
-            WriterStorage::Several(_) => unsafe {
-                assert_unchecked(false);
-                unreachable!()
-            },
-        }
+        as_sole!(&mut self.parts, parts => parts.advance(n))
     }
 
     /// Leaves the window's first `n` items, or all where it has no more. It stays on its block,
@@ -40,15 +35,47 @@ impl<
     /// and what is left then has no places beside its own; others leave their places to the
     /// window. It adds nothing.
     pub fn truncate(&mut self, n: usize)
+    where
+        S: Subsliceable,
         requires { n < length self.old.items → IsEdge S.boundary self.old.items n }
         ensures { self.new ≡ after_truncate S.DROPS n self.old }
     {
-        match &mut self.parts {
-            WriterStorage::Sole(parts) => parts.truncate(n),
-            WriterStorage::Several(_) => unsafe {
-                assert_unchecked(false);
-                unreachable!()
-            },
-        }
+        as_sole!(&mut self.parts, parts => parts.truncate(n))
+    }
+}
+
+impl<
+    S: Slice,
+    L: LayoutMut,
+    B: BufferMut<S::Item> + Drop,
+    M: Drop,
+    A: Allocator + Copy,
+    H: Mark,
+> ArcSliceMut<S, L, 0, B, M, A, H> {
+    /// Takes the first `n` items and their places off the window, which stays on its block, also
+    /// with no items. It adds nothing.
+    pub fn advance(&mut self, n: usize)
+    where
+        S: Subsliceable,
+        requires { IsEdge S.boundary self.old.items n }
+        ensures { self.new ≡ after_advance n self.old }
+    {
+        as_several!(&mut self.parts, parts => parts.advance(n))
+    }
+
+    /// Leaves the window's first `n` items, or all where it has no more. It stays on its block,
+    /// also with no items. Items that are dropped one by one stay in the block until its release,
+    /// and what is left then has no places beside its own; others leave their places to the
+    /// window. It adds nothing.
+    pub fn truncate(&mut self, n: usize)
+    where
+        S: Subsliceable,
+        requires { n < length self.old.items → IsEdge S.boundary self.old.items n }
+        ensures { self.new ≡ after_truncate S.DROPS n self.old }
+    {
+        as_several!(&mut self.parts, parts => {
+            parts.known_kind();
+            parts.truncate(n);
+        })
     }
 }

@@ -1,6 +1,6 @@
 //! What adapters ask of a window in either role. A caller that is generic in more than the role has
 //! to show for these that the window's size fits, so the public calls are those of each role.
-ghost use Rattle.std.specs.Prelude.{◌≡◌, ◌<◌, ◌≤◌, ◌+◌, length, OnOk, OnErr};
+ghost use Rattle.std.specs.Prelude.{◌+◌, ◌<◌, ◌≡◌, ◌≤◌, length, OnErr, OnOk};
 ghost use Rattle.std.specs.Borrow.{sem};
 ghost use Rattle.arc_buffer.specs.Slice.{IsEdge};
 ghost use Rattle.arc_parts.specs.Writers.{after_advance, capacity_of, with_more};
@@ -129,19 +129,11 @@ impl<
         self.extend_within(items);
         Ok(())
     }
-}
 
-impl<
-    S: Subsliceable,
-    L: LayoutMut,
-    const UNIQUE: u8,
-    B: BufferMut<S::Item> + Drop,
-    M: Drop,
-    A: Allocator + Copy,
-    H: Mark,
-> ArcSliceMut<S, L, UNIQUE, B, M, A, H> {
     /// `advance`, of either role.
     pub(crate) fn advance_of_either(&mut self, n: usize)
+    where
+        S: Subsliceable,
         requires { IsEdge S.boundary self.old.items n }
         ensures { self.new ≡ after_advance n self.old }
     {

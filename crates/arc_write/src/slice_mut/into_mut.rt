@@ -1,10 +1,10 @@
 //! From a window that is read to one that is written.
-ghost use Rattle.std.specs.Prelude.{◌≡◌, IfOk, IfErr};
+ghost use Rattle.std.specs.Prelude.{◌≡◌, IfErr, IfOk};
 ghost use Rattle.arc_block.specs.LayoutFacts.{layout_facts};
 ghost use Rattle.arc_block.specs.Moves.{layout_move};
 ghost use Rattle.arc_block.specs.declared.layout.Move.TheVariants.{HandedBack};
-ghost use Rattle.arc_parts.specs.Window.{Window, parts_of};
 ghost use Rattle.arc_parts.specs.Steps.{IsPassAt};
+ghost use Rattle.arc_parts.specs.Window.{parts_of, Window};
 ghost use Rattle.arc_parts.specs.Writers.{RefusesSole};
 ghost use Rattle.arc_read.specs.Steps.{WithNewPass};
 ghost use Rattle.arc_write.specs.Moves.{BecomesWriter};

@@ -1,14 +1,16 @@
-//! Making of windows that are written.
-ghost use Rattle.std.specs.Prelude.{◌≡◌, ◌≤◌, false, length, replicate, [], IfOk, IfErr, OnErr};
+//! Makers of write windows, with their plain forms, which take a new pass.
+ghost use Rattle.std.specs.Prelude.{◌+◌, ◌≡◌, ◌≤◌, [], Err, IfErr, IfOk, length, OnErr, replicate};
 ghost use Rattle.arc_owners.specs.count.Calls.{IsPassOfNone};
+ghost use Rattle.arc_block.specs.Place.{nowhere};
 ghost use Rattle.arc_parts.specs.Writers.{MakesWriter};
+ghost use Rattle.arc_read.specs.Steps.{WithNewPass};
 
-use super::ArcSliceMut;
+use crate::slice_mut::ArcSliceMut;
 use arc_block::layout::LayoutMut;
 use arc_buffer::buffer::BufferMut;
 use arc_buffer::kinds::{AnyItems, CopySlice, Emptyable, Slice, Zeroable};
 use arc_owners::error::AllocError;
-use arc_owners::mark::Mark;
+use arc_owners::mark::{Mark, Stepping};
 use arc_owners::owners::Pass;
 use arc_writer_parts::sole::SoleParts;
 use std::alloc::Allocator;
@@ -50,6 +52,30 @@ impl<
         }
     }
 
+    /// A window with no items, and with so many places: `try_with_capacity_as` with a new pass.
+    ///
+    /// # Errors
+    ///
+    /// `AllocError` where memory for the block is refused.
+    ///
+    /// # Allocates
+    ///
+    /// Once, except for no places.
+    pub fn try_with_capacity(alloc: A, capacity: usize) -> Result<Self, AllocError>
+    where
+        H: Stepping,
+        S: Emptyable,
+        ensures made { IfOk result (λ window.
+            WithNewPass {M = M} {H = H} H.real nowhere (λ first last.
+            MakesWriter S.DROPS H.whole [] capacity window first last)) }
+        ensures refused { OnErr result (1 ≤ capacity) }
+    {
+        let mut pass = Pass::none();
+        let made = Self::try_with_capacity_as(alloc, capacity, &mut pass);
+        pass.show();
+        made
+    }
+
     /// A window over a copy of the items: no items stand on nothing, else they stand on a new
     /// native block with exactly a place for each. The pass, which is of no block, becomes the
     /// block's; the window is owner 0.
@@ -80,6 +106,31 @@ impl<
         }
     }
 
+    /// A window over a copy of the items: `try_from_slice_as` with a new pass.
+    ///
+    /// # Errors
+    ///
+    /// `AllocError` where memory for the block is refused.
+    ///
+    /// # Allocates
+    ///
+    /// Once, except for no items.
+    pub fn try_from_slice(alloc: A, items: &[S::Item]) -> Result<Self, AllocError>
+    where
+        H: Stepping,
+        S: CopySlice,
+        S::Item: Copy,
+        ensures made { IfOk result (λ window.
+            WithNewPass {M = M} {H = H} H.real nowhere (λ first last.
+            MakesWriter S.DROPS H.whole items.now (length items.now) window first last)) }
+        ensures refused { OnErr result (1 ≤ length items.now) }
+    {
+        let mut pass = Pass::none();
+        let made = Self::try_from_slice_as(alloc, items, &mut pass);
+        pass.show();
+        made
+    }
+
     /// A window over so many zeros: none stand on nothing, else they stand on a new native block
     /// with exactly a place for each. The pass, which is of no block, becomes the block's; the
     /// window is owner 0.
@@ -104,6 +155,31 @@ impl<
             Ok(parts) => Ok(Self::from_parts(parts)),
             Err(e) => Err(e),
         }
+    }
+
+    /// A window over so many zeros: `try_zeroed_as` with a new pass.
+    ///
+    /// # Errors
+    ///
+    /// `AllocError` where memory for the block is refused.
+    ///
+    /// # Allocates
+    ///
+    /// Once, except for no zeros.
+    pub fn try_zeroed(alloc: A, count: usize) -> Result<Self, AllocError>
+    where
+        H: Stepping,
+        S: Zeroable,
+        S::Item: Copy,
+        ensures made { IfOk result (λ window.
+            WithNewPass {M = M} {H = H} H.real nowhere (λ first last.
+            MakesWriter S.DROPS H.whole (replicate count S.zero_item) count window first last)) }
+        ensures refused { OnErr result (1 ≤ count) }
+    {
+        let mut pass = Pass::none();
+        let made = Self::try_zeroed_as(alloc, count, &mut pass);
+        pass.show();
+        made
     }
 
     /// A window over an array's items, which are moved into a block as `try_from_slice_as` copies.
@@ -132,5 +208,32 @@ impl<
             Ok(parts) => Ok(Self::from_parts(parts)),
             Err(back) => Err(back),
         }
+    }
+
+    /// A window over an array's items: `try_from_array_as` with a new pass.
+    ///
+    /// # Errors
+    ///
+    /// The array comes back where memory for the block is refused.
+    ///
+    /// # Allocates
+    ///
+    /// Once, except for no items.
+    pub fn try_from_array<const N: usize>(
+        alloc: A,
+        array: [S::Item; N],
+    ) -> Result<Self, [S::Item; N]>
+    where
+        H: Stepping,
+        S: AnyItems,
+        ensures made { IfOk result (λ window.
+            WithNewPass {M = M} {H = H} H.real nowhere (λ first last.
+            MakesWriter S.DROPS H.whole array (length array) window first last)) }
+        ensures refused { IfErr result (λ back. (back ≡ array) × (1 ≤ length array)) }
+    {
+        let mut pass = Pass::none();
+        let made = Self::try_from_array_as(alloc, array, &mut pass);
+        pass.show();
+        made
     }
 }

@@ -1,17 +1,17 @@
 //! Owners of a write window's block, and ends of the window.
-ghost use Rattle.std.specs.Prelude.{◌≡◌, true, false, IfOk, IfErr};
-ghost use Rattle.arc_owners.specs.count.Calls.{Leaves, Learns, IsNewPass, IsPassOfNone};
-ghost use Rattle.arc_owners.specs.count.Calls.{SeesAlone};
+ghost use Rattle.std.specs.Prelude.{◌+◌, ◌≡◌, false, true};
+ghost use Rattle.arc_owners.specs.count.Calls.{AsksAndLeaves, IsNewPass, IsPassOfNone, Learns};
+ghost use Rattle.arc_owners.specs.count.Calls.{Leaves, SeesAlone};
 ghost use Rattle.arc_block.specs.Place.{at_owner};
-ghost use Rattle.arc_parts.specs.Steps.{IsPassAt, EndsAt};
-ghost use Rattle.arc_parts.specs.Writers.{IsWholeWriter};
+ghost use Rattle.arc_parts.specs.Shared.{LeavesAt};
+ghost use Rattle.arc_parts.specs.Steps.{EndsAt, IsPassAt};
+ghost use Rattle.arc_read.specs.Steps.{WithNewPass};
 
-use super::ArcSliceMut;
-use super::parts::WriterStorage;
+use crate::slice_mut::ArcSliceMut;
+use crate::slice_mut::parts::{as_several, as_sole};
 use arc_block::layout::LayoutMut;
 use arc_buffer::buffer::BufferMut;
 use arc_buffer::kinds::Slice;
-use arc_owners::hint::assert_unchecked;
 use arc_owners::mark::{Mark, Stepping};
 use arc_owners::owners::Pass;
 use std::alloc::Allocator;
@@ -50,28 +50,20 @@ impl<
         self.release_as(pass);
     }
 
-    /// The items as an array, where the window has `N` of them, which on a block are all places of
-    /// a native one. Else the window comes back.
-    ///
-    /// # Errors
-    ///
-    /// The window, with another number of items or of places; the pass is then as before.
+    /// Ends the window: `drop_with_unique_hint_as` with a new pass.
     ///
     /// # History
     ///
-    /// Taken off a block, Down without a step.
-    pub fn try_into_array_as<const N: usize>(self, pass: &mut Pass<H>) -> Result<[S::Item; N], Self>
-        requires pass { IsPassAt self.place pass.old }
-        ensures taken { IfOk result (λ array. IsWholeWriter N self × (array ≡ self.items)) }
-        ensures entry { IfOk result (λ _. at_owner self.place (pass.new ≡ pass.old) (λ o.
-            Leaves o pass.old pass.new true)) }
-        ensures refused { IfErr result (λ back. (back ≡ self) × (¬ IsWholeWriter N self)
-            × (pass.new ≡ pass.old)) }
+    /// That of `drop_with_unique_hint_as`.
+    pub fn drop_with_unique_hint(self)
+    where
+        H: Stepping,
+        ensures entry { WithNewPass {H = H} H.real self.place (λ first last.
+            at_owner self.place (last ≡ first) (λ o. Leaves o first last true)) }
     {
-        match self.into_parts().try_into_array_as(pass) {
-            Ok(array) => Ok(array),
-            Err(parts) => Err(Self::from_parts(parts)),
-        }
+        let mut pass = self.pass();
+        self.drop_with_unique_hint_as(&mut pass);
+        pass.show();
     }
 
     /// Shows a pass the block's whole history so far, in which no other owner than this window
@@ -81,24 +73,9 @@ impl<
         ensures { at_owner self.now.place (pass.new ≡ pass.old) (λ o.
             SeesAlone o pass.old pass.new) }
     {
-        match &self.parts {
-            WriterStorage::Sole(parts) => parts.only(pass),
-            WriterStorage::Several(_) => unsafe {
-                assert_unchecked(false);
-                unreachable!()
-            },
-        }
+        as_sole!(&self.parts, parts => parts.only(pass))
     }
-}
 
-impl<
-    S: Slice,
-    L: LayoutMut,
-    B: BufferMut<S::Item> + Drop,
-    M: Drop,
-    A: Allocator + Copy,
-    H: Mark,
-> ArcSliceMut<S, L, 1, B, M, A, H> {
     /// Afterwards the first pass has seen at least what the other had. It adds nothing.
     pub fn learn(&self, pass: &mut Pass<H>, other: &Pass<H>)
         requires pass { IsPassAt self.now.place pass.old }
@@ -106,13 +83,7 @@ impl<
         ensures { at_owner self.now.place (pass.new ≡ pass.old) (λ o.
             Learns o.block pass.old other.now pass.new) }
     {
-        match &self.parts {
-            WriterStorage::Sole(parts) => parts.learn(pass, other),
-            WriterStorage::Several(_) => unsafe {
-                assert_unchecked(false);
-                unreachable!()
-            },
-        }
+        as_sole!(&self.parts, parts => parts.learn(pass, other))
     }
 
     /// What a drop does: under `Open` the window ends with a new pass, and the last owner gives the
@@ -129,6 +100,16 @@ impl<
     {
         self.into_parts().let_go()
     }
+
+    /// A new pass of the window's block, which has seen at least how the window became an owner,
+    /// and made nothing; on no block a pass of none. It adds nothing.
+    pub fn pass(&self) -> Pass<H>
+    where
+        H: Stepping,
+        ensures { at_owner self.now.place (IsPassOfNone result) (λ o. IsNewPass o result) }
+    {
+        as_sole!(&self.parts, parts => parts.pass())
+    }
 }
 
 impl<
@@ -137,19 +118,82 @@ impl<
     B: BufferMut<S::Item> + Drop,
     M: Drop,
     A: Allocator + Copy,
-    H: Stepping,
-> ArcSliceMut<S, L, 1, B, M, A, H> {
+    H: Mark,
+> ArcSliceMut<S, L, 0, B, M, A, H> {
+    /// Ends the window; the last owner gives the block back.
+    ///
+    /// # History
+    ///
+    /// On a block Down; of a vector without a step.
+    pub fn release_as(self, pass: &mut Pass<H>)
+        requires pass { IsPassAt self.place pass.old }
+        ensures entry { LeavesAt self.place pass.old pass.new }
+    {
+        self.into_shared_parts().release_as(pass);
+    }
+
+    /// Ends the window: it reads the count first, and where no other owner lives gives the block
+    /// back without a further step.
+    ///
+    /// # History
+    ///
+    /// On a block Alone with the answer, then Down.
+    pub fn drop_with_unique_hint_as(self, pass: &mut Pass<H>)
+        requires pass { IsPassAt self.place pass.old }
+        ensures entry { at_owner self.place (pass.new ≡ pass.old) (λ o.
+            AsksAndLeaves o pass.old pass.new) }
+    {
+        self.into_shared_parts().release_with_unique_hint_as(pass);
+    }
+
+    /// Ends the window: `drop_with_unique_hint_as` with a new pass.
+    ///
+    /// # History
+    ///
+    /// That of `drop_with_unique_hint_as`.
+    pub fn drop_with_unique_hint(self)
+    where
+        H: Stepping,
+        ensures entry { WithNewPass {H = H} H.real self.place (λ first last.
+            at_owner self.place (last ≡ first) (λ o. AsksAndLeaves o first last)) }
+    {
+        let mut pass = self.pass();
+        self.drop_with_unique_hint_as(&mut pass);
+        pass.show();
+    }
+
+    /// Afterwards the first pass has seen at least what the other had. It adds nothing.
+    pub fn learn(&self, pass: &mut Pass<H>, other: &Pass<H>)
+        requires pass { IsPassAt self.now.place pass.old }
+        requires other { IsPassAt self.now.place other.now }
+        ensures { at_owner self.now.place (pass.new ≡ pass.old) (λ o.
+            Learns o.block pass.old other.now pass.new) }
+    {
+        as_several!(&self.parts, parts => parts.learn(pass, other))
+    }
+
+    /// What a drop does: under `Open` the window ends with a new pass, and the last owner gives the
+    /// block back with its items; under `Whole` it is a forgotten owner, without a step, and its
+    /// items stay. The pass is the one that it ended with; on no block, and under `Whole`, it is of
+    /// none.
+    ///
+    /// # History
+    ///
+    /// On a block Down under `Open`, of a sole writer without a step, and nothing under `Whole`.
+    pub fn let_go(self) -> Pass<H>
+        ensures forgotten { H.whole ≡ true → IsPassOfNone result }
+        ensures ended { H.whole ≡ false → EndsAt self.place result }
+    {
+        self.into_shared_parts().let_go()
+    }
+
     /// A new pass of the window's block, which has seen at least how the window became an owner,
     /// and made nothing; on no block a pass of none. It adds nothing.
     pub fn pass(&self) -> Pass<H>
+    where
+        H: Stepping,
         ensures { at_owner self.now.place (IsPassOfNone result) (λ o. IsNewPass o result) }
     {
-        match &self.parts {
-            WriterStorage::Sole(parts) => parts.pass(),
-            WriterStorage::Several(_) => unsafe {
-                assert_unchecked(false);
-                unreachable!()
-            },
-        }
+        as_several!(&self.parts, parts => parts.pass())
     }
 }

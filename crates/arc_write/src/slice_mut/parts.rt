@@ -45,3 +45,34 @@ impl<S: Slice, B: BufferMut<S::Item> + Drop, M: Drop, A: Allocator + Copy, H: Ma
         }
     }
 }
+
+/// What is done with the parts of a window that is its block's only owner: its invariant rules the
+/// other role out.
+macro_rules! as_sole {
+    ($storage:expr, $parts:ident => $answer:expr) => {
+        match $storage {
+            $crate::slice_mut::parts::WriterStorage::Sole($parts) => $answer,
+            $crate::slice_mut::parts::WriterStorage::Several(_) => unsafe {
+                arc_owners::hint::assert_unchecked(false);
+                unreachable!()
+            },
+        }
+    };
+}
+
+/// What is done with the parts of one of several writers: his window's invariant rules the other
+/// role out.
+macro_rules! as_several {
+    ($storage:expr, $parts:ident => $answer:expr) => {
+        match $storage {
+            $crate::slice_mut::parts::WriterStorage::Several($parts) => $answer,
+            $crate::slice_mut::parts::WriterStorage::Sole(_) => unsafe {
+                arc_owners::hint::assert_unchecked(false);
+                unreachable!()
+            },
+        }
+    };
+}
+
+pub(crate) use as_several;
+pub(crate) use as_sole;

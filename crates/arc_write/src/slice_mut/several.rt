@@ -1,23 +1,20 @@
 //! Windows of several writers on one block: how a window becomes one, and is its block's only owner
 //! again.
-ghost use Rattle.std.specs.Prelude.{◌≡◌, ℕ, false, IfOk, IfErr, is_ok};
-ghost use Rattle.arc_owners.specs.count.Calls.{IsNewPass, IsPassOfNone};
+ghost use Rattle.std.specs.Prelude.{◌≡◌, false, IfErr, IfOk, is_ok, ℕ};
 ghost use Rattle.arc_block.specs.LayoutFacts.{layout_facts};
-ghost use Rattle.arc_block.specs.Place.{at_owner};
-ghost use Rattle.arc_parts.specs.Shared.{AsksAlone, IsSharedPlace, as_shared, as_unique};
-ghost use Rattle.arc_parts.specs.Shared.{is_vector_at};
-ghost use Rattle.arc_parts.specs.Steps.{IsPassAt};
 ghost use Rattle.arc_block.specs.Table.{one_writer_of_several};
+ghost use Rattle.arc_parts.specs.Shared.{as_shared, as_unique, AsksAlone, is_vector_at};
+ghost use Rattle.arc_parts.specs.Shared.{IsSharedPlace};
+ghost use Rattle.arc_parts.specs.Steps.{IsPassAt};
 ghost use Rattle.arc_parts.specs.Window.{IsBlockHeld, IsOfBuffer};
 ghost use Rattle.arc_parts.specs.Writers.{capacity_of, with_full};
 ghost use Rattle.arc_read.specs.Steps.{WithNewPass};
 
-use super::ArcSliceMut;
-use super::parts::WriterStorage;
+use crate::slice_mut::ArcSliceMut;
+use crate::slice_mut::parts::{WriterStorage, as_several};
 use arc_block::layout::LayoutMut;
 use arc_buffer::buffer::BufferMut;
 use arc_buffer::kinds::{Shareable, Slice};
-use arc_owners::hint::assert_unchecked;
 use arc_owners::mark::{Mark, Stepping};
 use arc_owners::owners::Pass;
 use arc_writer_parts::shared::SharedParts;
@@ -25,7 +22,7 @@ use std::alloc::Allocator;
 use std::marker::PhantomData;
 
 impl<
-    S: Shareable,
+    S: Slice,
     L: LayoutMut,
     B: BufferMut<S::Item> + Drop,
     M: Drop,
@@ -39,6 +36,8 @@ impl<
     ///
     /// The window, exactly where it stands on a caller's buffer.
     pub fn into_shared(self) -> Result<ArcSliceMut<S, L, 0, B, M, A, H>, Self>
+    where
+        S: Shareable,
         ensures shared { IfOk result (λ shared. (shared ≡ as_shared self)
             × (¬ IsOfBuffer self.place)) }
         ensures refused { IfErr result (λ back. (back ≡ self) × IsOfBuffer self.place) }
@@ -80,13 +79,7 @@ impl<
         ensures legal { ∥ S.is_legal result.items ∥₁ }
     {
         let ArcSliceMut { parts, of: _ } = self;
-        match parts {
-            WriterStorage::Several(parts) => parts,
-            WriterStorage::Sole(_) => unsafe {
-                assert_unchecked(false);
-                unreachable!()
-            },
-        }
+        as_several!(parts, parts => parts)
     }
 
     /// The window stands on nothing, or on a block that the layout holds. Does nothing: its
@@ -103,26 +96,14 @@ impl<
         ensures place { IsSharedPlace self.now.place }
         ensures role { self.now.role ≡ one_writer_of_several (capacity_of self.now.role) }
     {
-        match &self.parts {
-            WriterStorage::Several(parts) => parts.known_place(),
-            WriterStorage::Sole(_) => unsafe {
-                assert_unchecked(false);
-                unreachable!()
-            },
-        }
+        as_several!(&self.parts, parts => parts.known_place())
     }
 
     /// Whether the window stands on a vector, whose places a split moves to a native block first.
     pub fn is_on_vector(&self) -> bool
         ensures { result ≡ is_vector_at self.now.place }
     {
-        match &self.parts {
-            WriterStorage::Several(parts) => parts.is_on_vector(),
-            WriterStorage::Sole(_) => unsafe {
-                assert_unchecked(false);
-                unreachable!()
-            },
-        }
+        as_several!(&self.parts, parts => parts.is_on_vector())
     }
 
     /// The block's full places aren't counted: none are more when items are written. Does nothing:
@@ -130,26 +111,14 @@ impl<
     pub fn known_uncounted(&self)
         ensures { (len more : ℕ) → with_full len more self.now.place ≡ self.now.place }
     {
-        match &self.parts {
-            WriterStorage::Several(parts) => parts.known_uncounted(),
-            WriterStorage::Sole(_) => unsafe {
-                assert_unchecked(false);
-                unreachable!()
-            },
-        }
+        as_several!(&self.parts, parts => parts.known_uncounted())
     }
 
     /// Items of this kind need no drop. Does nothing: its contract is the law.
     pub fn known_kind(&self)
         ensures { S.DROPS ≡ false }
     {
-        match &self.parts {
-            WriterStorage::Several(parts) => parts.known_kind(),
-            WriterStorage::Sole(_) => unsafe {
-                assert_unchecked(false);
-                unreachable!()
-            },
-        }
+        as_several!(&self.parts, parts => parts.known_kind())
     }
 
     /// The same window, as its block's only writer, where it stands on a block that no other owner
@@ -177,29 +146,6 @@ impl<
             Err(parts) => Err(Self::from_shared_parts(parts)),
         }
     }
-}
-
-impl<
-    S: Slice,
-    L: LayoutMut,
-    B: BufferMut<S::Item> + Drop,
-    M: Drop,
-    A: Allocator + Copy,
-    H: Stepping,
-> ArcSliceMut<S, L, 0, B, M, A, H> {
-    /// A new pass of the window's block, which has seen at least how the window became an owner,
-    /// and made nothing; on no block a pass of none. It adds nothing.
-    pub fn pass(&self) -> Pass<H>
-        ensures { at_owner self.now.place (IsPassOfNone result) (λ o. IsNewPass o result) }
-    {
-        match &self.parts {
-            WriterStorage::Several(parts) => parts.pass(),
-            WriterStorage::Sole(_) => unsafe {
-                assert_unchecked(false);
-                unreachable!()
-            },
-        }
-    }
 
     /// The same window, as its block's only writer: `try_into_unique_as` with a new pass.
     ///
@@ -211,6 +157,8 @@ impl<
     ///
     /// That of `try_into_unique_as`.
     pub fn try_into_unique(self) -> Result<ArcSliceMut<S, L, 1, B, M, A, H>, Self>
+    where
+        H: Stepping,
         ensures entry { WithNewPass {H = H} H.real self.place (λ first last.
             AsksAlone self.place first last (is_ok result)) }
         ensures sole { IfOk result (λ sole. sole ≡ as_unique self) }
@@ -222,13 +170,3 @@ impl<
         made
     }
 }
-
-mod change;
-mod cuts;
-mod ends;
-mod iterate;
-mod push;
-mod read;
-mod room;
-mod splits;
-mod take;

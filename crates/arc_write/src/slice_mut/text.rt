@@ -1,20 +1,22 @@
 //! Write windows over text.
-ghost use Rattle.std.specs.Prelude.{◌≡◌, ◌≤◌, ◌++◌, ◌==◌, if◌then◌else◌, false, length};
-ghost use Rattle.std.specs.Prelude.{IfOk, IfErr, OnOk, OnErr, Err};
+ghost use Rattle.std.specs.Prelude.{◌++◌, ◌+◌, ◌≡◌, ◌≤◌, Err, false, IfErr, IfOk, is_ok, length};
+ghost use Rattle.std.specs.Prelude.{OnErr, OnOk};
 ghost use Rattle.arc_owners.specs.count.Calls.{IsPassOfNone};
-ghost use Rattle.arc_sort_writers.specs.Growth.{IfAsked, AsksForRoom};
+ghost use Rattle.arc_block.specs.Place.{nowhere, size_at};
+ghost use Rattle.arc_parts.specs.Shared.{asks_alone, MakesSharedRoom, PushesShared};
 ghost use Rattle.arc_parts.specs.Steps.{IsPassAt};
-ghost use Rattle.arc_parts.specs.Writers.{MakesWriter, MakesRoom, Pushes, room_for};
-ghost use Rattle.arc_block.specs.Place.{size_at};
+ghost use Rattle.arc_parts.specs.Writers.{MakesRoom, MakesWriter, Pushes, room_for};
+ghost use Rattle.arc_sort_writers.specs.Growth.{AsksForRoom, IfAsked};
+ghost use Rattle.arc_read.specs.Steps.{WithNewPass};
+ghost use Rattle.arc_write.specs.Within.{StaysWithin};
 
-use super::ArcSliceMut;
-use super::parts::WriterStorage;
+use crate::slice_mut::ArcSliceMut;
+use crate::slice_mut::parts::{as_several, as_sole};
 use arc_block::layout::LayoutMut;
 use arc_buffer::buffer::BufferMut;
 use arc_buffer::kinds::Text;
 use arc_owners::error::{AllocError, TryReserveError};
-use arc_owners::hint::assert_unchecked;
-use arc_owners::mark::Mark;
+use arc_owners::mark::{Mark, Stepping};
 use arc_owners::owners::Pass;
 use arc_writer_parts::sole::SoleParts;
 use std::alloc::Allocator;
@@ -36,17 +38,7 @@ impl<L: LayoutMut, B: BufferMut<u8> + Drop, M: Drop, A: Allocator + Copy, H: Mar
         let _ = &self.parts;
         unsafe { str::from_utf8_unchecked(self.as_slice()) }
     }
-}
 
-impl<L: LayoutMut, B: BufferMut<u8> + Drop, M: Drop, A: Allocator + Copy, H: Mark> ArcSliceMut<
-    Text,
-    L,
-    1,
-    B,
-    M,
-    A,
-    H,
-> {
     /// A window over a copy of the text: no text stands on nothing, else it stands on a new native
     /// block with exactly a place for each byte. The pass, which is of no block, becomes the
     /// block's; the window is owner 0.
@@ -69,6 +61,29 @@ impl<L: LayoutMut, B: BufferMut<u8> + Drop, M: Drop, A: Allocator + Copy, H: Mar
             Ok(parts) => Ok(Self::from_parts(parts)),
             Err(e) => Err(e),
         }
+    }
+
+    /// A window over a copy of the text: `try_from_str_as` with a new pass.
+    ///
+    /// # Errors
+    ///
+    /// `AllocError` where memory for the block is refused.
+    ///
+    /// # Allocates
+    ///
+    /// Once, except for no text.
+    pub fn try_from_str(alloc: A, text: &str) -> Result<Self, AllocError>
+    where
+        H: Stepping,
+        ensures made { IfOk result (λ window.
+            WithNewPass {M = M} {H = H} H.real nowhere (λ first last.
+            MakesWriter false H.whole text.now (length text.now) window first last)) }
+        ensures refused { OnErr result (1 ≤ length text.now) }
+    {
+        let mut pass = Pass::none();
+        let made = Self::try_from_str_as(alloc, text, &mut pass);
+        pass.show();
+        made
     }
 
     /// A copy of the text more, behind what is there, once there is room for it.
@@ -101,12 +116,122 @@ impl<L: LayoutMut, B: BufferMut<u8> + Drop, M: Drop, A: Allocator + Copy, H: Mar
             AsksForRoom B.list B.places B.grows B.refuses self.old k (size_at self.new.place)
             result) }
     {
-        match &mut self.parts {
-            WriterStorage::Sole(parts) => parts.try_extend_from_slice_as(text.as_bytes(), pass),
-            WriterStorage::Several(_) => unsafe {
-                assert_unchecked(false);
-                unreachable!()
-            },
-        }
+        as_sole!(&mut self.parts, parts => parts.try_extend_from_slice_as(text.as_bytes(), pass))
+    }
+
+    /// A copy of the text more, behind what is there: `try_extend_from_str_as` with a new pass.
+    ///
+    /// # Errors
+    ///
+    /// Those of `try_extend_from_str_as`.
+    ///
+    /// # Allocates
+    ///
+    /// As `try_reserve_as`.
+    ///
+    /// # History
+    ///
+    /// That of `try_reserve_as`.
+    pub fn try_extend_from_str(&mut self, text: &str) -> Result<(), TryReserveError>
+    where
+        H: Stepping,
+        ensures extended { OnOk result (WithNewPass {H = H} H.real self.old.place (λ first last.
+            Pushes false H.whole (room_for false 1 self.old (length text.now)) text.now
+            self.old self.new first last)) }
+        ensures items { OnOk result (self.new.items ≡ self.old.items ++ text.now) }
+        ensures refused { IfErr result (λ e.
+            WithNewPass {H = H} H.real self.old.place (λ first last. MakesRoom false H.whole
+            (room_for false 1 self.old (length text.now)) self.old self.new first last (Err e))) }
+        ensures own { IfAsked (room_for false 1 self.old (length text.now)) (λ k.
+            AsksForRoom B.list B.places B.grows B.refuses self.old k (size_at self.new.place)
+            result) }
+    {
+        let mut pass = self.pass();
+        let extended = self.try_extend_from_str_as(text, &mut pass);
+        pass.show();
+        extended
+    }
+}
+
+impl<L: LayoutMut, B: BufferMut<u8> + Drop, M: Drop, A: Allocator + Copy, H: Mark> ArcSliceMut<
+    Text,
+    L,
+    0,
+    B,
+    M,
+    A,
+    H,
+> {
+    /// The text.
+    pub fn as_str(&self) -> &str
+        ensures { result.now ≡ self.now.items }
+    {
+        let _ = &self.parts;
+        unsafe { str::from_utf8_unchecked(self.as_slice()) }
+    }
+
+    /// A copy of the text more, behind what is there, once there is room for it.
+    ///
+    /// # Errors
+    ///
+    /// Those of `try_reserve_as`.
+    ///
+    /// # Allocates
+    ///
+    /// As `try_reserve_as`.
+    ///
+    /// # History
+    ///
+    /// As `try_reserve_as`.
+    pub fn try_extend_from_str_as(
+        &mut self,
+        text: &str,
+        pass: &mut Pass<H>,
+    ) -> Result<(), TryReserveError>
+        requires pass { IsPassAt self.old.place pass.old }
+        ensures extended { OnOk result (PushesShared (asks_alone self.old (length text.now))
+            H.whole (room_for false 1 self.old (length text.now)) text.now
+            self.old self.new pass.old pass.new) }
+        ensures items { OnOk result (self.new.items ≡ self.old.items ++ text.now) }
+        ensures refused { IfErr result (λ e. MakesSharedRoom
+            (asks_alone self.old (length text.now)) H.whole
+            (room_for false 1 self.old (length text.now))
+            self.old self.new pass.old pass.new (Err e)) }
+        ensures within { StaysWithin (length text.now) self.old self.new (is_ok result) }
+    {
+        as_several!(&mut self.parts, parts => parts.try_extend_from_slice_as(text.as_bytes(), pass))
+    }
+
+    /// A copy of the text more, behind what is there: `try_extend_from_str_as` with a new pass.
+    ///
+    /// # Errors
+    ///
+    /// Those of `try_extend_from_str_as`.
+    ///
+    /// # Allocates
+    ///
+    /// As `try_reserve_as`.
+    ///
+    /// # History
+    ///
+    /// That of `try_reserve_as`.
+    pub fn try_extend_from_str(&mut self, text: &str) -> Result<(), TryReserveError>
+    where
+        H: Stepping,
+        ensures extended { OnOk result (WithNewPass {H = H} H.real self.old.place (λ first last.
+            PushesShared (asks_alone self.old (length text.now)) H.whole
+            (room_for false 1 self.old (length text.now)) text.now
+            self.old self.new first last)) }
+        ensures items { OnOk result (self.new.items ≡ self.old.items ++ text.now) }
+        ensures refused { IfErr result (λ e.
+            WithNewPass {H = H} H.real self.old.place (λ first last.
+            MakesSharedRoom (asks_alone self.old (length text.now)) H.whole
+            (room_for false 1 self.old (length text.now)) self.old self.new first last (Err e))) }
+        ensures within { StaysWithin (length text.now) self.old self.new (is_ok result) }
+    {
+        let mut pass = self.pass();
+        let extended = self.try_extend_from_str_as(text, &mut pass);
+        pass.show();
+        extended
     }
 }

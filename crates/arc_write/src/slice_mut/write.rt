@@ -1,22 +1,23 @@
-//! Room in a write window, and what is written behind its items.
-ghost use Rattle.std.specs.Prelude.{◌≡◌, ◌≤◌, ◌+◌, ◌++◌, ◌∷◌, [], length};
-ghost use Rattle.std.specs.Prelude.{IfOk, IfErr, OnOk, OnErr, Ok, Err};
+//! Items that are changed in their places, or pushed.
+ghost use Rattle.std.specs.Prelude.{◌++◌, ◌+◌, ◌∷◌, ◌≡◌, [], Err, false, IfErr, is_ok, length};
+ghost use Rattle.std.specs.Prelude.{OnOk};
 ghost use Rattle.std.specs.Borrow.{sem};
 ghost use Rattle.std.specs.Mem.{FitsInMemory, type_size};
-ghost use Rattle.arc_sort_writers.specs.Growth.{IfAsked, AsksForRoom, without_item};
-ghost use Rattle.arc_parts.specs.Steps.{IsPassAt};
-ghost use Rattle.arc_parts.specs.Writers.{capacity_of, room_for};
 ghost use Rattle.arc_block.specs.Place.{size_at};
-ghost use Rattle.arc_parts.specs.Writers.{MakesRoom, Pushes, Reclaims};
+ghost use Rattle.arc_parts.specs.Shared.{asks_alone, MakesSharedRoom, PushesShared};
+ghost use Rattle.arc_parts.specs.Steps.{IsPassAt};
+ghost use Rattle.arc_parts.specs.Writers.{MakesRoom, Pushes, room_for};
+ghost use Rattle.arc_sort_writers.specs.Growth.{AsksForRoom, IfAsked, without_item};
+ghost use Rattle.arc_read.specs.Steps.{WithNewPass};
+ghost use Rattle.arc_write.specs.Within.{StaysWithin};
 
-use super::ArcSliceMut;
-use super::parts::WriterStorage;
+use crate::slice_mut::ArcSliceMut;
+use crate::slice_mut::parts::{as_several, as_sole};
 use arc_block::layout::LayoutMut;
 use arc_buffer::buffer::BufferMut;
 use arc_buffer::kinds::{AnyItems, CopySlice, Extendable, Slice};
 use arc_owners::error::TryReserveError;
-use arc_owners::hint::assert_unchecked;
-use arc_owners::mark::Mark;
+use arc_owners::mark::{Mark, Stepping};
 use arc_owners::owners::Pass;
 use std::alloc::Allocator;
 
@@ -48,92 +49,6 @@ impl<
         ensures value { result.now ≡ self.old.items }
     {
         self.parts.as_mut_slice()
-    }
-}
-
-impl<
-    S: Slice,
-    L: LayoutMut,
-    B: BufferMut<S::Item> + Drop,
-    M: Drop,
-    A: Allocator + Copy,
-    H: Mark,
-> ArcSliceMut<S, L, 1, B, M, A, H> {
-    /// Makes room for so many items more.
-    ///
-    /// # Errors
-    ///
-    /// Where the window hasn't the places already, in this order:
-    ///
-    /// - `Unsupported` where items that are dropped one by one end before the block's full places.
-    /// - Over a caller's buffer its own refusal.
-    /// - `CapacityOverflow` where a block would have to grow to more than 2^63 - 1 places or bytes.
-    /// - `AllocError` where memory is refused for a larger block, or for a first one of any size.
-    ///
-    /// Everything is then as before.
-    ///
-    /// # Allocates
-    ///
-    /// Once for a first block, and once where the block grows: where the places behind the items
-    /// aren't enough, unless items that aren't dropped one by one are no more than the places in
-    /// front of them, and the whole block is large enough.
-    ///
-    /// # History
-    ///
-    /// Nothing is added. Where a first block is made, the pass, which was of none, becomes that
-    /// block's.
-    pub fn try_reserve_as(
-        &mut self,
-        additional: usize,
-        pass: &mut Pass<H>,
-    ) -> Result<(), TryReserveError>
-        requires item { FitsInMemory S.Item.row }
-        requires pass { IsPassAt self.old.place pass.old }
-        ensures room { MakesRoom S.DROPS H.whole
-            (room_for S.DROPS (type_size S.Item.row) self.old additional)
-            self.old self.new pass.old pass.new result }
-        ensures items { self.new.items ≡ self.old.items }
-        ensures enough { OnOk result
-            (length self.new.items + additional ≤ capacity_of self.new.role) }
-        ensures own { IfAsked (room_for S.DROPS (type_size S.Item.row) self.old additional) (λ k.
-            AsksForRoom B.list B.places B.grows B.refuses self.old k (size_at self.new.place)
-            result) }
-    {
-        match &mut self.parts {
-            WriterStorage::Sole(parts) => parts.try_reserve_as(additional, pass),
-            WriterStorage::Several(_) => unsafe {
-                assert_unchecked(false);
-                unreachable!()
-            },
-        }
-    }
-
-    /// Whether there is room for so many items more without memory; then it is made. It adds
-    /// nothing.
-    pub fn try_reclaim(&mut self, additional: usize) -> bool
-        requires item { FitsInMemory S.Item.row }
-        ensures { Reclaims (room_for S.DROPS (type_size S.Item.row) self.old additional)
-            self.old self.new result }
-    {
-        match &mut self.parts {
-            WriterStorage::Sole(parts) => parts.try_reclaim(additional),
-            WriterStorage::Several(_) => unsafe {
-                assert_unchecked(false);
-                unreachable!()
-            },
-        }
-    }
-
-    /// `try_reclaim`, with a pass, which stays as it is.
-    pub fn try_reclaim_as(&mut self, additional: usize, pass: &mut Pass<H>) -> bool
-        requires item { FitsInMemory S.Item.row }
-        requires pass { IsPassAt self.old.place pass.old }
-        ensures room { Reclaims (room_for S.DROPS (type_size S.Item.row) self.old additional)
-            self.old self.new result }
-        ensures pass { pass.new ≡ pass.old }
-    {
-        let _ = pass;
-        self.try_reclaim(additional)
     }
 
     /// An item more, behind the others, once there is room for it.
@@ -170,13 +85,44 @@ impl<
             AsksForRoom B.list B.places B.grows B.refuses self.old k (size_at self.new.place)
             (without_item result)) }
     {
-        match &mut self.parts {
-            WriterStorage::Sole(parts) => parts.try_push_as(item, pass),
-            WriterStorage::Several(_) => unsafe {
-                assert_unchecked(false);
-                unreachable!()
-            },
-        }
+        as_sole!(&mut self.parts, parts => parts.try_push_as(item, pass))
+    }
+
+    /// An item more, behind the others: `try_push_as` with a new pass.
+    ///
+    /// # Errors
+    ///
+    /// Those of `try_push_as`.
+    ///
+    /// # Allocates
+    ///
+    /// As `try_reserve_as`.
+    ///
+    /// # History
+    ///
+    /// That of `try_reserve_as`.
+    #[inline(always)]
+    pub fn try_push(&mut self, item: S::Item) -> Result<(), (TryReserveError, S::Item)>
+    where
+        H: Stepping,
+        S: Extendable,
+        requires item { FitsInMemory S.Item.row }
+        ensures pushed { OnOk result (WithNewPass {H = H} H.real self.old.place (λ first last.
+            Pushes S.DROPS H.whole (room_for S.DROPS (type_size S.Item.row) self.old 1) (item ∷ [])
+            self.old self.new first last)) }
+        ensures items { OnOk result (self.new.items ≡ self.old.items ++ item ∷ []) }
+        ensures refused { IfErr result (λ r. (r.1 ≡ item)
+            × WithNewPass {H = H} H.real self.old.place (λ first last. MakesRoom S.DROPS H.whole
+            (room_for S.DROPS (type_size S.Item.row) self.old 1)
+            self.old self.new first last (Err r.0))) }
+        ensures own { IfAsked (room_for S.DROPS (type_size S.Item.row) self.old 1) (λ k.
+            AsksForRoom B.list B.places B.grows B.refuses self.old k (size_at self.new.place)
+            (without_item result)) }
+    {
+        let mut pass = self.pass();
+        let pushed = self.try_push_as(item, &mut pass);
+        pass.show();
+        pushed
     }
 
     /// A copy of the items more, behind the others, once there is room for them.
@@ -214,12 +160,223 @@ impl<
             (length items.now)) (λ k. AsksForRoom B.list B.places B.grows B.refuses self.old k
             (size_at self.new.place) result) }
     {
-        match &mut self.parts {
-            WriterStorage::Sole(parts) => parts.try_extend_from_slice_as(items, pass),
-            WriterStorage::Several(_) => unsafe {
-                assert_unchecked(false);
-                unreachable!()
-            },
-        }
+        as_sole!(&mut self.parts, parts => parts.try_extend_from_slice_as(items, pass))
+    }
+
+    /// A copy of the items more, behind the others: `try_extend_from_slice_as` with a new pass.
+    ///
+    /// # Errors
+    ///
+    /// Those of `try_extend_from_slice_as`.
+    ///
+    /// # Allocates
+    ///
+    /// As `try_reserve_as`.
+    ///
+    /// # History
+    ///
+    /// That of `try_reserve_as`.
+    #[inline(always)]
+    pub fn try_extend_from_slice(&mut self, items: &[S::Item]) -> Result<(), TryReserveError>
+    where
+        H: Stepping,
+        S: CopySlice,
+        S::Item: Copy,
+        requires item { FitsInMemory S.Item.row }
+        ensures extended { OnOk result (WithNewPass {H = H} H.real self.old.place (λ first last.
+            Pushes S.DROPS H.whole
+            (room_for S.DROPS (type_size S.Item.row) self.old (length items.now)) items.now
+            self.old self.new first last)) }
+        ensures items { OnOk result (self.new.items ≡ self.old.items ++ items.now) }
+        ensures refused { IfErr result (λ e.
+            WithNewPass {H = H} H.real self.old.place (λ first last. MakesRoom S.DROPS H.whole
+            (room_for S.DROPS (type_size S.Item.row) self.old (length items.now))
+            self.old self.new first last (Err e))) }
+        ensures own { IfAsked (room_for S.DROPS (type_size S.Item.row) self.old
+            (length items.now)) (λ k. AsksForRoom B.list B.places B.grows B.refuses self.old k
+            (size_at self.new.place) result) }
+    {
+        let mut pass = self.pass();
+        let extended = self.try_extend_from_slice_as(items, &mut pass);
+        pass.show();
+        extended
+    }
+}
+
+impl<
+    S: Slice,
+    L: LayoutMut,
+    B: BufferMut<S::Item> + Drop,
+    M: Drop,
+    A: Allocator + Copy,
+    H: Mark,
+> ArcSliceMut<S, L, 0, B, M, A, H> {
+    ghost use Rattle.arc_write.specs.Lends.{lends_items};
+
+    /// The items, to be changed in their places: what is written there they are afterwards. It
+    /// adds nothing.
+    #[inline(always)]
+    pub fn as_mut_slice(&mut self) -> &mut [S::Item]
+    where
+        S: AnyItems,
+        ensures* writes_back { sem 𝓛 (lends_items S.row L.row 0 B.row M.row A.row H.row S.Item.row
+            S.TryFromSliceError.row S.Slice L.Layout
+            (record {
+              with_list = B.with_list;
+              with_part = B.with_part;
+              refuses = B.refuses;
+              grows = B.grows;
+            })
+            B.Buffer A.Allocator H.Mark self.entry result) }
+        ensures value { result.now ≡ self.old.items }
+    {
+        self.parts.as_mut_slice()
+    }
+
+    /// An item more, behind the others, once there is room for it.
+    ///
+    /// # Errors
+    ///
+    /// Those of `try_reserve_as`, with the item.
+    ///
+    /// # Allocates
+    ///
+    /// As `try_reserve_as`.
+    ///
+    /// # History
+    ///
+    /// As `try_reserve_as`.
+    #[inline(always)]
+    pub fn try_push_as(
+        &mut self,
+        item: S::Item,
+        pass: &mut Pass<H>,
+    ) -> Result<(), (TryReserveError, S::Item)>
+    where
+        S: Extendable,
+        requires item { FitsInMemory S.Item.row }
+        requires pass { IsPassAt self.old.place pass.old }
+        ensures pushed { OnOk result (PushesShared (asks_alone self.old 1) H.whole
+            (room_for false (type_size S.Item.row) self.old 1) (item ∷ [])
+            self.old self.new pass.old pass.new) }
+        ensures items { OnOk result (self.new.items ≡ self.old.items ++ item ∷ []) }
+        ensures refused { IfErr result (λ r. (r.1 ≡ item) × MakesSharedRoom (asks_alone self.old 1)
+            H.whole (room_for false (type_size S.Item.row) self.old 1)
+            self.old self.new pass.old pass.new (Err r.0)) }
+        ensures within { StaysWithin 1 self.old self.new (is_ok result) }
+    {
+        as_several!(&mut self.parts, parts => parts.try_push_as(item, pass))
+    }
+
+    /// An item more, behind the others: `try_push_as` with a new pass.
+    ///
+    /// # Errors
+    ///
+    /// Those of `try_push_as`.
+    ///
+    /// # Allocates
+    ///
+    /// As `try_reserve_as`.
+    ///
+    /// # History
+    ///
+    /// That of `try_reserve_as`.
+    #[inline(always)]
+    pub fn try_push(&mut self, item: S::Item) -> Result<(), (TryReserveError, S::Item)>
+    where
+        S: Extendable,
+        H: Stepping,
+        requires item { FitsInMemory S.Item.row }
+        ensures pushed { OnOk result (WithNewPass {H = H} H.real self.old.place (λ first last.
+            PushesShared (asks_alone self.old 1) H.whole
+            (room_for false (type_size S.Item.row) self.old 1) (item ∷ [])
+            self.old self.new first last)) }
+        ensures items { OnOk result (self.new.items ≡ self.old.items ++ item ∷ []) }
+        ensures refused { IfErr result (λ r. (r.1 ≡ item)
+            × WithNewPass {H = H} H.real self.old.place (λ first last.
+            MakesSharedRoom (asks_alone self.old 1) H.whole
+            (room_for false (type_size S.Item.row) self.old 1)
+            self.old self.new first last (Err r.0))) }
+        ensures within { StaysWithin 1 self.old self.new (is_ok result) }
+    {
+        let mut pass = self.pass();
+        let pushed = self.try_push_as(item, &mut pass);
+        pass.show();
+        pushed
+    }
+
+    /// A copy of the items more, behind the others, once there is room for them.
+    ///
+    /// # Errors
+    ///
+    /// Those of `try_reserve_as`.
+    ///
+    /// # Allocates
+    ///
+    /// As `try_reserve_as`.
+    ///
+    /// # History
+    ///
+    /// As `try_reserve_as`.
+    #[inline(always)]
+    pub fn try_extend_from_slice_as(
+        &mut self,
+        items: &[S::Item],
+        pass: &mut Pass<H>,
+    ) -> Result<(), TryReserveError>
+    where
+        S: CopySlice,
+        S::Item: Copy,
+        requires item { FitsInMemory S.Item.row }
+        requires pass { IsPassAt self.old.place pass.old }
+        ensures extended { OnOk result (PushesShared (asks_alone self.old (length items.now))
+            H.whole (room_for false (type_size S.Item.row) self.old (length items.now)) items.now
+            self.old self.new pass.old pass.new) }
+        ensures items { OnOk result (self.new.items ≡ self.old.items ++ items.now) }
+        ensures refused { IfErr result (λ e. MakesSharedRoom
+            (asks_alone self.old (length items.now)) H.whole
+            (room_for false (type_size S.Item.row) self.old (length items.now))
+            self.old self.new pass.old pass.new (Err e)) }
+        ensures within { StaysWithin (length items.now) self.old self.new (is_ok result) }
+    {
+        as_several!(&mut self.parts, parts => parts.try_extend_from_slice_as(items, pass))
+    }
+
+    /// A copy of the items more, behind the others: `try_extend_from_slice_as` with a new pass.
+    ///
+    /// # Errors
+    ///
+    /// Those of `try_extend_from_slice_as`.
+    ///
+    /// # Allocates
+    ///
+    /// As `try_reserve_as`.
+    ///
+    /// # History
+    ///
+    /// That of `try_reserve_as`.
+    #[inline(always)]
+    pub fn try_extend_from_slice(&mut self, items: &[S::Item]) -> Result<(), TryReserveError>
+    where
+        S: CopySlice,
+        H: Stepping,
+        S::Item: Copy,
+        requires item { FitsInMemory S.Item.row }
+        ensures extended { OnOk result (WithNewPass {H = H} H.real self.old.place (λ first last.
+            PushesShared (asks_alone self.old (length items.now)) H.whole
+            (room_for false (type_size S.Item.row) self.old (length items.now)) items.now
+            self.old self.new first last)) }
+        ensures items { OnOk result (self.new.items ≡ self.old.items ++ items.now) }
+        ensures refused { IfErr result (λ e.
+            WithNewPass {H = H} H.real self.old.place (λ first last.
+            MakesSharedRoom (asks_alone self.old (length items.now)) H.whole
+            (room_for false (type_size S.Item.row) self.old (length items.now))
+            self.old self.new first last (Err e))) }
+        ensures within { StaysWithin (length items.now) self.old self.new (is_ok result) }
+    {
+        let mut pass = self.pass();
+        let extended = self.try_extend_from_slice_as(items, &mut pass);
+        pass.show();
+        extended
     }
 }

@@ -1,0 +1,443 @@
+//! What a write window gives back: a vector, a box, an array, the buffer.
+ghost use Rattle.std.specs.Prelude.{◌+◌, ◌≡◌, Err, IfErr, IfOk, true};
+ghost use Rattle.std.specs.Vec.{vec_capacity};
+ghost use Rattle.std.specs.declared.vec.Vec.{Vec};
+ghost use Rattle.arc_owners.specs.count.Calls.{Leaves};
+ghost use Rattle.arc_block.specs.Place.{at_owner, size_at};
+ghost use Rattle.arc_parts.specs.Steps.{IsPassAt, RefusesTaking, TakesAt};
+ghost use Rattle.arc_parts.specs.Window.{IsBoxWhole, IsBufferWhole, IsVecPart};
+ghost use Rattle.arc_parts.specs.Writers.{IsWholeWriter};
+ghost use Rattle.arc_read.specs.Steps.{WithNewPass};
+
+use crate::slice_mut::ArcSliceMut;
+use arc_block::layout::LayoutMut;
+use arc_buffer::buffer::BufferMut;
+use arc_buffer::kinds::{Slice, VecIn, Wraps};
+use arc_owners::mark::{Mark, Stepping};
+use arc_owners::owners::Pass;
+use std::alloc::Allocator;
+
+impl<
+    S: Slice,
+    L: LayoutMut,
+    B: BufferMut<S::Item> + Drop,
+    M: Drop,
+    A: Allocator + Copy,
+    H: Mark,
+> ArcSliceMut<S, L, 1, B, M, A, H> {
+    /// The items as their block's vector, moved to its front, where the block is a vector. Items
+    /// that are dropped one by one have to be all of it. Nobody is asked: a sole writer is alone.
+    ///
+    /// # Errors
+    ///
+    /// The window, on another block or none, and where items that are dropped one by one are a part
+    /// alone; the pass is then as before.
+    ///
+    /// # History
+    ///
+    /// Taken, Down without a step.
+    pub fn try_into_vec_as(self, pass: &mut Pass<H>) -> Result<S::Vec, Self>
+    where
+        S: VecIn<A>,
+        requires pass { IsPassAt self.place pass.old }
+        ensures taken { IfOk result (λ v. IsVecPart S.DROPS self.items self.place
+            × (S.list_in_vec v ≡ self.items)) }
+        ensures places { IfOk result (λ v. (inner : Vec S.Item A) × S.Vec.wraps v inner
+            × (vec_capacity inner ≡ size_at self.place)) }
+        ensures entry { IfOk result (λ _. at_owner self.place ⊥ (λ o.
+            Leaves o pass.old pass.new true)) }
+        ensures refused { IfErr result (λ back. (back ≡ self)
+            × (¬ IsVecPart S.DROPS self.items self.place) × (pass.new ≡ pass.old)) }
+    {
+        match self.into_parts().try_into_vec_as(pass) {
+            Ok(inner) => Ok(S::Vec::from_inner(inner)),
+            Err(parts) => Err(Self::from_parts(parts)),
+        }
+    }
+
+    /// The items as their block's vector: `try_into_vec_as` with a new pass.
+    ///
+    /// # Errors
+    ///
+    /// Those of `try_into_vec_as`.
+    ///
+    /// # History
+    ///
+    /// That of `try_into_vec_as`.
+    pub fn try_into_vec(self) -> Result<S::Vec, Self>
+    where
+        H: Stepping,
+        S: VecIn<A>,
+        ensures taken { IfOk result (λ v. IsVecPart S.DROPS self.items self.place
+            × (S.list_in_vec v ≡ self.items)) }
+        ensures places { IfOk result (λ v. (inner : Vec S.Item A) × S.Vec.wraps v inner
+            × (vec_capacity inner ≡ size_at self.place)) }
+        ensures entry { IfOk result (λ _. WithNewPass {H = H} H.real self.place (λ first last.
+            at_owner self.place ⊥ (λ o. Leaves o first last true))) }
+        ensures refused { IfErr result (λ back. (back ≡ self)
+            × (¬ IsVecPart S.DROPS self.items self.place)
+            × WithNewPass {H = H} H.real self.place (λ first last. last ≡ first)) }
+    {
+        let mut pass = self.pass();
+        let taken = self.try_into_vec_as(&mut pass);
+        pass.show();
+        taken
+    }
+
+    /// The items as a box, where they are all of a vector that has no places more. No item is
+    /// copied, and nobody is asked.
+    ///
+    /// # Errors
+    ///
+    /// The window, on another block or none, and where the items are a part of the vector's places
+    /// alone; the pass is then as before.
+    ///
+    /// # History
+    ///
+    /// Taken, Down without a step.
+    pub fn try_into_boxed_as(self, pass: &mut Pass<H>) -> Result<S::Boxed, Self>
+    where
+        S: VecIn<A>,
+        requires pass { IsPassAt self.place pass.old }
+        ensures taken { IfOk result (λ b. IsBoxWhole self.items self.place
+            × (S.list_in_boxed b ≡ self.items)) }
+        ensures entry { IfOk result (λ _. at_owner self.place ⊥ (λ o.
+            Leaves o pass.old pass.new true)) }
+        ensures refused { IfErr result (λ back. (back ≡ self)
+            × (¬ IsBoxWhole self.items self.place) × (pass.new ≡ pass.old)) }
+    {
+        match self.into_parts().try_into_box_vec_as(pass) {
+            Ok(inner) => Ok(S::Boxed::from_inner(inner.into_boxed_slice())),
+            Err(parts) => Err(Self::from_parts(parts)),
+        }
+    }
+
+    /// The items as a box: `try_into_boxed_as` with a new pass.
+    ///
+    /// # Errors
+    ///
+    /// Those of `try_into_boxed_as`.
+    ///
+    /// # History
+    ///
+    /// That of `try_into_boxed_as`.
+    pub fn try_into_boxed(self) -> Result<S::Boxed, Self>
+    where
+        H: Stepping,
+        S: VecIn<A>,
+        ensures taken { IfOk result (λ b. IsBoxWhole self.items self.place
+            × (S.list_in_boxed b ≡ self.items)) }
+        ensures entry { IfOk result (λ _. WithNewPass {H = H} H.real self.place (λ first last.
+            at_owner self.place ⊥ (λ o. Leaves o first last true))) }
+        ensures refused { IfErr result (λ back. (back ≡ self)
+            × (¬ IsBoxWhole self.items self.place)
+            × WithNewPass {H = H} H.real self.place (λ first last. last ≡ first)) }
+    {
+        let mut pass = self.pass();
+        let taken = self.try_into_boxed_as(&mut pass);
+        pass.show();
+        taken
+    }
+
+    /// The items as an array, where the window has `N` of them, which on a block are all places of
+    /// a native one. Else the window comes back.
+    ///
+    /// # Errors
+    ///
+    /// The window, with another number of items or of places; the pass is then as before.
+    ///
+    /// # History
+    ///
+    /// Taken off a block, Down without a step.
+    pub fn try_into_array_as<const N: usize>(self, pass: &mut Pass<H>) -> Result<[S::Item; N], Self>
+        requires pass { IsPassAt self.place pass.old }
+        ensures taken { IfOk result (λ array. IsWholeWriter N self × (array ≡ self.items)) }
+        ensures entry { IfOk result (λ _. at_owner self.place (pass.new ≡ pass.old) (λ o.
+            Leaves o pass.old pass.new true)) }
+        ensures refused { IfErr result (λ back. (back ≡ self) × (¬ IsWholeWriter N self)
+            × (pass.new ≡ pass.old)) }
+    {
+        match self.into_parts().try_into_array_as(pass) {
+            Ok(array) => Ok(array),
+            Err(parts) => Err(Self::from_parts(parts)),
+        }
+    }
+
+    /// The items as an array: `try_into_array_as` with a new pass.
+    ///
+    /// # Errors
+    ///
+    /// Those of `try_into_array_as`.
+    ///
+    /// # History
+    ///
+    /// That of `try_into_array_as`.
+    pub fn try_into_array<const N: usize>(self) -> Result<[S::Item; N], Self>
+    where
+        H: Stepping,
+        ensures taken { IfOk result (λ array. IsWholeWriter N self × (array ≡ self.items)) }
+        ensures entry { IfOk result (λ _. WithNewPass {H = H} H.real self.place (λ first last.
+            at_owner self.place (last ≡ first) (λ o. Leaves o first last true))) }
+        ensures refused { IfErr result (λ back. (back ≡ self) × (¬ IsWholeWriter N self)
+            × WithNewPass {H = H} H.real self.place (λ first last. last ≡ first)) }
+    {
+        let mut pass = self.pass();
+        let taken = self.try_into_array_as(&mut pass);
+        pass.show();
+        taken
+    }
+
+    /// The caller's buffer on which the window stands, where the items are all of it. Its metadata
+    /// is dropped. Nobody is asked: a sole writer is alone.
+    ///
+    /// # Errors
+    ///
+    /// The window, on another block or none, and where the items are a part alone; the pass is then
+    /// as before.
+    ///
+    /// # History
+    ///
+    /// Taken, Down without a step.
+    pub fn try_into_buffer_as(self, pass: &mut Pass<H>) -> Result<B, Self>
+        requires pass { IsPassAt self.place pass.old }
+        ensures taken { IfOk result (λ buffer. IsBufferWhole self.items self.place
+            × (B.list buffer ≡ self.items) × (B.places buffer ≡ size_at self.place)) }
+        ensures entry { IfOk result (λ _. at_owner self.place ⊥ (λ o.
+            Leaves o pass.old pass.new true)) }
+        ensures refused { IfErr result (λ back. (back ≡ self)
+            × (¬ IsBufferWhole self.items self.place) × (pass.new ≡ pass.old)) }
+    {
+        match self.into_parts().try_into_buffer_as(pass) {
+            Ok(buffer) => Ok(buffer),
+            Err(parts) => Err(Self::from_parts(parts)),
+        }
+    }
+
+    /// The caller's buffer: `try_into_buffer_as` with a new pass.
+    ///
+    /// # Errors
+    ///
+    /// Those of `try_into_buffer_as`.
+    ///
+    /// # History
+    ///
+    /// That of `try_into_buffer_as`.
+    pub fn try_into_buffer(self) -> Result<B, Self>
+    where
+        H: Stepping,
+        ensures taken { IfOk result (λ buffer. IsBufferWhole self.items self.place
+            × (B.list buffer ≡ self.items) × (B.places buffer ≡ size_at self.place)) }
+        ensures entry { IfOk result (λ _. WithNewPass {H = H} H.real self.place (λ first last.
+            at_owner self.place ⊥ (λ o. Leaves o first last true))) }
+        ensures refused { IfErr result (λ back. (back ≡ self)
+            × (¬ IsBufferWhole self.items self.place)
+            × WithNewPass {H = H} H.real self.place (λ first last. last ≡ first)) }
+    {
+        let mut pass = self.pass();
+        let taken = self.try_into_buffer_as(&mut pass);
+        pass.show();
+        taken
+    }
+}
+
+impl<
+    S: Slice,
+    L: LayoutMut,
+    B: BufferMut<S::Item> + Drop,
+    M: Drop,
+    A: Allocator + Copy,
+    H: Mark,
+> ArcSliceMut<S, L, 0, B, M, A, H> {
+    /// The items as their block's vector, moved to its front, where the block is a vector and no
+    /// other owner lives.
+    ///
+    /// # Errors
+    ///
+    /// The window, on another block or none, and where another owner lives.
+    ///
+    /// # History
+    ///
+    /// Taken, Alone and Down. Refused, Alone with no where only the count could decide, and else
+    /// nothing.
+    pub fn try_into_vec_as(self, pass: &mut Pass<H>) -> Result<S::Vec, Self>
+    where
+        S: VecIn<A>,
+        requires pass { IsPassAt self.place pass.old }
+        ensures taken { IfOk result (λ v. IsVecPart S.DROPS self.items self.place
+            × (S.list_in_vec v ≡ self.items)) }
+        ensures places { IfOk result (λ v. (inner : Vec S.Item A) × S.Vec.wraps v inner
+            × (vec_capacity inner ≡ size_at self.place)) }
+        ensures entries { IfOk result (λ _. TakesAt self.place pass.old pass.new) }
+        ensures refused { IfErr result (λ back. (back ≡ self) × RefusesTaking
+            (IsVecPart S.DROPS self.items self.place) self.place pass.old pass.new) }
+    {
+        match self.into_shared_parts().try_into_vec_as(pass) {
+            Ok(inner) => Ok(S::Vec::from_inner(inner)),
+            Err(parts) => Err(Self::from_shared_parts(parts)),
+        }
+    }
+
+    /// The items as their block's vector: `try_into_vec_as` with a new pass.
+    ///
+    /// # Errors
+    ///
+    /// Those of `try_into_vec_as`.
+    ///
+    /// # History
+    ///
+    /// That of `try_into_vec_as`.
+    pub fn try_into_vec(self) -> Result<S::Vec, Self>
+    where
+        H: Stepping,
+        S: VecIn<A>,
+        ensures taken { IfOk result (λ v. IsVecPart S.DROPS self.items self.place
+            × (S.list_in_vec v ≡ self.items)) }
+        ensures places { IfOk result (λ v. (inner : Vec S.Item A) × S.Vec.wraps v inner
+            × (vec_capacity inner ≡ size_at self.place)) }
+        ensures entries { IfOk result (λ _. WithNewPass {H = H} H.real self.place (λ first last.
+            TakesAt self.place first last)) }
+        ensures refused { IfErr result (λ back. (back ≡ self)
+            × WithNewPass {H = H} H.real self.place (λ first last. RefusesTaking
+            (IsVecPart S.DROPS self.items self.place) self.place first last)) }
+    {
+        let mut pass = self.pass();
+        let taken = self.try_into_vec_as(&mut pass);
+        pass.show();
+        taken
+    }
+
+    /// The items as a box, where they are all of a vector that has no places more, and no other
+    /// owner lives. No item is copied.
+    ///
+    /// # Errors
+    ///
+    /// The window, on another block or none, where the items are a part of the vector's places
+    /// alone, and where another owner lives.
+    ///
+    /// # History
+    ///
+    /// Taken, Alone and Down. Refused, Alone with no where only the count could decide, and else
+    /// nothing.
+    pub fn try_into_boxed_as(self, pass: &mut Pass<H>) -> Result<S::Boxed, Self>
+    where
+        S: VecIn<A>,
+        requires pass { IsPassAt self.place pass.old }
+        ensures taken { IfOk result (λ b. IsBoxWhole self.items self.place
+            × (S.list_in_boxed b ≡ self.items)) }
+        ensures entries { IfOk result (λ _. TakesAt self.place pass.old pass.new) }
+        ensures refused { IfErr result (λ back. (back ≡ self) × RefusesTaking
+            (IsBoxWhole self.items self.place) self.place pass.old pass.new) }
+    {
+        match self.into_shared_parts().try_into_box_vec_as(pass) {
+            Ok(inner) => Ok(S::Boxed::from_inner(inner.into_boxed_slice())),
+            Err(parts) => Err(Self::from_shared_parts(parts)),
+        }
+    }
+
+    /// The items as a box: `try_into_boxed_as` with a new pass.
+    ///
+    /// # Errors
+    ///
+    /// Those of `try_into_boxed_as`.
+    ///
+    /// # History
+    ///
+    /// That of `try_into_boxed_as`.
+    pub fn try_into_boxed(self) -> Result<S::Boxed, Self>
+    where
+        H: Stepping,
+        S: VecIn<A>,
+        ensures taken { IfOk result (λ b. IsBoxWhole self.items self.place
+            × (S.list_in_boxed b ≡ self.items)) }
+        ensures entries { IfOk result (λ _. WithNewPass {H = H} H.real self.place (λ first last.
+            TakesAt self.place first last)) }
+        ensures refused { IfErr result (λ back. (back ≡ self)
+            × WithNewPass {H = H} H.real self.place (λ first last. RefusesTaking
+            (IsBoxWhole self.items self.place) self.place first last)) }
+    {
+        let mut pass = self.pass();
+        let taken = self.try_into_boxed_as(&mut pass);
+        pass.show();
+        taken
+    }
+
+    /// The items as an array, where the window has `N` of them, which on a block are all places of
+    /// a native one, and no other owner lives. Else the window comes back.
+    ///
+    /// # Errors
+    ///
+    /// The window, with another number of items or of places, on a vector, and where another owner
+    /// lives.
+    ///
+    /// # History
+    ///
+    /// Taken off a block, Alone and Down. Refused, Alone with no where only the count could decide,
+    /// and else nothing.
+    pub fn try_into_array_as<const N: usize>(self, pass: &mut Pass<H>) -> Result<[S::Item; N], Self>
+        requires pass { IsPassAt self.place pass.old }
+        ensures taken { IfOk result (λ array. IsWholeWriter N self × (array ≡ self.items)) }
+        ensures entries { IfOk result (λ _. TakesAt self.place pass.old pass.new) }
+        ensures refused { IfErr result (λ back. (back ≡ self) × RefusesTaking
+            (IsWholeWriter N self) self.place pass.old pass.new) }
+    {
+        match self.into_shared_parts().try_into_array_as(pass) {
+            Ok(array) => Ok(array),
+            Err(parts) => Err(Self::from_shared_parts(parts)),
+        }
+    }
+
+    /// The items as an array: `try_into_array_as` with a new pass.
+    ///
+    /// # Errors
+    ///
+    /// Those of `try_into_array_as`.
+    ///
+    /// # History
+    ///
+    /// That of `try_into_array_as`.
+    pub fn try_into_array<const N: usize>(self) -> Result<[S::Item; N], Self>
+    where
+        H: Stepping,
+        ensures taken { IfOk result (λ array. IsWholeWriter N self × (array ≡ self.items)) }
+        ensures entries { IfOk result (λ _. WithNewPass {H = H} H.real self.place (λ first last.
+            TakesAt self.place first last)) }
+        ensures refused { IfErr result (λ back. (back ≡ self)
+            × WithNewPass {H = H} H.real self.place (λ first last. RefusesTaking
+            (IsWholeWriter N self) self.place first last)) }
+    {
+        let mut pass = self.pass();
+        let taken = self.try_into_array_as(&mut pass);
+        pass.show();
+        taken
+    }
+
+    /// No caller's buffer: none of several writers stands on one.
+    ///
+    /// # Errors
+    ///
+    /// The window; the pass is as before.
+    pub fn try_into_buffer_as(self, pass: &mut Pass<H>) -> Result<B, Self>
+        requires pass { IsPassAt self.place pass.old }
+        ensures back { result ≡ Err self }
+        ensures pass { pass.new ≡ pass.old }
+    {
+        let _ = pass;
+        Err(self)
+    }
+
+    /// No caller's buffer: `try_into_buffer_as` with a new pass.
+    ///
+    /// # Errors
+    ///
+    /// The window.
+    pub fn try_into_buffer(self) -> Result<B, Self>
+    where
+        H: Stepping,
+        ensures back { result ≡ Err self }
+        ensures entries { WithNewPass {H = H} H.real self.place (λ first last. last ≡ first) }
+    {
+        let pass = self.pass();
+        pass.show();
+        Err(self)
+    }
+}
