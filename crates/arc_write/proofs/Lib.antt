@@ -10,3 +10,4 @@ pub mod ReadParts
 pub mod RefusedSeveral
 mod Zeros
 pub mod Moves
+mod Cuts

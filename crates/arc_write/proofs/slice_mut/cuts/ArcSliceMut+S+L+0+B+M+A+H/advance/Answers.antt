@@ -1,26 +1,18 @@
-use Rattle.std.proofs.Common.{sym, ap, ◌∙◌, subst}
-use Rattle.arc_buffer.specs.Slice.{IsEdge}
+use Rattle.std.proofs.Common.{sym, ap, ◌∙◌}
 use Rattle.arc_block.specs.LayoutFacts.{layout_facts}
-use Rattle.arc_parts.specs.Window.{PartsView}
 use Rattle.arc_parts.specs.Writers.{after_advance}
-use Rattle.arc_write.proofs.Held.{advanced_held}
-use Rattle.arc_write.proofs.Legal.{advanced_legal}
+use Rattle.arc_write.proofs.Cuts.{advanced}
 use Rattle.arc_write.proofs.Parts.{held_as, seen_as}
 use Rattle.arc_write.proofs.slice_mut.cuts.ArcSliceMut+S+L+0+B+M+A+H.advance.Goals as goal
 
 pub invariant_of-self : goal.invariant_of-self
 invariant_of-self g c =
-    let layout = layout_facts g.L.Layout in let legal = g.S.Slice.is_legal in
-    let laws = g.met.S.Subsliceable in let boundary = g.S.Subsliceable.boundary in
-    let before = held_as layout legal 0 c.self.inside.parts _ c.in-Several.is c.self.invariant in
-    let edge = subst (λ (w : PartsView g.row.S-Item.Denot g.row.M.Denot).
-    IsEdge boundary w.items c.args.n)
-    (seen_as c.self.inside.parts _ _ c.in-Several.is c.self.view_is) c.requires in (
-      before.0,
-      advanced_held layout c.args.n c.in-Several.parts _ c.advance.ensures before.1,
-      advanced_legal legal boundary laws.range_is_legal laws.ends_are_edges c.args.n
-          c.in-Several.parts _ c.advance.ensures edge before.2,
-    )
+    let laws = g.met.S.Subsliceable in let layout = layout_facts g.L.Layout in
+    advanced layout g.S.Slice.is_legal g.S.Subsliceable.boundary laws.range_is_legal
+    laws.ends_are_edges c.args.n c.in-Several.parts _ _
+    (seen_as c.self.inside.parts _ _ c.in-Several.is c.self.view_is) c.requires
+    (held_as layout g.S.Slice.is_legal 0 c.self.inside.parts _ c.in-Several.is c.self.invariant)
+    c.advance.ensures
 
 pub returns : goal.returns
 returns g c =

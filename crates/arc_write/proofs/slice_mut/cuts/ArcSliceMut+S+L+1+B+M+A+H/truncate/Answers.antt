@@ -1,27 +1,18 @@
-use Rattle.std.proofs.Common.{◌≡◌, ◌<◌, false, length, sym, ap, ◌∙◌, subst}
-use Rattle.arc_buffer.specs.Slice.{IsEdge}
+use Rattle.std.proofs.Common.{sym, ap, ◌∙◌}
 use Rattle.arc_block.specs.LayoutFacts.{layout_facts}
-use Rattle.arc_parts.specs.Window.{PartsView}
 use Rattle.arc_parts.specs.Writers.{after_truncate}
-use Rattle.arc_write.proofs.Held.{truncated_held}
-use Rattle.arc_write.proofs.Legal.{truncated_legal}
+use Rattle.arc_write.proofs.Cuts.{truncated}
 use Rattle.arc_write.proofs.Parts.{held_as, seen_as}
 use Rattle.arc_write.proofs.slice_mut.cuts.ArcSliceMut+S+L+1+B+M+A+H.truncate.Goals as goal
 
 pub invariant_of-self : goal.invariant_of-self
 invariant_of-self g c =
-    let layout = layout_facts g.L.Layout in let legal = g.S.Slice.is_legal in
-    let laws = g.met.S.Subsliceable in let boundary = g.S.Subsliceable.boundary in
-    let before = held_as layout legal 1 c.self.inside.parts _ c.in-Sole.is c.self.invariant in
-    let edge = subst (λ (w : PartsView g.row.S-Item.Denot g.row.M.Denot).
-    c.args.n < length w.items → IsEdge boundary w.items c.args.n)
-    (seen_as c.self.inside.parts _ _ c.in-Sole.is c.self.view_is) c.requires in (
-      before.0,
-      truncated_held layout g.S.Slice.DROPS c.args.n c.in-Sole.parts _ c.truncate.ensures before.1,
-      truncated_legal legal boundary laws.range_is_legal laws.ends_are_edges g.S.Slice.DROPS
-          c.args.n
-          c.in-Sole.parts _ c.truncate.ensures edge before.2,
-    )
+    let laws = g.met.S.Subsliceable in let layout = layout_facts g.L.Layout in
+    truncated layout g.S.Slice.is_legal g.S.Subsliceable.boundary laws.range_is_legal
+    laws.ends_are_edges c.args.n c.in-Sole.parts _ _
+    (seen_as c.self.inside.parts _ _ c.in-Sole.is c.self.view_is) g.S.Slice.DROPS c.requires
+    (held_as layout g.S.Slice.is_legal 1 c.self.inside.parts _ c.in-Sole.is c.self.invariant)
+    c.truncate.ensures
 
 pub returns : goal.returns
 returns g c =
