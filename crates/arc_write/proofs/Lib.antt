@@ -11,3 +11,4 @@ pub mod RefusedSeveral
 mod Zeros
 pub mod Moves
 mod Cuts
+mod Splits
