@@ -77,14 +77,8 @@ impl<
 
     fn deref_mut(&mut self) -> &mut [S::Item]
         ensures* writes_back { sem 𝓛 (lends_items S.row L.row UNIQUE B.row M.row A.row H.row
-            S.Item.row S.TryFromSliceError.row S.Slice L.Layout
-            (record {
-              with_list = B.with_list;
-              with_part = B.with_part;
-              refuses = B.refuses;
-              grows = B.grows;
-            })
-            B.Buffer A.Allocator H.Mark self.entry result) }
+            S.Item.row S.TryFromSliceError.row S.Slice L.Layout B.BufferMut.own B.Buffer
+            A.Allocator H.Mark self.entry result) }
         ensures value { result.now ≡ self.old.items }
     {
         self.mut_slice_of_either()

@@ -38,14 +38,8 @@ impl<
     where
         S: AnyItems,
         ensures* writes_back { sem 𝓛 (lends_items S.row L.row 1 B.row M.row A.row H.row S.Item.row
-            S.TryFromSliceError.row S.Slice L.Layout
-            (record {
-              with_list = B.with_list;
-              with_part = B.with_part;
-              refuses = B.refuses;
-              grows = B.grows;
-            })
-            B.Buffer A.Allocator H.Mark self.entry result) }
+            S.TryFromSliceError.row S.Slice L.Layout B.BufferMut.own B.Buffer
+            A.Allocator H.Mark self.entry result) }
         ensures value { result.now ≡ self.old.items }
     {
         self.parts.as_mut_slice()
@@ -220,14 +214,8 @@ impl<
     where
         S: AnyItems,
         ensures* writes_back { sem 𝓛 (lends_items S.row L.row 0 B.row M.row A.row H.row S.Item.row
-            S.TryFromSliceError.row S.Slice L.Layout
-            (record {
-              with_list = B.with_list;
-              with_part = B.with_part;
-              refuses = B.refuses;
-              grows = B.grows;
-            })
-            B.Buffer A.Allocator H.Mark self.entry result) }
+            S.TryFromSliceError.row S.Slice L.Layout B.BufferMut.own B.Buffer
+            A.Allocator H.Mark self.entry result) }
         ensures value { result.now ≡ self.old.items }
     {
         self.parts.as_mut_slice()
