@@ -3,4 +3,5 @@
 
 mod adapters;
 pub mod borrow;
+pub mod range;
 pub mod slice;

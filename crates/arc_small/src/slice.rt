@@ -10,6 +10,7 @@ use super::limit::inline_limit;
 use arc_block::layout::{DefaultLayout, Layout};
 use arc_buffer::kinds::{AnyItems, CopySlice, Emptyable, Plain, Slice, Subsliceable, Text};
 use arc_owners::error::RangeError;
+use arc_read::range;
 use std::marker::{Model, PhantomData};
 use std::str;
 
@@ -165,18 +166,7 @@ impl<S: Slice<Item = u8>, L: Layout> SmallSlice<S, L> {
         ensures answer { result ≡ range_answer S.boundary self.now.items start end }
         ensures ok { IsOk result ↔ IsRange S.boundary self.now.items start end }
     {
-        if end > self.len() {
-            return Err(RangeError::OutOfRange);
-        }
-        if start > end {
-            return Err(RangeError::InvalidRange);
-        }
-        let items = self.as_slice();
-        if S::is_boundary(items, start) && S::is_boundary(items, end) {
-            Ok(())
-        } else {
-            Err(RangeError::NotBoundary)
-        }
+        range::check_range::<S>(self.as_slice(), start, end)
     }
 
     /// Whether the list may be cut at `at`.
@@ -191,14 +181,7 @@ impl<S: Slice<Item = u8>, L: Layout> SmallSlice<S, L> {
         ensures answer { result ≡ edge_answer S.boundary self.now.items at }
         ensures ok { IsOk result ↔ IsEdge S.boundary self.now.items at }
     {
-        if at > self.len() {
-            return Err(RangeError::OutOfRange);
-        }
-        if S::is_boundary(self.as_slice(), at) {
-            Ok(())
-        } else {
-            Err(RangeError::NotBoundary)
-        }
+        range::check_at::<S>(self.as_slice(), at)
     }
 
     /// The list may be cut at both ends.

@@ -7,6 +7,7 @@ ghost use Rattle.arc_read.specs.Cuts.{cut_window};
 ghost use Rattle.arc_read.specs.Steps.{WithNewPass};
 
 use super::ArcSliceBorrow;
+use crate::range;
 use crate::slice::ArcSlice;
 use arc_block::layout::Layout;
 use arc_buffer::buffer::Buffer;
@@ -77,18 +78,7 @@ impl<
             ≡ range_answer S.boundary (borrowed_part self.now).items start end }
         ensures ok { IsOk result ↔ IsRange S.boundary (borrowed_part self.now).items start end }
     {
-        let items = self.as_slice();
-        if end > items.len() {
-            return Err(RangeError::OutOfRange);
-        }
-        if start > end {
-            return Err(RangeError::InvalidRange);
-        }
-        if S::is_boundary(items, start) && S::is_boundary(items, end) {
-            Ok(())
-        } else {
-            Err(RangeError::NotBoundary)
-        }
+        range::check_range::<S>(self.as_slice(), start, end)
     }
 
     /// The items from `start` to `end` of the part, borrowed from the same window.

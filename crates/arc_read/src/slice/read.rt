@@ -3,6 +3,7 @@ ghost use Rattle.std.specs.Prelude.{◌≡◌, ◌==◌, ◌↔◌, length, IsOk
 ghost use Rattle.arc_buffer.specs.Slice.{IsEdge, IsRange, edge_answer, range_answer};
 
 use super::ArcSlice;
+use crate::range;
 use arc_block::layout::Layout;
 use arc_buffer::buffer::Buffer;
 use arc_buffer::kinds::{Slice, Subsliceable};
@@ -62,18 +63,7 @@ impl<
         ensures answer { result ≡ range_answer S.boundary self.now.items start end }
         ensures ok { IsOk result ↔ IsRange S.boundary self.now.items start end }
     {
-        if end > self.len() {
-            return Err(RangeError::OutOfRange);
-        }
-        if start > end {
-            return Err(RangeError::InvalidRange);
-        }
-        let items = self.as_slice();
-        if S::is_boundary(items, start) && S::is_boundary(items, end) {
-            Ok(())
-        } else {
-            Err(RangeError::NotBoundary)
-        }
+        range::check_range::<S>(self.as_slice(), start, end)
     }
 
     /// Whether the window may be cut at `at`.
@@ -88,13 +78,6 @@ impl<
         ensures answer { result ≡ edge_answer S.boundary self.now.items at }
         ensures ok { IsOk result ↔ IsEdge S.boundary self.now.items at }
     {
-        if at > self.len() {
-            return Err(RangeError::OutOfRange);
-        }
-        if S::is_boundary(self.as_slice(), at) {
-            Ok(())
-        } else {
-            Err(RangeError::NotBoundary)
-        }
+        range::check_at::<S>(self.as_slice(), at)
     }
 }

@@ -11,6 +11,7 @@ use arc_buffer::buffer::BufferMut;
 use arc_buffer::kinds::{Slice, Subsliceable};
 use arc_owners::error::RangeError;
 use arc_owners::mark::Mark;
+use arc_read::range;
 use std::alloc::Allocator;
 
 impl<
@@ -68,13 +69,7 @@ impl<
         ensures ok { IsOk result
             ↔ CanSplit S.boundary self.now.items (capacity_of self.now.role) at }
     {
-        if at > self.capacity() {
-            return Err(RangeError::OutOfRange);
-        }
-        if at < self.len() {
-            return self.check_at(at);
-        }
-        Ok(())
+        check_split::<S>(self.as_slice(), self.capacity(), at)
     }
 
     /// Whether the window may be cut at `at`.
@@ -89,14 +84,7 @@ impl<
         ensures answer { result ≡ edge_answer S.boundary self.now.items at }
         ensures ok { IsOk result ↔ IsEdge S.boundary self.now.items at }
     {
-        if at > self.len() {
-            return Err(RangeError::OutOfRange);
-        }
-        if S::is_boundary(self.as_slice(), at) {
-            Ok(())
-        } else {
-            Err(RangeError::NotBoundary)
-        }
+        range::check_at::<S>(self.as_slice(), at)
     }
 }
 
@@ -155,13 +143,7 @@ impl<
         ensures ok { IsOk result
             ↔ CanSplit S.boundary self.now.items (capacity_of self.now.role) at }
     {
-        if at > self.capacity() {
-            return Err(RangeError::OutOfRange);
-        }
-        if at < self.len() {
-            return self.check_at(at);
-        }
-        Ok(())
+        check_split::<S>(self.as_slice(), self.capacity(), at)
     }
 
     /// Whether the window may be cut at `at`.
@@ -176,13 +158,31 @@ impl<
         ensures answer { result ≡ edge_answer S.boundary self.now.items at }
         ensures ok { IsOk result ↔ IsEdge S.boundary self.now.items at }
     {
-        if at > self.len() {
-            return Err(RangeError::OutOfRange);
-        }
-        if S::is_boundary(self.as_slice(), at) {
-            Ok(())
-        } else {
-            Err(RangeError::NotBoundary)
-        }
+        range::check_at::<S>(self.as_slice(), at)
     }
+}
+
+/// Whether a list with so many places may be split at `at`, which may lie among its places behind
+/// the items.
+///
+/// # Errors
+///
+/// `OutOfRange` where that is past the places, else `NotBoundary` where it lies among the items and
+/// the kind may not be cut there.
+#[inline]
+fn check_split<S: Subsliceable>(
+    items: &[S::Item],
+    capacity: usize,
+    at: usize,
+) -> Result<(), RangeError>
+    ensures answer { result ≡ split_answer S.boundary items.now capacity at }
+    ensures ok { IsOk result ↔ CanSplit S.boundary items.now capacity at }
+{
+    if at > capacity {
+        return Err(RangeError::OutOfRange);
+    }
+    if at < items.len() {
+        return range::check_at::<S>(items, at);
+    }
+    Ok(())
 }
