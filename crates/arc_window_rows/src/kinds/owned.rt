@@ -17,12 +17,6 @@ impl Spelled for Owned<Name> {
         lists::array_reader(alloc, text)
     }
 
-    fn bytes_reader<L: Layout>(alloc: Global, text: &[u8]) -> Result<ArcSlice<Self, L>, Word> {
-        let _ = alloc;
-        let _ = text;
-        Err(NO_CALL)
-    }
-
     fn lasting_reader<L: StaticLayout>(
         alloc: Global,
         text: &[u8],
@@ -49,21 +43,6 @@ impl Spelled for Owned<Name> {
         lists::array_writer(alloc, text)
     }
 
-    fn bytes_writer<L: LayoutMut>(
-        alloc: Global,
-        text: &[u8],
-    ) -> Result<ArcSliceMut<Self, L, 1>, Word> {
-        let _ = alloc;
-        let _ = text;
-        Err(NO_CALL)
-    }
-
-    fn zeros<L: LayoutMut>(alloc: Global, count: usize) -> Result<ArcSliceMut<Self, L, 1>, Word> {
-        let _ = alloc;
-        let _ = count;
-        Err(NO_CALL)
-    }
-
     fn collected<L: LayoutMut>(
         alloc: Global,
         text: &[u8],
@@ -73,17 +52,6 @@ impl Spelled for Owned<Name> {
 
     fn push<L: LayoutMut>(window: &mut ArcSliceMut<Self, L, 1>, byte: u8) -> Word {
         lists::push(window, byte)
-    }
-
-    fn extend<L: LayoutMut>(
-        alloc: Global,
-        window: &mut ArcSliceMut<Self, L, 1>,
-        text: &[u8],
-    ) -> Word {
-        let _ = alloc;
-        let _ = window;
-        let _ = text;
-        NO_CALL
     }
 
     fn extend_each<L: LayoutMut>(

@@ -17,12 +17,6 @@ impl<T: Letter + Copy + ZeroItem + DebugItem + 'static> Spelled for Plain<T> {
         lists::array_reader(alloc, text)
     }
 
-    fn bytes_reader<L: Layout>(alloc: Global, text: &[u8]) -> Result<ArcSlice<Self, L>, Word> {
-        let _ = alloc;
-        let _ = text;
-        Err(NO_CALL)
-    }
-
     fn lasting_reader<L: StaticLayout>(
         alloc: Global,
         text: &[u8],
@@ -47,15 +41,6 @@ impl<T: Letter + Copy + ZeroItem + DebugItem + 'static> Spelled for Plain<T> {
         text: &[u8],
     ) -> Result<ArcSliceMut<Self, L, 1>, Word> {
         lists::array_writer(alloc, text)
-    }
-
-    fn bytes_writer<L: LayoutMut>(
-        alloc: Global,
-        text: &[u8],
-    ) -> Result<ArcSliceMut<Self, L, 1>, Word> {
-        let _ = alloc;
-        let _ = text;
-        Err(NO_CALL)
     }
 
     fn zeros<L: LayoutMut>(alloc: Global, count: usize) -> Result<ArcSliceMut<Self, L, 1>, Word> {

@@ -20,12 +20,6 @@ impl Spelled for Text {
         }
     }
 
-    fn array_reader<L: Layout>(alloc: Global, text: &[u8]) -> Result<ArcSlice<Self, L>, Word> {
-        let _ = alloc;
-        let _ = text;
-        Err(NO_CALL)
-    }
-
     fn bytes_reader<L: Layout>(alloc: Global, text: &[u8]) -> Result<ArcSlice<Self, L>, Word> {
         let Ok(bytes) = ArcSlice::try_from_slice(alloc, text) else {
             return Err(NO_MEMORY);
@@ -69,15 +63,6 @@ impl Spelled for Text {
         }
     }
 
-    fn array_writer<L: LayoutMut>(
-        alloc: Global,
-        text: &[u8],
-    ) -> Result<ArcSliceMut<Self, L, 1>, Word> {
-        let _ = alloc;
-        let _ = text;
-        Err(NO_CALL)
-    }
-
     fn bytes_writer<L: LayoutMut>(
         alloc: Global,
         text: &[u8],
@@ -98,21 +83,6 @@ impl Spelled for Text {
         }
     }
 
-    fn collected<L: LayoutMut>(
-        alloc: Global,
-        text: &[u8],
-    ) -> Result<ArcSliceMut<Self, L, 1>, Word> {
-        let _ = alloc;
-        let _ = text;
-        Err(NO_CALL)
-    }
-
-    fn push<L: LayoutMut>(window: &mut ArcSliceMut<Self, L, 1>, byte: u8) -> Word {
-        let _ = window;
-        let _ = byte;
-        NO_CALL
-    }
-
     fn extend<L: LayoutMut>(
         alloc: Global,
         window: &mut ArcSliceMut<Self, L, 1>,
@@ -126,29 +96,6 @@ impl Spelled for Text {
             Ok(()) => OK,
             Err(e) => room_word(e),
         }
-    }
-
-    fn extend_each<L: LayoutMut>(
-        alloc: Global,
-        window: &mut ArcSliceMut<Self, L, 1>,
-        text: &[u8],
-    ) -> Word {
-        let _ = alloc;
-        let _ = window;
-        let _ = text;
-        NO_CALL
-    }
-
-    fn set<L: LayoutMut>(window: &mut ArcSliceMut<Self, L, 1>, at: usize, byte: u8) -> Word {
-        let _ = window;
-        let _ = at;
-        let _ = byte;
-        NO_CALL
-    }
-
-    fn reverse<L: LayoutMut>(window: &mut ArcSliceMut<Self, L, 1>) -> Word {
-        let _ = window;
-        NO_CALL
     }
 
     fn rounded_writer<L: LayoutMut>(window: &mut Option<ArcSliceMut<Self, L, 1>>) -> Word {
