@@ -13,6 +13,7 @@ pub mod Places
 pub mod Returns
 pub mod Rolls
 pub mod Shared
+pub mod Signs
 pub mod Stakes
 pub mod States
 pub mod Wholes

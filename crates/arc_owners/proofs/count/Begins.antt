@@ -12,11 +12,11 @@ use seplogic.Ra.Pcs.{OpDef}
 use base.Share
 use base.Share.{quarter, three_quarters}
 use base.Stored.{coded_ℕ}
-use base.Logic.{SProp, ent, sep, wand, ex, all, guard, upd, emp, never, never_e, apply∗, id⊢, via}
+use base.Logic.{wand, ex, all, guard, upd, emp, never, never_e, apply∗, id⊢, via}
 use base.Logic.{upd_i}
 use base.Fml.{Lft, Fml, Share, ftrue, fsep, flft, finv, fnamed}
 use base.Growing.{latest, at_least}
-use types.Logic.{Logic, sem}
+use types.Logic.{Logic}
 use types.Owned.{basic, named_past}
 use types.Growing.{at_least_dup, latest_new, latest_shows, latest_bounds, latest_cut}
 use types.Keyed.{entries_new, entries_take, entries_from, ticket, token}
@@ -37,6 +37,7 @@ use Rattle.arc_owners.specs.count.Invariant.{authority, withheld, places, is_the
 use Rattle.arc_owners.specs.count.Invariant.{stake, how_many, living, State, Fits, contents, behind}
 use Rattle.arc_owners.specs.count.Invariant.{known, right_owns, right_shown, trace_owns, pass_holds}
 use Rattle.arc_owners.specs.count.Invariant.{kept}
+use Rattle.arc_owners.proofs.count.Signs.{signs}
 use Rattle.arc_owners.proofs.count.Operations.{left}
 use Rattle.arc_owners.proofs.count.Places.{pauses, outside}
 use Rattle.arc_owners.proofs.count.Rolls.{get-more, get-last, living-relet, living-in}
@@ -94,18 +95,7 @@ counted-at-first = refl
 
 module _ {M : Type 1} {𝓤 : Ura M} (𝓛 : Logic 𝓤) where
   open 𝓛 use {H, A as At}
-
-  abbrev Pr : Type 2
-  Pr = SProp 𝓤
-
-  abbrev ◌⊢◌ : Pr → Pr → Type 1
-  P ⊢ Q = ent 𝓤 P Q
-
-  abbrev ◌∗◌ : Pr → Pr → Pr
-  P ∗ Q = sep 𝓤 P Q
-
-  abbrev ⟦◌⟧ : Fml → Pr
-  ⟦ P ⟧ = sem 𝓛 P
+  open signs 𝓛 use {Pr, ◌⊢◌, ◌∗◌, ⟦◌⟧}
 
   infix 26 ◌⊢◌
   infixr 35 ◌∗◌

@@ -14,7 +14,7 @@ use base.Stored.{Coded}
 use base.SetCodes.{coded, SetCoded-set}
 use base.Algebras.{pcs, shares}
 use base.Shift.{Keyless}
-use base.Logic.{SProp, ent, sep, wand, ex, all, guard, upd, emp, id⊢, via, apply∗, all_e, ex_e}
+use base.Logic.{ex, all, guard, upd, emp, id⊢, via, apply∗, all_e, ex_e}
 use base.Logic.{guard_e, guard_i, upd_mono, upd_i}
 use base.Fml.{Fml, Share}
 use types.Logic.{Logic, sem}
@@ -23,6 +23,7 @@ use types.Keyed.{entry_keyless, entries_keyless}
 use types.Kit.{‵, raw, ◌⊛◌, given, ◌$◌, ◌∵◌, !, qed, by, move, split, join, learn, check, frame}
 use types.Kit.{each, assume, done, use1, use2, rewrite, suffices, settle}
 use Rattle.arc_owners.specs.count.Invariant.{halved, ghost_var, kept, row}
+use Rattle.arc_owners.proofs.count.Signs.{signs}
 
 module _ {X : Type 0} (c : Coded X) where
   kept_keyless : (δ k : ℕ) (x : Bool × X) → Keyless (kept c δ k x)
@@ -39,20 +40,7 @@ module _ {X : Type 0} (c : Coded X) where
       r} {b = x} {b' = x} {y = x} m (Ag.idem (SetCoded-set (coded c)) x)
 
   module _ {M : Type 1} {𝓤 : Ura M} (𝓛 : Logic 𝓤) (δ : ℕ) where
-    abbrev Pr : Type 2
-    Pr = SProp 𝓤
-
-    abbrev ◌⊢◌ : Pr → Pr → Type 1
-    P ⊢ Q = ent 𝓤 P Q
-
-    abbrev ◌∗◌ : Pr → Pr → Pr
-    P ∗ Q = sep 𝓤 P Q
-
-    abbrev ◌-∗◌ : Pr → Pr → Pr
-    P -∗ Q = wand 𝓤 P Q
-
-    abbrev ⟦◌⟧ : Fml → Pr
-    ⟦ P ⟧ = sem 𝓛 P
+    open signs 𝓛 use {Pr, ◌⊢◌, ◌∗◌, ◌-∗◌, ⟦◌⟧}
 
     infix 26 ◌⊢◌
     infixr 35 ◌∗◌

@@ -7,9 +7,9 @@ use mathlib.Core.Option.{Option, none, some}
 use seplogic.Ra.Ura.{Ura}
 use base.Fraction.{full_share}
 use base.Share.{quarter}
-use base.Logic.{SProp, ent, sep, wand, upd, emp, id⊢, upd_i, apply∗}
+use base.Logic.{upd, emp, id⊢, upd_i, apply∗}
 use base.Fml.{Share, Fml, ftrue, fsep, flft}
-use types.Logic.{Logic, sem}
+use types.Logic.{Logic}
 use types.Keyed.{ticket}
 use types.Kit.{‵, raw, ◌⊛◌, given, ◌$◌, ◌∵◌, !, qed, by, move, keep, drop, split, split3, group}
 use types.Kit.{assume, fjoin, fpack, learn, done, frame, use0, use1, use2, use3, rewrite, suffices}
@@ -25,6 +25,7 @@ use Rattle.arc_owners.specs.count.Invariant.{counted_as}
 use Rattle.arc_owners.specs.count.Invariant.{tally, pool, stake, how_many, State, Fits, contents}
 use Rattle.arc_owners.specs.count.Invariant.{behind, pass_holds, next_owner, end_tokens, taken}
 use Rattle.arc_owners.specs.count.Invariant.{claim_gain}
+use Rattle.arc_owners.proofs.count.Signs.{signs}
 use Rattle.arc_owners.proofs.count.Operations.{Operation, Follows, left_by, left, full_if, up_if}
 use Rattle.arc_owners.proofs.count.Operations.{made_if, less, load, load_for_raise}
 use Rattle.arc_owners.proofs.count.Operations.{compare_exchange, subtract, claim}
@@ -42,20 +43,7 @@ use Rattle.arc_owners.proofs.count.Opened.{writes_down}
 
 module _ {M : Type 1} {𝓤 : Ura M} (𝓛 : Logic 𝓤) (t : BlockId) (p : ℕ) (ready : Bool)
     (seen : List Line) (o : ℕ) (l : Lease) where
-  abbrev Pr : Type 2
-  Pr = SProp 𝓤
-
-  abbrev ◌⊢◌ : Pr → Pr → Type 1
-  P ⊢ Q = ent 𝓤 P Q
-
-  abbrev ◌∗◌ : Pr → Pr → Pr
-  P ∗ Q = sep 𝓤 P Q
-
-  abbrev ⟦◌⟧ : Fml → Pr
-  ⟦ P ⟧ = sem 𝓛 P
-
-  abbrev ◌-∗◌ : Pr → Pr → Pr
-  P -∗ Q = wand 𝓤 P Q
+  open signs 𝓛 use {Pr, ◌⊢◌, ◌∗◌, ◌-∗◌, ⟦◌⟧}
 
   infix 26 ◌⊢◌
   infixr 35 ◌∗◌

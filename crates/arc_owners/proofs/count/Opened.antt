@@ -8,9 +8,9 @@ use seplogic.Ra.Ura.{Ura}
 use base.Fraction.{full_share}
 use base.Share.{quarter, three_quarters}
 use base.Stored.{coded_ℕ}
-use base.Logic.{SProp, ent, sep, wand, upd, upd_i}
+use base.Logic.{upd, upd_i}
 use base.Fml.{Share, Fml, ftrue}
-use types.Logic.{Logic, sem}
+use types.Logic.{Logic}
 use types.Kit.{‵, raw, ◌⊛◌, given, ◌$◌, ◌∵◌, !, qed, by, move, drop, split, split3, group, fsplit}
 use types.Kit.{fsplit3, fjoin, fpick, fpack, learn, done, frame, assume, use1, use2, use3}
 use types.Kit.{rewrite, suffices, settle}
@@ -22,6 +22,7 @@ use Rattle.arc_owners.specs.count.Invariant.{withheld, has_place, located, Lease
 use Rattle.arc_owners.specs.count.Invariant.{no_lease, Seat, seat_coded, fresh_seat, ghost_var, row}
 use Rattle.arc_owners.specs.count.Invariant.{right, counted_as, tally, pool, how_many, State, Fits}
 use Rattle.arc_owners.specs.count.Invariant.{standing, contents, behind, pass_holds}
+use Rattle.arc_owners.proofs.count.Signs.{signs}
 use Rattle.arc_owners.proofs.count.Operations.{Follows, left_by, left}
 use Rattle.arc_owners.proofs.count.Rolls.{made-own}
 use Rattle.arc_owners.proofs.count.States.{seat_of, seat_set, wrote_for, one-lives}
@@ -30,20 +31,7 @@ use Rattle.arc_owners.proofs.count.Parts.{top, Seen, sees, writes, counts, Same_
 use Rattle.arc_owners.proofs.count.Parts.{keyed, stays, tallies, tally_in}
 
 module _ {M : Type 1} {𝓤 : Ura M} (𝓛 : Logic 𝓤) (t : BlockId) where
-  abbrev Pr : Type 2
-  Pr = SProp 𝓤
-
-  abbrev ◌⊢◌ : Pr → Pr → Type 1
-  P ⊢ Q = ent 𝓤 P Q
-
-  abbrev ◌∗◌ : Pr → Pr → Pr
-  P ∗ Q = sep 𝓤 P Q
-
-  abbrev ⟦◌⟧ : Fml → Pr
-  ⟦ P ⟧ = sem 𝓛 P
-
-  abbrev ◌-∗◌ : Pr → Pr → Pr
-  P -∗ Q = wand 𝓤 P Q
+  open signs 𝓛 use {Pr, ◌⊢◌, ◌∗◌, ◌-∗◌, ⟦◌⟧}
 
   infix 26 ◌⊢◌
   infixr 35 ◌∗◌

@@ -9,10 +9,10 @@ use seplogic.Ra.Ura.{Ura}
 use base.Fraction.{full_share}
 use base.Share
 use base.Share.{quarter, three_quarters}
-use base.Logic.{SProp, ent, sep, guard, upd, emp, id⊢, upd_i}
+use base.Logic.{guard, upd, emp, id⊢, upd_i}
 use base.Fml.{Fml, ftrue, fsep, flft}
 use base.Growing.{latest, at_least, once}
-use types.Logic.{Logic, sem}
+use types.Logic.{Logic}
 use types.Growing.{latest_grows, latest_shows, latest_bounds, latest_agrees, latest_cut}
 use types.Growing.{latest_glue}
 use types.Keyed.{ticket}
@@ -28,22 +28,13 @@ use Rattle.arc_owners.specs.count.Invariant.{BlockId, counted_as, tally_of, tall
 use Rattle.arc_owners.specs.count.Invariant.{lines_order, authority, history_at_least, withheld}
 use Rattle.arc_owners.specs.count.Invariant.{places, is_there, has_place, located, told, Lease}
 use Rattle.arc_owners.specs.count.Invariant.{pooled, pool, staked, stake}
+use Rattle.arc_owners.proofs.count.Signs.{signs}
 use Rattle.arc_owners.proofs.history.Steps.{counted-more, counted-ended}
 use Rattle.arc_owners.proofs.count.Rolls.{entries-append}
 use Rattle.arc_owners.proofs.count.Cells.{cell_whole}
 
 module _ {M : Type 1} {𝓤 : Ura M} (𝓛 : Logic 𝓤) (t : BlockId) where
-  abbrev Pr : Type 2
-  Pr = SProp 𝓤
-
-  abbrev ◌⊢◌ : Pr → Pr → Type 1
-  P ⊢ Q = ent 𝓤 P Q
-
-  abbrev ◌∗◌ : Pr → Pr → Pr
-  P ∗ Q = sep 𝓤 P Q
-
-  abbrev ⟦◌⟧ : Fml → Pr
-  ⟦ P ⟧ = sem 𝓛 P
+  open signs 𝓛 use {Pr, ◌⊢◌, ◌∗◌, ⟦◌⟧}
 
   infix 26 ◌⊢◌
   infixr 35 ◌∗◌

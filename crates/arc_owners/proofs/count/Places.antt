@@ -7,9 +7,9 @@ use mathlib.Core.List.{Mem, mem-cons, not-mem-nil}
 use mathlib.Core.HLevel.{⊥_prop}
 use mathlib.Core.Logic.Or
 use seplogic.Ra.Ura.{Ura}
-use base.Logic.{SProp, ent, sep, wand, ex, guard, upd, upd_i, ex_i, apply∗}
+use base.Logic.{ex, guard, upd, upd_i, ex_i, apply∗}
 use base.Fml.{Lft, Share, Fml, fsep, flft, fbor, fnamed}
-use types.Logic.{Logic, sem}
+use types.Logic.{Logic}
 use types.Kit.{‵, raw, ◌⊛◌, ◌$◌, ◌∵◌, !, qed, by, move, split, split3, join, group, fsplit, fsplit3}
 use types.Kit.{fjoin, fpick, fpack, frame, each, assume, show, check, done, use1, use2, use3}
 use types.Kit.{suffices, settle}
@@ -20,27 +20,14 @@ use Rattle.arc_owners.specs.declared.history.entry.Entry.{Entry}
 use Rattle.arc_owners.specs.count.Invariant.{BlockId, Line, Lease, known, right, right_owns}
 use Rattle.arc_owners.specs.count.Invariant.{contents}
 use Rattle.arc_owners.specs.count.Invariant.{behind, lies, counting, pass_holds, trace_owns}
+use Rattle.arc_owners.proofs.count.Signs.{signs}
 use Rattle.arc_owners.proofs.count.Operations.{Operation, with_entry, left_by, left, made_if}
 use Rattle.arc_owners.proofs.count.Moves.{Steps}
 use Rattle.arc_owners.proofs.count.Shared.{known_twice}
 
 module _ {M : Type 1} {𝓤 : Ura M} (𝓛 : Logic 𝓤) (t : BlockId) where
   open 𝓛 use {H, A as At}
-
-  abbrev Pr : Type 2
-  Pr = SProp 𝓤
-
-  abbrev ◌⊢◌ : Pr → Pr → Type 1
-  P ⊢ Q = ent 𝓤 P Q
-
-  abbrev ◌∗◌ : Pr → Pr → Pr
-  P ∗ Q = sep 𝓤 P Q
-
-  abbrev ◌-∗◌ : Pr → Pr → Pr
-  P -∗ Q = wand 𝓤 P Q
-
-  abbrev ⟦◌⟧ : Fml → Pr
-  ⟦ P ⟧ = sem 𝓛 P
+  open signs 𝓛 use {Pr, ◌⊢◌, ◌∗◌, ◌-∗◌, ⟦◌⟧}
 
   infix 26 ◌⊢◌
   infixr 35 ◌∗◌

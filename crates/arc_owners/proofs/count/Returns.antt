@@ -2,29 +2,19 @@
 -- one. Assumes `Logic`.
 use Rattle.std.proofs.Common.{Bool, true, false, [], ◌∷◌}
 use seplogic.Ra.Ura.{Ura}
-use base.Logic.{SProp, ent, sep, upd, via, never_e, upd_i, id⊢}
+use base.Logic.{upd, via, never_e, upd_i}
 use base.Fml.{Fml, fdead, flent, finv}
-use types.Logic.{Logic, sem}
+use types.Logic.{Logic}
 use types.Keyed.{ticket, ticket_once}
 use types.Tokens.{lft_end, lent_back}
 use types.Kit.{‵, ◌⊛◌, later, ◌$◌, ◌∵◌, !, qed, by, move, split, fsplit, fpick, fpack, frame}
 use types.Kit.{assume, suffices, updating, await, now, done, use1, use2}
 use Rattle.arc_owners.specs.count.Invariant.{Lease, kept_if, kept_for, end_tokens}
+use Rattle.arc_owners.proofs.count.Signs.{signs}
 
 module _ {M : Type 1} {𝓤 : Ura M} (𝓛 : Logic 𝓤) (P : Fml) (l : Lease) where
   open 𝓛 use {H}
-
-  abbrev Pr : Type 2
-  Pr = SProp 𝓤
-
-  abbrev ◌⊢◌ : Pr → Pr → Type 1
-  X ⊢ Y = ent 𝓤 X Y
-
-  abbrev ◌∗◌ : Pr → Pr → Pr
-  X ∗ Y = sep 𝓤 X Y
-
-  abbrev ⟦◌⟧ : Fml → Pr
-  ⟦ X ⟧ = sem 𝓛 X
+  open signs 𝓛 use {Pr, ◌⊢◌, ◌∗◌, ⟦◌⟧}
 
   infix 26 ◌⊢◌
   infixr 35 ◌∗◌

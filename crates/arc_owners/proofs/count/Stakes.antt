@@ -4,9 +4,9 @@ use Rattle.std.proofs.Common.{◌≡◌, ℕ, ◌<◌, Bool, true, List, [], ◌
 use seplogic.Ra.Ura.{Ura}
 use base.FractionLaws.{Counts}
 use base.Share.{quarter}
-use base.Logic.{SProp, ent, sep, wand, upd, never, never_e, via, fst∗, upd_i, apply∗}
+use base.Logic.{upd, never, never_e, via, fst∗, upd_i, apply∗}
 use base.Fml.{Lft, Share, Fml, flft, fbor, fnamed}
-use types.Logic.{Logic, sem}
+use types.Logic.{Logic}
 use types.RcWeak.{part_in}
 use types.Kit.{‵, raw, ◌⊛◌, ◌$◌, ◌∵◌, !, qed, by, move, drop, split, split3, group, fsplit, fpick}
 use types.Kit.{frame, assume, done, use1, rewrite, suffices, settle}
@@ -14,6 +14,7 @@ use denote.RawPtr.{Ptr, block_ptr, null_ptr}
 use Rattle.core.specs.Sync.RawAtomic.{asks, always}
 use Rattle.arc_owners.specs.count.Invariant.{BlockId, Line, Lease, right, staked, stake, contents}
 use Rattle.arc_owners.specs.count.Invariant.{behind, counting, word_borrow, pass_holds, trace_owns}
+use Rattle.arc_owners.proofs.count.Signs.{signs}
 use Rattle.arc_owners.proofs.count.Operations.{Operation}
 use Rattle.arc_owners.proofs.count.Moves.{Steps}
 use Rattle.arc_owners.proofs.count.Places as places
@@ -21,21 +22,7 @@ use Rattle.arc_owners.proofs.count.Places as places
 module _ {M : Type 1} {𝓤 : Ura M} (𝓛 : Logic 𝓤) (t : BlockId) (p : ℕ) (ready : Bool)
     (seen : List Line) (own : ℕ) (l : Lease) (lent : l.is_lent ≡ true) where
   open 𝓛 use {A as At}
-
-  abbrev Pr : Type 2
-  Pr = SProp 𝓤
-
-  abbrev ◌⊢◌ : Pr → Pr → Type 1
-  P ⊢ Q = ent 𝓤 P Q
-
-  abbrev ◌∗◌ : Pr → Pr → Pr
-  P ∗ Q = sep 𝓤 P Q
-
-  abbrev ◌-∗◌ : Pr → Pr → Pr
-  P -∗ Q = wand 𝓤 P Q
-
-  abbrev ⟦◌⟧ : Fml → Pr
-  ⟦ P ⟧ = sem 𝓛 P
+  open signs 𝓛 use {Pr, ◌⊢◌, ◌∗◌, ◌-∗◌, ⟦◌⟧}
 
   infix 26 ◌⊢◌
   infixr 35 ◌∗◌

@@ -7,13 +7,13 @@ use seplogic.Ra.Ura.{Ura}
 use mir.Syntax.{Callee}
 use mir.Val.{Val, vint, vptr}
 use base.Share.{quarter}
-use base.Logic.{SProp, ent, sep, wand, via, apply∗}
+use base.Logic.{via, apply∗}
 use base.Fml.{Lft, GName, Share, Fml, ftrue, feq, flt, fsep, flft, fobs, fbor, fhide}
 use prog.Model.{Model}
-use types.Logic.{Logic, sem}
+use types.Logic.{Logic}
 use types.SemTy.{Body}
-use types.Kit.{Item, Goal, Soaks, Step, step, ‵, raw, ◌⊛◌, some, given, later, mean, ◌$◌, ◌∵◌, ! }
-use types.Kit.{qed}
+use types.Kit.{Item, Goal, Soaks, Step, step, ‵, raw, ◌⊛◌, some, given, later, mean, ◌$◌, ◌∵◌}
+use types.Kit.{!, qed}
 use types.Kit.{move, drop, split, split3, group, fsplit, fsplit3, fjoin, fpick, fpack, pick, learn}
 use types.Kit.{fjoin3, feq_i, flt_i, show, check, done, rewrite, updating, await, now, use1, use2}
 use contract.Running.{Running, MachineTables, tables}
@@ -35,6 +35,7 @@ use Rattle.arc_owners.specs.count.Invariant.{right_owns, right_shares, trace_own
 use Rattle.arc_owners.specs.contracts.count.word.OwnerToken as OwnerToken
 use Rattle.arc_owners.specs.contracts.count.word.PassState as PassState
 use Rattle.arc_owners.specs.contracts.count.word.EndTokens as EndTokens
+use Rattle.arc_owners.proofs.count.Signs.{signs}
 use Rattle.arc_owners.proofs.count.Operations.{Operation, with_entry, left_by, left}
 use Rattle.arc_owners.proofs.count.Moves.{Steps}
 use Rattle.arc_owners.proofs.count.Shared.{right_read}
@@ -198,21 +199,7 @@ module _ {M : Type 1} {𝓤 : Ura M} {𝓛 : Logic 𝓤} {K : Type 0} {Γ : List
 module _ {M : Type 1} {𝓤 : Ura M} (𝓛 : Logic 𝓤) (𝓜 : Model 𝓤 𝓛.H) (𝓡 : Running 𝓤 𝓛.H 𝓜) (k : Callee)
     (vs : List Val) where
   open 𝓛 use {H, A as At}
-
-  abbrev Pr : Type 2
-  Pr = SProp 𝓤
-
-  abbrev ◌⊢◌ : Pr → Pr → Type 1
-  P ⊢ Q = ent 𝓤 P Q
-
-  abbrev ◌∗◌ : Pr → Pr → Pr
-  P ∗ Q = sep 𝓤 P Q
-
-  abbrev ◌-∗◌ : Pr → Pr → Pr
-  P -∗ Q = wand 𝓤 P Q
-
-  abbrev ⟦◌⟧ : Fml → Pr
-  ⟦ P ⟧ = sem 𝓛 P
+  open signs 𝓛 use {Pr, ◌⊢◌, ◌∗◌, ◌-∗◌, ⟦◌⟧}
 
   infix 26 ◌⊢◌
   infixr 35 ◌∗◌

@@ -6,9 +6,9 @@ use seplogic.Ra.Ura.{Ura}
 use mir.Syntax.{ty_struct}
 use mir.Val.{Val}
 use base.Fraction.{full_share}
-use base.Logic.{SProp, ent, sep, upd_i, id⊢}
+use base.Logic.{upd_i, id⊢}
 use base.Fml.{Lft, Share, Fml, ftrue, fsep, fseps, fex, fwand, fupd, fdead, fbor, flft, fnamed}
-use types.Logic.{Logic, sem}
+use types.Logic.{Logic}
 use types.Owned.{named_past}
 use types.Kit.{mean, ‵, raw, ◌⊛◌, some, given, later, ◌$◌, ◌∵◌, !, qed, by, move, keep, drop, use1}
 use types.Kit.{use2, split, fsplit, fsplit3, fjoin, fpick, fpack, pick, learn, show, assume}
@@ -26,21 +26,11 @@ use Rattle.core.proofs.tally.Steps.{word_in, word_out}
 use Rattle.arc_owners.specs.count.Invariant.{BlockId, behind, lies, counting, word_borrow_as}
 use Rattle.arc_owners.specs.count.Invariant.{word_borrow_for}
 use Rattle.arc_owners.specs.contracts.count.word.Word as C
+use Rattle.arc_owners.proofs.count.Signs.{signs}
 
 module _ {M : Type 1} {𝓤 : Ura M} (𝓛 : Logic 𝓤) (t : BlockId) (b o : ℕ) where
   open 𝓛 use {H, A as At}
-
-  abbrev Pr : Type 2
-  Pr = SProp 𝓤
-
-  abbrev ◌⊢◌ : Pr → Pr → Type 1
-  P ⊢ Q = ent 𝓤 P Q
-
-  abbrev ◌∗◌ : Pr → Pr → Pr
-  P ∗ Q = sep 𝓤 P Q
-
-  abbrev ⟦◌⟧ : Fml → Pr
-  ⟦ P ⟧ = sem 𝓛 P
+  open signs 𝓛 use {Pr, ◌⊢◌, ◌∗◌, ⟦◌⟧}
 
   infix 26 ◌⊢◌
   infixr 35 ◌∗◌

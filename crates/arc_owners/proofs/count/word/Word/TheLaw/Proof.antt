@@ -3,7 +3,6 @@
 use Rattle.std.proofs.Common.{ℕ, ◌<◌, [], ◌∷◌}
 use seplogic.Ra.Ura.{Ura}
 use base.Fraction.{full_share}
-use base.Logic.{SProp, ent, sep}
 use base.Fml.{Lft, Share, Fml, ftrue, fex, fbor, flft, fnamed, Incl-refl}
 use base.Before.{before}
 use types.Logic.{Logic, sem}
@@ -15,24 +14,14 @@ use denote.Steps.{nothing}
 use denote.SharingLaws.{ends_shr_laws}
 use Rattle.core.proofs.cell.Borrows.{by_one}
 use Rattle.arc_owners.specs.count.Invariant.{BlockId, counting, lent, word_borrow_for}
+use Rattle.arc_owners.proofs.count.Signs.{signs}
 use Rattle.arc_owners.proofs.count.WordBorrows.{borrows_word}
 use Rattle.arc_owners.specs.contracts.count.word.Word as C
 use Rattle.arc_owners.proofs.count.word.Word.TheLaw.Statement.{statement}
 
 module _ {M : Type 1} {𝓤 : Ura M} (𝓛 : Logic 𝓤) (t : BlockId) (b o : ℕ) where
   open 𝓛 use {H, A as At}
-
-  abbrev Pr : Type 2
-  Pr = SProp 𝓤
-
-  abbrev ◌⊢◌ : Pr → Pr → Type 1
-  P ⊢ Q = ent 𝓤 P Q
-
-  abbrev ◌∗◌ : Pr → Pr → Pr
-  P ∗ Q = sep 𝓤 P Q
-
-  abbrev ⟦◌⟧ : Fml → Pr
-  ⟦ P ⟧ = sem 𝓛 P
+  open signs 𝓛 use {Pr, ◌⊢◌, ◌∗◌, ⟦◌⟧}
 
   infix 26 ◌⊢◌
   infixr 35 ◌∗◌
