@@ -6,8 +6,10 @@ pub mod Ends
 pub mod Fields
 pub mod Markers
 pub mod Moves
+pub mod OneCall
 pub mod Opened
 pub mod Operations
+pub mod Partings
 pub mod Parts
 pub mod Places
 pub mod Returns

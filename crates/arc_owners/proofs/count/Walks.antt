@@ -13,7 +13,7 @@ use prog.Model.{Model}
 use types.Logic.{Logic}
 use types.SemTy.{Body}
 use types.Kit.{Item, Goal, Soaks, Step, step, ‵, raw, ◌⊛◌, some, given, later, mean, ◌$◌, ◌∵◌}
-use types.Kit.{!, qed}
+use types.Kit.{ !, qed}
 use types.Kit.{move, drop, split, split3, group, fsplit, fsplit3, fjoin, fpick, fpack, pick, learn}
 use types.Kit.{fjoin3, feq_i, flt_i, show, check, done, rewrite, updating, await, now, use1, use2}
 use contract.Running.{Running, MachineTables, tables}

@@ -3,167 +3,54 @@
 use contract.BorrowLft.{◌⊑◌}
 use denote.Param.{param, layouts}
 use mir.MapTy.{inst_fn}
-use Rattle.std.proofs.Common.{ℕ, eqb, [], ◌∷◌, refl, lit<, w64}
-use mir.Syntax.{named, a_type}
-use mir.Val.{Val, vint, vptr}
-use base.Logic.{SProp, emp}
-use base.Share.{quarter}
-use base.Fml.{Fml, ftrue, fsep, flft}
-use types.Kit.{‵, raw, ◌⊛◌, later, mean, at_ret, ◌$◌, ◌∵◌, !, qed, by, move, keep, drop, split}
-use types.Kit.{group, fsplit, fsplit3, fjoin, fpick, await, use1}
+use Rattle.std.proofs.Common.{eqb, [], ◌∷◌, refl, lit<, w64}
+use mir.Syntax.{a_type}
+use mir.Val.{vint, vptr}
+use base.Logic.{emp, snd∗}
+use types.Kit.{raw, later, at_ret, ◌$◌, ◌∵◌, !, qed, done, await}
 use types.Run.{stop, addr, lit, of_opd, no_more, and_then, first, blocks, exec, Calls-last, returns}
 use types.Run.{enter}
 use types.ByLocal.{alloc_all, pass_all, free_all, look_at, get, through, sets, lands_last, env}
 use types.Part.{agg}
 use contract.Monad.{fact_i, fact}
 use contract.Running.{tables}
-use denote.Exit.{yes}
-use denote.RattleType.{owns, RattleType}
-use denote.Signature.{types_at, plain}
-use denote.Builtin.{RefOf}
-use denote.Ref.{mut_vals, mut_Tells, shr_vals, shr_Tells}
 use denote.RawPtr.{block_ptr}
-use denote.Opens.{unhide}
-use denote.Steps.{nothing, heard}
-use denote.Triple.Walked.{Stays, stay_dropped, stay_ref, walk_of, Goes-dropped, Goes-ref}
 use Rattle.core.proofs.atomic.Steps.{tail}
-use Rattle.std.proofs.raw_atomic.Walks.{proved}
-use Rattle.std.proofs.raw_atomic.Calls.{fm, found, finds, subs, seq_cst}
+use Rattle.std.proofs.raw_atomic.Calls.{fm, subs, seq_cst}
 use Rattle.arc_owners.proofs.count.Ends.{ends_when}
-use Rattle.logbook.proofs.Fields.{ends}
-use Rattle.arc_owners.specs.count.Invariant.{stake}
-use Rattle.arc_owners.specs.contracts.count.word.Word as Word
-use Rattle.arc_owners.specs.contracts.count.word.OwnerToken as OwnerToken
-use Rattle.arc_owners.specs.contracts.count.word.PassState as PassState
-use Rattle.arc_owners.specs.contracts.count.word.EndTokens as EndTokens
-use Rattle.arc_owners.proofs.count.Operations.{Operation, subtract, with_entry}
-use Rattle.arc_owners.proofs.count.Moves as moves
-use Rattle.arc_owners.proofs.count.Places as places
-use Rattle.arc_owners.proofs.count.Walks.{a_pass, no_pass, no_owner, an_end, pass_out, pass_in}
-use Rattle.arc_owners.proofs.count.Walks.{owner_out, ends_in, by_reference, answered, given_back}
+use Rattle.arc_owners.proofs.count.OneCall.{Ends_at, number_at, takes_number}
+use Rattle.arc_owners.proofs.count.Partings.{by_word, subtracting}
 use Rattle.arc_owners.specs.contracts.count.word.Word.subtract as f
 use Rattle.arc_owners.proofs.count.word.Word.subtract.Statement.{statement}
 use Rattle.arc_owners.proofs.count.word.Word.subtract.Code as code
 
 pub subtract_spec : {M : Type 1} → statement M
 subtract_spec 𝓤 𝓛 𝓜 𝓡 wired T L =
-    let H = 𝓛.H in let 𝓣 = tables 𝓤 H 𝓜 𝓡 𝓡.env in let R : RattleType = param 0 T in
-    let Own : RattleType = OwnerToken.the_row R in let En = f.ended T in
-    let c = f.clauses T 𝓛 𝓜.mem 𝓡.returns in
-    let inst = layouts (a_type ∷ []) (T, tt) in let fn = inst_fn inst code.function in
-    let hs : Stays En.signature.params En.kept = (
-      stay_dropped (RefOf (0 ∷ []) tt (plain (λ _. Word.the_row)) (λ _. tt)) yes,
-      (
-        stay_ref (1 ∷ []) tt (plain (λ _. Own)),
-        (
-          stay_ref (2 ∷ []) tt (plain (λ _. PassState.the_row)),
-          (stay_ref (3 ∷ []) tt (plain (λ _. EndTokens.the_row)), tt),
-        ),
-      ),
-    ) in
-    proved 𝓛 En hs c 𝓜 𝓡 (
-      Goes-dropped 𝓛 5 (RefOf (0 ∷ []) tt (plain (λ _. Word.the_row)) (λ _. tt))
-          yes (λ κs x w. refl),
-      (
-        Goes-ref 𝓛 5 1 tt (plain (λ _. Own)),
-        (
-          Goes-ref 𝓛 5 2 tt (plain (λ _. PassState.the_row)),
-          (Goes-ref 𝓛 5 3 tt (plain (λ _. EndTokens.the_row)), tt),
-        ),
-      ),
-    )
-    (f.Key.name inst) fn (code.unfolded 𝓤 H 𝓜 𝓡 wired (T, tt))
-    (λ κs. (shr_vals, (mut_vals, (mut_vals, (mut_vals, tt)))))
-    (λ κs. (
-      shr_Tells (named 0) κs.0 Word.the_row,
-      (
-        mut_Tells (named 1) κs.1.0 Own,
-        (
-          mut_Tells (named 2) κs.1.1.0 PassState.the_row,
-          (mut_Tells (named 3) κs.1.1.1.0 EndTokens.the_row, tt),
-        ),
-      ),
-    ))
-    (λ κs qs bounds a gh are.
-    let me = a.0.now in let own = a.1.0.now in let seen = a.1.1.0.now in let b = a.0.ref_ptr.0 in
-    let o = a.0.ref_ptr.1 in let b₁ = a.1.0.ref_ptr.0 in let o₁ = a.1.0.ref_ptr.1 in
-    let b₂ = a.1.1.0.ref_ptr.0 in let o₂ = a.1.1.0.ref_ptr.1 in let b₃ = a.1.1.1.0.ref_ptr.0 in
-    let o₃ = a.1.1.1.0.ref_ptr.1 in
-    let y : (walk_of 𝓛 En hs c).Ghost = (
-      (
-        κs,
-        qs,
-        bounds,
-        a,
-        (vptr b o ∷ [], (vptr b₁ o₁ ∷ [], (vptr b₂ o₂ ∷ [], (vptr b₃ o₃ ∷ [], tt)))),
-      ),
-      gh,
-    ) in
-    let Post : Val → SProp 𝓤 = (walk_of 𝓛 En hs c).post y in
-    let toks : Fml = fsep (flft κs.0 qs.0) (fsep (flft κs.1.0 qs.1.0)
-    (fsep (flft κs.1.1.0 qs.1.1.0) (fsep (flft κs.1.1.1.0 qs.1.1.1.0)
-    (fsep (flft κs.1.1.1.1.0 qs.1.1.1.1.0) ftrue)))) in
-    qed 𝓛 ((‵ toks ⊛ ‵ (owns (types_at En.signature.params κs) a y.0.4))
-    ∷ raw (fact 𝓤 (κs.1.1.1.1.0 ⊑ T.lives)) ∷ raw (fact 𝓤 _) ∷ []) ∵ move ! (2 ∷ []) $
-    heard ! _ (λ asked. keep ! (0 ∷ []) $ split ! $
-    fsplit ! $ move ! (1 ∷ []) $ fsplit ! $ move ! (1 ∷ []) $ fsplit ! $ move ! (1 ∷ []) $
-    fsplit ! $ move ! (5 ∷ []) $ fsplit ! $ fsplit ! $ move ! (2 ∷ []) $ fsplit ! $ fsplit3 ! $
-    move ! (3 ∷ []) $ fsplit ! $ fsplit3 ! $ move ! (3 ∷ []) $ fsplit ! $ fsplit3 ! $
-    keep ! (8 ∷ 9 ∷ 5 ∷ 6 ∷ 1 ∷ 2 ∷ 11 ∷ 12 ∷ 14 ∷ 15 ∷ 16 ∷ 13 ∷ []) $
-    -- [two parts of the owner, of the pass and of the end tokens; the word; the tokens, last first]
-    enter ! 𝓣.C 𝓣.Λ fn (vptr b o ∷ vptr b₁ o₁ ∷ vptr b₂ o₂ ∷ vptr b₃ o₃ ∷ []) Post $
-    alloc_all ! (λ l. pass_all ! refl ((tt, tt), ((tt, tt), ((tt, tt), ((tt, tt), tt)))) $
-    let Ev = env fn.locals l in
-    move ! (0 ∷ 1 ∷ 9 ∷ []) $ owner_out R ! tt b₁ o₁ me own (asked.0.0, asked.0.1) $
-    move ! (6 ∷ 7 ∷ 12 ∷ []) $ pass_out ! tt b₂ o₂ me seen asked.1 $ move ! (12 ∷ []) $ unhide ! $
-    -- [the word; the pass, its two parts and its token; what the owner knows, its right and its
-    -- stake; its two parts and its token; two parts of the end tokens; three tokens]
-    let op : Operation = subtract own.owner own.lease in
-    let out : ℕ → Fml = λ n. fsep (flft κs.0 qs.0)
-    (places.after 𝓛 me seen.number seen.ready seen.lines op n) in
-    first ! $ blocks ! $ sets ! (addr ! (through ! refl (stop !))) refl (tt, tt) $
-    sets ! (of_opd ! (get ! refl)) refl (tt, tt) $
-    move ! (0 ∷ 14 ∷ 1 ∷ 6 ∷ 7 ∷ []) $ group ! 5 $
-    use1 𝓛 (later (raw (𝓣.C _ (vptr b o ∷ vint w64 1 ∷ seq_cst ∷ []) (λ u. mean 𝓛 (found out u)))))
-    (by_reference 𝓛 𝓜 𝓡 _ (vptr b o ∷ vint w64 1 ∷ seq_cst ∷ [])
-    me seen.number seen.ready seen.lines own.owner own.lease κs.0 qs.0 b o quarter
-    (stake own.lease) op
-    (moves.subtracts 𝓛 me seen.number seen.ready seen.lines own.owner own.lease asked.0.2)
-    ((λ out. subs 𝓛 𝓜 𝓡 (code.calls-core::raw_atomic::fetch_sub 𝓡.env wired) (block_ptr b o) 1
-    (lit< tt) out))) $ await ! tt $
-    sets ! (agg ! (and_then ! (lit ! tt) (no_more !))) refl (tt, (record { fits = lit< tt }, tt)) $
-    Calls-last ! (fm 𝓛 𝓜 𝓡) (found out) (and_then ! (get ! refl)
-    (and_then ! (lit ! tt) (and_then ! (get ! refl) (no_more !))))
-    (λ u. finds ! out (λ n fits. lands_last ! refl (tt, record { fits = fits }) $
-    exec ! 𝓣.C 𝓣.Λ Ev (tail fn.body) (at_ret Ev Post) $
-    sets ! (of_opd ! (get ! refl)) refl (tt, record { fits = fits }) $
-    fsplit ! $ move ! (1 ∷ []) $ fpick ! (λ before. fsplit ! $
-    fpick ! (λ so. drop ! $ fsplit ! $ move ! (0 ∷ 1 ∷ 3 ∷ 4 ∷ 5 ∷ 6 ∷ 7 ∷ 8 ∷ 9 ∷ 10 ∷ 11 ∷ 12 ∷ 2
-    ∷ []) $
-    -- [the pass; what is gained; its two parts and its token; what the owner knows; its two parts
-    -- and its token; two parts of the end tokens; its token; two tokens]
-    let after : PassState.the_row.Denot = a_pass me seen.number seen.ready
-    (with_entry seen.number before (op.entry n before)) in
-    let left : EndTokens.the_row.Denot = an_end (eqb n 1) own.lease in
-    let gone : Own.Denot = no_owner R own in
-    move ! (0 ∷ 2 ∷ 3 ∷ 4 ∷ []) $ pass_in ! tt b₂ o₂ (no_pass seen) after $ move ! (4 ∷ []) $
-    drop ! $
-    -- [the pass; what the end leaves; the owner; the end tokens, each by its two parts and its
-    -- token]
-    move ! (3 ∷ 7 ∷ 8 ∷ 9 ∷ []) $ ends_in ! tt b₃ o₃ a.1.1.1.0.now left $
-    move ! (6 ∷ 7 ∷ 8 ∷ 0 ∷ 1 ∷ 2 ∷ []) $
-    answered ! n fits $ move ! (11 ∷ []) $ move ! (7 ∷ 0 ∷ []) $ fjoin ! $ move ! (9 ∷ 0 ∷ []) $
-    fjoin ! $ move ! (4 ∷ 0 ∷ []) $ fjoin ! $ move ! (8 ∷ 0 ∷ []) $ fjoin ! $
-    nothing ! $ move ! (5 ∷ 6 ∷ 0 ∷ []) $ given_back ! b₃ o₃ $ move ! (5 ∷ 6 ∷ 0 ∷ []) $
-    given_back ! b₂ o₂ $
-    move ! (3 ∷ 4 ∷ 0 ∷ []) $ given_back ! b₁ o₁ $ nothing ! $ fjoin ! $
-    returns ! (look_at ! 0 refl) $ free_all ! refl $ keep ! (1 ∷ 0 ∷ 2 ∷ []) $
-    by ! (ends 𝓛 En hs c y (vint w64 n) n (tt, (gone, (after, (left, tt))))
-    (tt, (tt, (tt, (tt, tt)))) (fact_i 𝓤 _ (emp 𝓤) (
+    let 𝓣 = tables 𝓤 𝓛.H 𝓜 𝓡 𝓡.env in let inst = layouts (a_type ∷ []) (T, tt) in
+    let fn = inst_fn inst code.function in let less = code.calls-core::raw_atomic::fetch_sub 𝓡.env wired in
+    by_word 𝓛 𝓜 𝓡 T (f.clauses T 𝓛 𝓜.mem 𝓡.returns) (subtracting 𝓛 (param 0 T))
+    (λ κs a g. snd∗ 𝓤 (fact 𝓤 (κs.1.1.1.1.0 ⊑ T.lives)) (fact 𝓤 _))
+    (λ κs a g n before so. fact_i 𝓤 _ (emp 𝓤) (
       (refl, refl, refl, refl),
-      ends_when me seen.number seen.lines own.owner n before (eqb n 1) refl
+      ends_when a.0.now a.1.1.0.now.number a.1.1.0.now.lines a.1.0.now.owner n before (eqb n 1) refl
           so,
       refl,
       refl,
       refl,
-    ))))))))))
+    ))
+    (f.Key.name inst) fn (code.unfolded 𝓤 𝓛.H 𝓜 𝓡 wired (T, tt)) _ (vint w64 1 ∷ seq_cst ∷ [])
+    (λ b o b₁ o₁ b₂ o₂ b₃ o₃ P.
+    qed 𝓛 (later (raw (Ends_at 𝓛 𝓜 𝓡 _ (vptr b o ∷ vint w64 1 ∷ seq_cst ∷ []) P)) ∷ []) ∵
+    enter ! 𝓣.C 𝓣.Λ fn (vptr b o ∷ vptr b₁ o₁ ∷ vptr b₂ o₂ ∷ vptr b₃ o₃ ∷ []) P $
+    alloc_all ! (λ l. pass_all ! refl ((tt, tt), ((tt, tt), ((tt, tt), ((tt, tt), tt)))) $
+    let Ev = env fn.locals l in
+    first ! $ blocks ! $ sets ! (addr ! (through ! refl (stop !))) refl (tt, tt) $
+    sets ! (of_opd ! (get ! refl)) refl (tt, tt) $ await ! tt $
+    sets ! (agg ! (and_then ! (lit ! tt) (no_more !))) refl (tt, (record { fits = lit< tt }, tt)) $
+    Calls-last ! (fm 𝓛 𝓜 𝓡) (number_at 𝓛 P)
+    (and_then ! (get ! refl) (and_then ! (lit ! tt) (and_then ! (get ! refl) (no_more !))))
+    (λ u. takes_number ! P (λ n fits. lands_last ! refl (tt, record { fits = fits }) $
+    exec ! 𝓣.C 𝓣.Λ Ev (tail fn.body) (at_ret Ev P) $
+    sets ! (of_opd ! (get ! refl)) refl (tt, record { fits = fits }) $
+    returns ! (look_at ! 0 refl) $ free_all ! refl $ done !))))
+    (λ t i l b o out. subs 𝓛 𝓜 𝓡 less (block_ptr b o) 1 (lit< tt) out)

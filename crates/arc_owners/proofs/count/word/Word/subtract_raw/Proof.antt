@@ -2,185 +2,54 @@
 use contract.BorrowLft.{◌⊑◌}
 use denote.Param.{param, layouts}
 use mir.MapTy.{inst_fn}
-use Rattle.std.proofs.Common.{ℕ, eqb, [], ◌∷◌, refl, lit<, w64}
-use mir.Syntax.{named, a_type}
-use mir.Val.{Val, vint, vptr}
-use base.Logic.{SProp, emp, via}
-use base.Fml.{Fml, ftrue, fsep, flft, fhide}
-use types.Kit.{‵, raw, ◌⊛◌, mean, at_ret, ◌$◌, ◌∵◌, !, qed, by, move, keep, drop, split, group}
-use types.Kit.{fsplit, fsplit3, fjoin, fpick, use1, rewrite}
-use types.Run.{lit, of_opd, no_more, and_then, first, blocks, exec, Calls-last, returns, enter}
+use Rattle.std.proofs.Common.{eqb, [], ◌∷◌, refl, lit<, w64}
+use mir.Syntax.{a_type}
+use mir.Val.{vint, vptr}
+use base.Logic.{emp, snd∗}
+use types.Kit.{raw, later, at_ret, ◌$◌, ◌∵◌, !, qed, done, await}
+use types.Run.{lit, of_opd, no_more, and_then, first, blocks, exec, Calls-last, returns}
+use types.Run.{enter}
 use types.ByLocal.{alloc_all, pass_all, free_all, look_at, get, sets, lands_last, env}
 use types.Part.{agg}
 use contract.Monad.{fact_i, fact}
 use contract.Running.{tables}
-use denote.Exit.{yes}
-use denote.RattleType.{owns, RattleType}
-use denote.Signature.{types_at, plain}
-use denote.Builtin.{RefOf, unit}
-use denote.Ref.{mut_vals, mut_Tells, shr_vals, shr_Tells}
-use denote.RawPtr.{Ptr, RawPtr, ptr_val, rawptr_vals, rawptr_Tells}
-use denote.Memory.{hidden_shr}
-use denote.Struct.Lending.{lent_out}
-use denote.Opens.{unhide}
-use denote.Steps.{nothing, heard}
-use denote.Triple.Walked.{Stays, stay_dropped, stay_ref, walk_of, Goes-dropped, Goes-ref}
+use denote.RawPtr.{ptr_val}
 use Rattle.core.proofs.atomic.Steps.{tail, Ptr-Good}
-use Rattle.std.proofs.raw_atomic.Walks.{proved}
-use Rattle.std.proofs.raw_atomic.Calls.{fm, found, finds, subs, seq_cst}
+use Rattle.std.proofs.raw_atomic.Calls.{fm, subs, seq_cst}
 use Rattle.arc_owners.proofs.count.Ends.{ends_when}
-use Rattle.logbook.proofs.Fields.{Token, ends}
-use Rattle.core.specs.contracts.marker.PhantomData as marker
-use Rattle.arc_owners.specs.count.Invariant.{word_borrow}
-use Rattle.arc_owners.specs.contracts.count.word.WordBorrow as WordBorrow
-use Rattle.arc_owners.specs.contracts.count.word.OwnerToken as OwnerToken
-use Rattle.arc_owners.specs.contracts.count.word.PassState as PassState
-use Rattle.arc_owners.specs.contracts.count.word.EndTokens as EndTokens
-use Rattle.arc_owners.proofs.count.Operations.{Operation, subtract, with_entry}
-use Rattle.arc_owners.proofs.count.Moves as moves
-use Rattle.arc_owners.proofs.count.Places as places
-use Rattle.arc_owners.proofs.count.Stakes as stakes
-use Rattle.arc_owners.proofs.count.Walks.{a_pass, no_pass, no_owner, an_end, pass_out, pass_in}
-use Rattle.arc_owners.proofs.count.Walks.{owner_out, ends_in, answered, given_back}
+use Rattle.arc_owners.proofs.count.OneCall.{Ends_at, number_at, takes_number}
+use Rattle.arc_owners.proofs.count.Partings.{by_place, subtracting}
 use Rattle.arc_owners.specs.contracts.count.word.Word.subtract_raw as f
 use Rattle.arc_owners.proofs.count.word.Word.subtract_raw.Statement.{statement}
 use Rattle.arc_owners.proofs.count.word.Word.subtract_raw.Code as code
 
 pub subtract_raw_spec : {M : Type 1} → statement M
 subtract_raw_spec 𝓤 𝓛 𝓜 𝓡 wired T L =
-    let H = 𝓛.H in let 𝓣 = tables 𝓤 H 𝓜 𝓡 𝓡.env in let R : RattleType = param 0 T in
-    let Own : RattleType = OwnerToken.the_row R in let En = f.ended T in
-    let c = f.clauses T 𝓛 𝓜.mem 𝓡.returns in
-    let inst = layouts (a_type ∷ []) (T, tt) in let fn = inst_fn inst code.function in
-    let hs : Stays En.signature.params En.kept = (
-      stay_dropped (plain (λ _. RawPtr)) yes,
-      (
-        stay_dropped (RefOf (0 ∷ []) tt (plain (λ _. WordBorrow.the_row)) (λ _. tt)) yes,
-        (
-          stay_ref (1 ∷ []) tt (plain (λ _. Own)),
-          (
-            stay_ref (2 ∷ []) tt (plain (λ _. PassState.the_row)),
-            (stay_ref (3 ∷ []) tt (plain (λ _. EndTokens.the_row)), tt),
-          ),
-        ),
-      ),
-    ) in
-    proved 𝓛 En hs c 𝓜 𝓡 (
-      Goes-dropped 𝓛 5 (plain (λ _. RawPtr)) yes (λ κs x w. refl),
-      (
-        Goes-dropped 𝓛 5 (RefOf (0 ∷ []) tt (plain (λ _. WordBorrow.the_row)) (λ _. tt)) yes
-            (λ κs x w. refl),
-        (
-          Goes-ref 𝓛 5 1 tt (plain (λ _. Own)),
-          (
-            Goes-ref 𝓛 5 2 tt (plain (λ _. PassState.the_row)),
-            (Goes-ref 𝓛 5 3 tt (plain (λ _. EndTokens.the_row)), tt),
-          ),
-        ),
-      ),
-    )
-    (f.Key.name inst) fn (code.unfolded 𝓤 H 𝓜 𝓡 wired (T, tt))
-    (λ κs. (rawptr_vals, (shr_vals, (mut_vals, (mut_vals, (mut_vals, tt))))))
-    (λ κs. (
-      rawptr_Tells,
-      (
-        shr_Tells (named 0) κs.0 WordBorrow.the_row,
-        (
-          mut_Tells (named 1) κs.1.0 Own,
-          (
-            mut_Tells (named 2) κs.1.1.0 PassState.the_row,
-            (mut_Tells (named 3) κs.1.1.1.0 EndTokens.the_row, tt),
-          ),
-        ),
-      ),
-    ))
-    (λ κs qs bounds a gh are.
-    let place : Ptr = a.0 in let g = a.1.0.now in let me = g.block in let own = a.1.1.0.now in
-    let seen = a.1.1.1.0.now in let b = a.1.0.ref_ptr.0 in let o = a.1.0.ref_ptr.1 in
-    let b₁ = a.1.1.0.ref_ptr.0 in let o₁ = a.1.1.0.ref_ptr.1 in let b₂ = a.1.1.1.0.ref_ptr.0 in
-    let o₂ = a.1.1.1.0.ref_ptr.1 in let b₃ = a.1.1.1.1.0.ref_ptr.0 in
-    let o₃ = a.1.1.1.1.0.ref_ptr.1 in
-    let y : (walk_of 𝓛 En hs c).Ghost = (
-      (
-        κs,
-        qs,
-        bounds,
-        a,
-        (
-          rawptr_vals place,
-          (vptr b o ∷ [], (vptr b₁ o₁ ∷ [], (vptr b₂ o₂ ∷ [], (vptr b₃ o₃ ∷ [], tt)))),
-        ),
-      ),
-      gh,
-    ) in
-    let Post : Val → SProp 𝓤 = (walk_of 𝓛 En hs c).post y in
-    let toks : Fml = fsep (flft κs.0 qs.0) (fsep (flft κs.1.0 qs.1.0)
-    (fsep (flft κs.1.1.0 qs.1.1.0) (fsep (flft κs.1.1.1.0 qs.1.1.1.0)
-    (fsep (flft κs.1.1.1.1.0 qs.1.1.1.1.0) ftrue)))) in
-    qed 𝓛 ((‵ toks ⊛ ‵ (owns (types_at En.signature.params κs) a y.0.4))
-    ∷ raw (fact 𝓤 (κs.1.1.1.1.0 ⊑ T.lives)) ∷ raw (fact 𝓤 _) ∷ []) ∵ move ! (2 ∷ []) $
-    heard ! _ (λ asked. keep ! (0 ∷ []) $ split ! $
-    fsplit ! $ move ! (1 ∷ []) $ fsplit ! $ move ! (1 ∷ []) $ fsplit ! $ move ! (1 ∷ []) $
-    fsplit ! $ move ! (5 ∷ []) $ fsplit ! $ drop ! $ fsplit ! $ fsplit ! $ move ! (2 ∷ []) $
-    fsplit ! $ fsplit3 ! $ move ! (3 ∷ []) $ fsplit ! $ fsplit3 ! $ move ! (3 ∷ []) $ fsplit ! $
-    fsplit3 ! $
-    keep ! (11 ∷ 8 ∷ 9 ∷ 5 ∷ 6 ∷ 1 ∷ 2 ∷ 12 ∷ 14 ∷ 15 ∷ 16 ∷ 13 ∷ []) $
-    -- [what says where the word lies; two parts of the owner, of the pass and of the end tokens;
-    -- the tokens, last first]
-    enter ! 𝓣.C 𝓣.Λ fn (ptr_val place ∷ vptr b o ∷ vptr b₁ o₁ ∷ vptr b₂ o₂ ∷ vptr b₃ o₃ ∷ []) Post $
-    alloc_all ! (λ l. pass_all ! refl
-    (Ptr-Good place, ((tt, tt), ((tt, tt), ((tt, tt), ((tt, tt), tt))))) $
-    let Ev = env fn.locals l in
-    use1 𝓛 (‵ (hidden_shr (Token unit) κs.0 (record {}, tt) b o)
-    ⊛ ‵ (fhide (word_borrow me g.at g.lifetime)))
-    (lent_out 𝓛 WordBorrow.struct (WordBorrow.the_codes
-    (marker.the_row unit).coded) WordBorrow.the_heap WordBorrow.the_lent κs.0 g b o) $ split ! $
-    drop ! $ unhide ! $
-    rewrite ! 0 (λ (k : Ptr × ℕ). ‵ (word_borrow me k.0 k.1))
-    (λ i. (asked.2.0 i, asked.2.1 i)) refl $
-    move ! (1 ∷ 2 ∷ 9 ∷ []) $ owner_out R ! tt b₁ o₁ me own (asked.0.0, asked.0.1) $
-    move ! (7 ∷ 8 ∷ 12 ∷ []) $ pass_out ! tt b₂ o₂ me seen asked.1 $
-    -- [the pass, its two parts and its token; what the owner knows, its right and its stake; its
-    -- two parts and its token; where the word lies; two parts of the end tokens; three tokens]
-    let op : Operation = subtract own.owner own.lease in
-    let out : ℕ → Fml = λ n. places.after 𝓛 me seen.number seen.ready seen.lines op n in
-    first ! $ blocks ! $ move ! (10 ∷ 0 ∷ 5 ∷ 6 ∷ []) $ group ! 4 $
-    use1 𝓛 (raw (𝓣.C _ (ptr_val place ∷ vint w64 1 ∷ seq_cst ∷ []) (λ u. mean 𝓛 (found out u))))
-    (via 𝓤 _ (stakes.by_place 𝓛 me seen.number seen.ready seen.lines own.owner own.lease asked.0.2
-    op
-    (moves.subtracts 𝓛 me seen.number seen.ready seen.lines own.owner own.lease asked.0.2) place)
-    (subs 𝓛 𝓜 𝓡 (code.calls-core::raw_atomic::fetch_sub 𝓡.env wired) place 1 (lit< tt) out)) $
-    sets ! (agg ! (and_then ! (lit ! tt) (no_more !))) refl (tt, (record { fits = lit< tt }, tt)) $
-    Calls-last ! (fm 𝓛 𝓜 𝓡) (found out) (and_then ! (get ! refl)
-    (and_then ! (lit ! tt) (and_then ! (get ! refl) (no_more !))))
-    (λ u. finds ! out (λ n fits. lands_last ! refl (tt, record { fits = fits }) $
-    exec ! 𝓣.C 𝓣.Λ Ev (tail fn.body) (at_ret Ev Post) $
-    sets ! (of_opd ! (get ! refl)) refl (tt, record { fits = fits }) $
-    fpick ! (λ before. fsplit ! $ fpick ! (λ so. drop ! $ fsplit ! $
-    -- [the pass; what is gained; its two parts and its token; what the owner knows; its two parts
-    -- and its token; two parts of the end tokens; three tokens]
-    let after : PassState.the_row.Denot = a_pass me seen.number seen.ready
-    (with_entry seen.number before (op.entry n before)) in
-    let left : EndTokens.the_row.Denot = an_end (eqb n 1) own.lease in
-    let gone : Own.Denot = no_owner R own in
-    move ! (0 ∷ 2 ∷ 3 ∷ 4 ∷ []) $ pass_in ! tt b₂ o₂ (no_pass seen) after $ move ! (4 ∷ []) $
-    drop ! $
-    -- [the pass; what the end leaves; the owner; the end tokens, each by its two parts and its
-    -- token]
-    move ! (3 ∷ 7 ∷ 8 ∷ 9 ∷ []) $ ends_in ! tt b₃ o₃ a.1.1.1.1.0.now left $
-    move ! (6 ∷ 7 ∷ 8 ∷ 0 ∷ 1 ∷ 2 ∷ []) $
-    answered ! n fits $ move ! (11 ∷ []) $ move ! (7 ∷ 0 ∷ []) $ fjoin ! $ move ! (9 ∷ 0 ∷ []) $
-    fjoin ! $ move ! (4 ∷ 0 ∷ []) $ fjoin ! $ move ! (8 ∷ 0 ∷ []) $ fjoin ! $
-    nothing ! $ move ! (5 ∷ 6 ∷ 0 ∷ []) $ given_back ! b₃ o₃ $ move ! (5 ∷ 6 ∷ 0 ∷ []) $
-    given_back ! b₂ o₂ $
-    move ! (3 ∷ 4 ∷ 0 ∷ []) $ given_back ! b₁ o₁ $ nothing ! $ fjoin ! $ nothing ! $ fjoin ! $
-    returns ! (look_at ! 0 refl) $ free_all ! refl $ keep ! (1 ∷ 0 ∷ 2 ∷ []) $
-    by ! (ends 𝓛 En hs c y (vint w64 n) n (tt, (tt, (gone, (after, (left, tt)))))
-    (tt, (tt, (tt, (tt, (tt, tt))))) (fact_i 𝓤 _ (emp 𝓤) (
+    let 𝓣 = tables 𝓤 𝓛.H 𝓜 𝓡 𝓡.env in let inst = layouts (a_type ∷ []) (T, tt) in
+    let fn = inst_fn inst code.function in let less = code.calls-core::raw_atomic::fetch_sub 𝓡.env wired in
+    by_place 𝓛 𝓜 𝓡 T (f.clauses T 𝓛 𝓜.mem 𝓡.returns) (subtracting 𝓛 (param 0 T))
+    (λ κs a g. snd∗ 𝓤 (fact 𝓤 (κs.1.1.1.1.0 ⊑ T.lives)) (fact 𝓤 _))
+    (λ κs a g n before so. fact_i 𝓤 _ (emp 𝓤) (
       (refl, refl, refl, refl),
-      ends_when me seen.number seen.lines own.owner n before (eqb n 1) refl
+      ends_when a.1.0.now.block a.1.1.1.0.now.number a.1.1.1.0.now.lines a.1.1.0.now.owner n before (eqb n 1) refl
           so,
       refl,
       refl,
       refl,
-    ))))))))))
+    ))
+    (f.Key.name inst) fn (code.unfolded 𝓤 𝓛.H 𝓜 𝓡 wired (T, tt)) _ (vint w64 1 ∷ seq_cst ∷ [])
+    (λ place b o b₁ o₁ b₂ o₂ b₃ o₃ P.
+    qed 𝓛 (later (raw (Ends_at 𝓛 𝓜 𝓡 _ (ptr_val place ∷ vint w64 1 ∷ seq_cst ∷ []) P)) ∷ []) ∵
+    enter ! 𝓣.C 𝓣.Λ fn (ptr_val place ∷ vptr b o ∷ vptr b₁ o₁ ∷ vptr b₂ o₂ ∷ vptr b₃ o₃ ∷ []) P $
+    alloc_all ! (λ l. pass_all ! refl
+    (Ptr-Good place, ((tt, tt), ((tt, tt), ((tt, tt), ((tt, tt), tt))))) $
+    let Ev = env fn.locals l in
+    first ! $ blocks ! $ await ! tt $
+    sets ! (agg ! (and_then ! (lit ! tt) (no_more !))) refl (tt, (record { fits = lit< tt }, tt)) $
+    Calls-last ! (fm 𝓛 𝓜 𝓡) (number_at 𝓛 P)
+    (and_then ! (get ! refl) (and_then ! (lit ! tt) (and_then ! (get ! refl) (no_more !))))
+    (λ u. takes_number ! P (λ n fits. lands_last ! refl (tt, record { fits = fits }) $
+    exec ! 𝓣.C 𝓣.Λ Ev (tail fn.body) (at_ret Ev P) $
+    sets ! (of_opd ! (get ! refl)) refl (tt, record { fits = fits }) $
+    returns ! (look_at ! 0 refl) $ free_all ! refl $ done !))))
+    (λ t i l place out. subs 𝓛 𝓜 𝓡 less place 1 (lit< tt) out)
