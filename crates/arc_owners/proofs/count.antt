@@ -12,6 +12,7 @@ pub mod Operations
 pub mod Partings
 pub mod Parts
 pub mod Places
+pub mod Readings
 pub mod Returns
 pub mod Rolls
 pub mod Shared
