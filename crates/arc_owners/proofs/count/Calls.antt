@@ -291,19 +291,22 @@ not_raised t p m r by new false false k k' was looked raised e e' =
     same_pass t m r (looked.0.0, looked.0.1) raised.0 raised.1.0.0 e'
     ∙ same_pass t p m was looked.0 looked.1 e
 
--- The same of an owner of this block, by what the call answers.
-module _ {H : Type 0} (o : Owner) (t : BlockId) (of : o.block ≡ t) (p r : Pass H)
-    (found said : Bool)
-    (answer : said ≡ found) (same : SamePass t p.trace r.trace) where
-  same-here : SamePass o.block p.trace r.trace
-  same-here = subst (λ b. SamePass b p.trace r.trace) (sym of) same
+-- The same of an owner of this block, by what the call answers and what it leaves of the pass.
+module _ {H : Type 0} (o : Owner) {t : BlockId} (of : o.block ≡ t) (p : Pass H) (left : PassState)
+    {found said : Bool}
+    (answer : said ≡ found) (same : SamePass t p.trace left) where
+  abbrev r : Pass H
+  r = record { trace = left; mark = p.mark }
 
-  pub asks_at : Wrote t p.trace r.trace (Alone o.number found) → Asks o p r said
+  same-here : SamePass o.block p.trace left
+  same-here = subst (λ b. SamePass b p.trace left) (sym of) same
+
+  pub asks_at : Wrote t p.trace left (Alone o.number found) → Asks o p r said
   asks_at wrote =
       subst (λ b. Asks o p r b) (sym answer) (asks_of o p r found same-here
-      (subst (λ b. Wrote b p.trace r.trace (Alone o.number found)) (sym of) wrote))
+      (subst (λ b. Wrote b p.trace left (Alone o.number found)) (sym of) wrote))
 
-  pub leaves_at : Ends t p.trace r.trace o.number found → Leaves o p r said
+  pub leaves_at : Ends t p.trace left o.number found → Leaves o p r said
   leaves_at ends =
       subst (λ b. Leaves o p r b) (sym answer) (leaves_of o p r found same-here
-      (subst (λ b. Ends b p.trace r.trace o.number found) (sym of) ends))
+      (subst (λ b. Ends b p.trace left o.number found) (sym of) ends))

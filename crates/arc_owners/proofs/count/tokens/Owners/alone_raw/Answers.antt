@@ -1,15 +1,11 @@
 -- What the step of the word leaves.
-use Rattle.arc_owners.specs.declared.count.tokens.Pass.{Pass}
-use Rattle.std.proofs.Common.{◌==◌, refl, sym, ◌∙◌}
+use Rattle.std.proofs.Common.{refl, sym, ◌∙◌}
 use Rattle.arc_owners.specs.count.Calls.{owner_of}
 use Rattle.arc_owners.proofs.count.Calls.{asks_at}
 use Rattle.arc_owners.proofs.count.tokens.Owners.alone_raw.Goals as goal
 
 pub returns : goal.returns
-returns g c =
-    let new : Pass g.row.H.Denot =
-    record { trace = c.load.new.pass; mark = c.args.pass.now.mark } in record {
-      entry = asks_at (owner_of c.args.by.now) c.word-word.result.now
-          (c.requires.share ∙ sym c.word-word.ensures) c.args.pass.now new (c.load.result == 1) _
-          refl c.load.ensures.0 c.load.ensures.1;
-    }
+returns g c = record {
+  entry = asks_at (owner_of c.args.by.now) (c.requires.share ∙ sym c.word-word.ensures)
+      c.args.pass.now c.load.new.pass refl c.load.ensures.0 c.load.ensures.1;
+}

@@ -1,5 +1,3 @@
-use Rattle.arc_owners.specs.declared.count.tokens.Pass.{Pass}
-use Rattle.std.proofs.Common.{◌==◌}
 use Rattle.arc_owners.specs.count.Calls.{owner_of}
 use Rattle.arc_owners.proofs.count.Calls.{asks_at, wrote_step}
 use Rattle.arc_owners.proofs.count.tokens.Owners.claim_as.Goals as goal
@@ -11,8 +9,6 @@ returns-clause-step g c = wrote_step c.args.self.now.word c.args.pass.now
 
 pub returns-clause-entry : goal.returns-clause-entry
 returns-clause-entry g c =
-    let new : Pass g.row.H.Denot =
-    record { trace = c.claim-found.new.pass; mark = c.args.pass.now.mark } in
     let did = c.claim-found.ensures in
-    asks_at (owner_of c.args.share) c.args.self.now.word c.requires.share c.args.pass.now new
-    (c.claim-found.result == 1) _ c.claimed.ensures.found did.0 did.1
+    asks_at (owner_of c.args.share) c.requires.share c.args.pass.now c.claim-found.new.pass
+    c.claimed.ensures.found did.0 did.1

@@ -1,5 +1,3 @@
-use Rattle.arc_owners.specs.declared.count.tokens.Pass.{Pass}
-use Rattle.std.proofs.Common.{◌==◌}
 use Rattle.arc_owners.specs.count.Calls.{owner_of}
 use Rattle.arc_owners.proofs.count.Calls.{leaves_at, ended_step}
 use Rattle.arc_owners.proofs.count.tokens.Owners.down_as.Goals as goal
@@ -11,8 +9,6 @@ returns-clause-step g c = ended_step c.args.self.now.word c.args.pass.now
 
 pub returns-clause-entry : goal.returns-clause-entry
 returns-clause-entry g c =
-    let new : Pass g.row.H.Denot =
-    record { trace = c.subtract-found.new.pass; mark = c.args.pass.now.mark } in
     let did = c.subtract-found.ensures in
-    leaves_at (owner_of c.args.share) c.args.self.now.word c.requires.share c.args.pass.now new
-    (c.subtract-found.result == 1) _ c.released.ensures.last did.0 did.1
+    leaves_at (owner_of c.args.share) c.requires.share c.args.pass.now c.subtract-found.new.pass
+    c.released.ensures.last did.0 did.1
