@@ -1,3 +1,4 @@
+pub mod AtType
 pub mod Begins
 pub mod Blocks
 pub mod Calls

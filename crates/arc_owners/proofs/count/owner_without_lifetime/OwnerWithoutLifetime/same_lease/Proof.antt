@@ -1,15 +1,14 @@
 -- `same_lease` opens the invariant, in which two owners of one block have one lease, also of an
 -- owner whose share is elsewhere.
 use contract.BorrowLft.{◌⊑◌}
-use denote.Param.{param, layouts}
-use mir.MapTy.{inst_fn}
-use Rattle.std.proofs.Common.{◌≡◌, Bool, List, [], ◌∷◌, refl}
-use mir.Syntax.{named, a_type}
+use denote.Param.{param}
+use Rattle.std.proofs.Common.{◌≡◌, List, [], ◌∷◌, refl}
+use mir.Syntax.{named}
 use mir.Val.{Val, vunit, vptr}
 use base.Logic.{SProp, emp}
 use base.Fml.{Fml, ftrue, fsep, flft, fhide}
 use types.Kit.{‵, raw, ◌⊛◌, given, later, ◌$◌, ◌∵◌, !, qed, by, move, keep, drop, split}
-use types.Kit.{fsplit, fjoin, join, learn, use1, use3, await, rewrite, feq_i}
+use types.Kit.{fsplit, fjoin, join, learn, use1, use3, await, feq_i}
 use types.Run.{unit_lit, of_opd, returns, enter}
 use types.ByLocal.{alloc_all, pass_all, free_all, look_at, sets}
 use contract.Monad.{fact_i, fact}
@@ -27,22 +26,22 @@ use denote.Triple.Walked.{Stays, stay_dropped, walk_of, Goes-dropped}
 use Rattle.core.specs.contracts.marker.PhantomData as marker
 use Rattle.std.proofs.raw_atomic.Walks.{proved}
 use Rattle.logbook.proofs.Fields.{Token, ends}
-use Rattle.arc_owners.specs.count.Invariant.{right_shown, right_shares}
-use Rattle.arc_owners.specs.contracts.count.word.OwnerToken as OwnerToken
+use Rattle.arc_owners.specs.count.Invariant.{right_shown}
 use Rattle.arc_owners.specs.contracts.count.owner_without_lifetime.OwnerWithoutLifetime as OwnerWithoutLifetime
+use Rattle.arc_owners.proofs.count.AtType.{layouts_at, code_at, Right}
 use Rattle.arc_owners.proofs.count.Begins as begins
 use Rattle.arc_owners.proofs.count.Shared.{shares_shown}
+use Rattle.arc_owners.proofs.count.Walks.{owner_shown}
 use Rattle.arc_owners.specs.contracts.count.owner_without_lifetime.OwnerWithoutLifetime.same_lease as f
 use Rattle.arc_owners.proofs.count.owner_without_lifetime.OwnerWithoutLifetime.same_lease.Statement.{statement}
 use Rattle.arc_owners.proofs.count.owner_without_lifetime.OwnerWithoutLifetime.same_lease.Code as code
 
 pub same_lease_spec : {M : Type 1} → statement M
 same_lease_spec 𝓤 𝓛 𝓜 𝓡 wired T L =
-    let H = 𝓛.H in let 𝓣 = tables 𝓤 H 𝓜 𝓡 𝓡.env in let R : RattleType = param 0 T in
-    let Own : RattleType = OwnerToken.the_row R in
-    let Rest : RattleType = OwnerWithoutLifetime.the_row R in
+    let 𝓣 = tables 𝓤 𝓛.H 𝓜 𝓡 𝓡.env in let R : RattleType = param 0 T in
+    let Own : RattleType = Right T in let Rest : RattleType = OwnerWithoutLifetime.the_row R in
     let En = f.ended T in let c = f.clauses T 𝓛 𝓜.mem 𝓡.returns in
-    let inst = layouts (a_type ∷ []) (T, tt) in let fn = inst_fn inst code.function in
+    let fn = code_at T code.function in
     let hs : Stays En.signature.params En.kept = (
       stay_dropped (RefOf (0 ∷ []) tt (plain (λ _. Rest)) (λ _. tt)) yes,
       (stay_dropped (RefOf (1 ∷ []) tt (plain (λ _. Own)) (λ _. tt)) yes, tt),
@@ -54,7 +53,7 @@ same_lease_spec 𝓤 𝓛 𝓜 𝓡 wired T L =
         tt,
       ),
     )
-    (f.Key.name inst) fn (code.unfolded 𝓤 H 𝓜 𝓡 wired (T, tt))
+    (f.Key.name (layouts_at T)) fn (code.unfolded 𝓤 𝓛.H 𝓜 𝓡 wired (T, tt))
     (λ κs. (shr_vals, (shr_vals, tt)))
     (λ κs. (shr_Tells (named 0) κs.0 Rest, (shr_Tells (named 1) κs.1.0 Own, tt)))
     (λ κs qs bounds a gh are.
@@ -74,14 +73,7 @@ same_lease_spec 𝓤 𝓛 𝓜 𝓡 wired T L =
     -- [the other owner; the owner; the tokens, of the other first]
     enter ! 𝓣.C 𝓣.Λ fn (vptr b₁ o₁ ∷ vptr b₂ o₂ ∷ []) Post $
     alloc_all ! (λ l. pass_all ! refl ((tt, tt), ((tt, tt), tt)) $
-    use1 𝓛 (‵ (hidden_shr (Token R) κs.1.0 (other.marker, tt) b₂ o₂)
-    ⊛ ‵ (fhide (right_shares other.held other.block other.owner other.lease other.born κs.1.0)))
-    (lent_out 𝓛 (OwnerToken.struct R)
-    (OwnerToken.the_codes R.Denot R.coded (marker.the_row R).coded)
-    (OwnerToken.the_heap R) (OwnerToken.the_lent R) κs.1.0 other b₂ o₂) $
-    split ! $ drop ! $ unhide ! $
-    rewrite ! 0 (λ (k : Bool). ‵ (right_shares k other.block other.owner other.lease other.born
-    κs.1.0)) asked refl $
+    owner_shown R ! b₂ o₂ other.block other (asked, refl) $
     use1 𝓛 (‵ (right_shown other.block other.owner other.lease other.born κs.1.0))
     (shares_shown 𝓛 other.block other.owner other.lease other.born κs.1.0) $ move ! (1 ∷ []) $
     -- [the owner; the other owner; the tokens]

@@ -1,9 +1,7 @@
 -- `with_lifetime` puts an owner's share of the lifetime back into its right.
 use Rattle.std.proofs.Common.{◌≡◌, ℕ, Bool, true, List, [], ◌∷◌, ◌++◌, refl, sym, subst}
 use contract.BorrowLft.{◌⊑◌}
-use denote.Param.{param, layouts}
-use mir.MapTy.{inst_fn}
-use mir.Syntax.{a_type}
+use denote.Param.{param}
 use mir.Val.{Val}
 use base.Logic.{SProp, ent, emp, id⊢}
 use base.Fml.{Share, ftrue, fsep, flft}
@@ -26,9 +24,9 @@ use Rattle.core.proofs.alloc.Calls.{Goes-blank}
 use Rattle.std.proofs.raw_atomic.Walks.{proved_at}
 use Rattle.logbook.proofs.Fields.{token, token_told, ends}
 use Rattle.arc_owners.specs.count.Invariant.{staked}
+use Rattle.arc_owners.proofs.count.AtType.{layouts_at, code_at, Right}
 use Rattle.arc_owners.proofs.count.Markers.{marked}
 use Rattle.arc_owners.specs.contracts.lifetime.LifetimeToken as LifetimeToken
-use Rattle.arc_owners.specs.contracts.count.word.OwnerToken as OwnerToken
 use Rattle.arc_owners.specs.contracts.count.owner_without_lifetime.OwnerWithoutLifetime as OwnerWithoutLifetime
 use Rattle.arc_owners.specs.contracts.count.owner_without_lifetime.OwnerWithoutLifetime.with_lifetime as f
 use Rattle.arc_owners.proofs.count.owner_without_lifetime.OwnerWithoutLifetime.with_lifetime.Statement.{statement}
@@ -36,24 +34,22 @@ use Rattle.arc_owners.proofs.count.owner_without_lifetime.OwnerWithoutLifetime.w
 
 pub with_lifetime_spec : {M : Type 1} → statement M
 with_lifetime_spec 𝓤 𝓛 𝓜 𝓡 wired T L =
-    let H = 𝓛.H in let 𝓣 = tables 𝓤 H 𝓜 𝓡 𝓡.env in let R : RattleType = param 0 T in
-    let Own : RattleType = OwnerToken.the_row R in
+    let 𝓣 = tables 𝓤 𝓛.H 𝓜 𝓡 𝓡.env in let R : RattleType = param 0 T in
     let Rest : RattleType = OwnerWithoutLifetime.the_row R in
-    let Tok : RattleType = LifetimeToken.the_row in
-    let En = f.ended T in let c = f.clauses T 𝓛 𝓜.mem 𝓡.returns in
-    let inst = layouts (a_type ∷ []) (T, tt) in let fn = inst_fn inst code.function in
+    let Tok : RattleType = LifetimeToken.the_row in let En = f.ended T in
+    let c = f.clauses T 𝓛 𝓜.mem 𝓡.returns in let fn = code_at T code.function in
     let hs : Stays En.signature.params En.kept =
     (stay_dropped (plain (λ _. Rest)) no, (stay_dropped (plain (λ _. Tok)) yes, tt)) in
     proved_at 𝓛 En hs c 𝓜 𝓡 (
       Goes-blank 𝓛 1 (plain (λ _. Rest)) no (λ κs x w. tt),
       (Goes-blank 𝓛 1 (plain (λ _. Tok)) yes (λ κs x w. tt), tt),
-    ) (f.Key.name inst) fn
-    (code.unfolded 𝓤 H 𝓜 𝓡 wired (T, tt)) (λ y are.
+    ) (f.Key.name (layouts_at T)) fn
+    (code.unfolded 𝓤 𝓛.H 𝓜 𝓡 wired (T, tt)) (λ y are.
     let κs = y.0.0 in let qs = y.0.1 in let me : Rest.Denot = y.0.3.0 in
     let other : Tok.Denot = y.0.3.1.0 in let vss = y.0.4 in let l = me.lease in
     let n : ℕ = l.lifetime in
     let Post : Val → SProp 𝓤 = (walk_of 𝓛 En hs c).post y in
-    let Run : List Val → SProp 𝓤 = λ ws. WpFn 𝓤 H 𝓣.C 𝓣.Λ fn ws Post in
+    let Run : List Val → SProp 𝓤 = λ ws. WpFn 𝓤 𝓛.H 𝓣.C 𝓣.Λ fn ws Post in
     let Lent : Type 0 = l.is_lent ≡ true in let Same : Type 0 = (other.lifetime ≡ n)
     × (other.share ≡ me.share) in
     qed 𝓛 ((‵ (fsep (flft κs.0 qs.0) ftrue) ⊛ ‵ (owns (types_at En.signature.params κs) y.0.3
@@ -67,7 +63,7 @@ with_lifetime_spec 𝓤 𝓛 𝓜 𝓡 wired T L =
     use1 𝓛 (‵ (part 64 n)) (part_in 64 𝓛 n me.share counts) $
     rewrite ! 0 (λ (k : Bool). ‵ (staked k l)) (sym lent) refl $
     move ! (3 ∷ 0 ∷ []) $ fjoin ! $ move ! (2 ∷ 0 ∷ []) $ fjoin ! $ marked R ! $
-    let now : Own.Denot = record {
+    let now : (Right T).Denot = record {
       marker = record {};
       held = true;
       block = me.block;

@@ -1,11 +1,11 @@
 -- `fork` opens the invariant for a new pass.
-use Rattle.std.proofs.Common.{◌≡◌, ℕ, Bool, true, false, List, [], ◌∷◌, refl}
+use Rattle.std.proofs.Common.{◌≡◌, ℕ, true, false, List, [], ◌∷◌, refl}
 use mir.Syntax.{named}
 use mir.Val.{Val, vptr}
 use base.Logic.{SProp, emp, id⊢}
-use base.Fml.{ftrue, fsep, flft, fhide}
+use base.Fml.{ftrue, fsep, flft}
 use types.Kit.{‵, ◌⊛◌, some, given, later, ◌$◌, ◌∵◌, !, qed, by, move, keep, drop, split, fsplit}
-use types.Kit.{fjoin, pick, learn, use0, use1, await, rewrite}
+use types.Kit.{fjoin, pick, learn, use0, use1, await}
 use types.Run.{no_more, and_then, returns, enter}
 use types.ByLocal.{alloc_all, pass_all, free_all, look_at, get, sets}
 use types.Part.{agg}
@@ -16,20 +16,18 @@ use denote.RattleType.{RattleType, owns}
 use denote.Signature.{types_at, plain}
 use denote.Builtin.{RefOf, unit}
 use denote.Ref.{shr_vals, shr_Tells}
-use denote.Memory.{hidden_shr}
-use denote.Opens.{unhide}
 use denote.Steps.{nothing}
-use denote.Struct.Lending.{lent_out}
 use denote.Triple.Walked.{Stays, stay_dropped, walk_of, Goes-dropped}
 use Rattle.core.specs.contracts.marker.PhantomData as marker
 use Rattle.std.proofs.raw_atomic.Walks.{proved}
 use Rattle.logbook.proofs.Fields.{token, Token, token_made, ends}
-use Rattle.arc_owners.specs.count.Invariant.{Line, right_shares, trace_owns}
+use Rattle.arc_owners.specs.count.Invariant.{Line, trace_owns}
 use Rattle.arc_owners.specs.contracts.count.word.OwnerToken as OwnerToken
 use Rattle.arc_owners.specs.contracts.mark.Open.{the_row}
 use mathlib.Core.List.{IsPrefix}
 use Rattle.arc_owners.specs.count.Invariant.{made_by, known}
 use Rattle.arc_owners.proofs.count.Begins as begins
+use Rattle.arc_owners.proofs.count.Walks.{owner_shown}
 use Rattle.arc_owners.specs.contracts.count.word.OwnerToken+Open.fork as f
 use Rattle.arc_owners.proofs.count.word.OwnerToken+Open.fork.Statement.{statement}
 use Rattle.arc_owners.proofs.count.word.OwnerToken+Open.fork.Code as code
@@ -64,14 +62,7 @@ fork_spec 𝓤 𝓛 𝓜 𝓡 wired =
     -- [the owner; the tokens]
     enter ! 𝓣.C 𝓣.Λ fn (vptr a.0.ref_ptr.0 a.0.ref_ptr.1 ∷ []) Post $
     alloc_all ! (λ l. pass_all ! refl ((tt, tt), tt) $
-    use1 𝓛 (‵ (hidden_shr (Token R) κs.0 (own.marker, tt) a.0.ref_ptr.0 a.0.ref_ptr.1) ⊛ ‵
-    (fhide (right_shares own.held own.block own.owner own.lease own.born κs.0)))
-    (lent_out 𝓛 (OwnerToken.struct R)
-    (OwnerToken.the_codes R.Denot R.coded (marker.the_row R).coded) (OwnerToken.the_heap R)
-    (OwnerToken.the_lent R) κs.0 own a.0.ref_ptr.0 a.0.ref_ptr.1) $ split ! $ drop ! $
-    unhide ! $
-    rewrite ! 0 (λ (k : Bool). ‵ (right_shares k own.block own.owner own.lease own.born κs.0))
-    asked.0 refl $ fsplit ! $ move ! (1 ∷ []) $ drop ! $ use1 𝓛 (‵ (known own.block own.born))
+    owner_shown R ! a.0.ref_ptr.0 a.0.ref_ptr.1 own.block own (asked.0, refl) $ fsplit ! $ move ! (1 ∷ []) $ drop ! $ use1 𝓛 (‵ (known own.block own.born))
     (id⊢ 𝓤 _) $
     use1 𝓛 (later (some (λ (x : ℕ × List Line). given (IsPrefix own.born x.1
     × (made_by x.0 x.1 ≡ [])) (‵ (trace_owns true own.block x.0 false x.1)))))

@@ -1,10 +1,8 @@
 -- `finish` writes a sole owner's end into the invariant, without a step.
 use contract.BorrowLft.{◌⊑◌}
-use denote.Param.{param, layouts}
-use mir.MapTy.{inst_fn}
 use Rattle.std.proofs.Common.{Bool, true, false, List, [], ◌∷◌, ◌++◌, refl}
 use mathlib.Core.Option.{some as just}
-use mir.Syntax.{named, a_type}
+use mir.Syntax.{named}
 use mir.Val.{Val, vunit, vptr}
 use base.Logic.{SProp, emp}
 use base.Fml.{ftrue, fsep, flft}
@@ -20,12 +18,12 @@ use denote.Ref.{mut_vals, mut_Tells}
 use denote.Steps.{nothing, opens, closes, heard}
 use denote.Triple.Walked.{Stays, stay_ref, walk_of, Goes-ref}
 use Rattle.std.proofs.raw_atomic.Walks.{proved}
+use Rattle.arc_owners.proofs.count.AtType.{layouts_at, code_at, Right}
 use Rattle.arc_owners.proofs.count.Ends.{ends_when}
 use Rattle.logbook.proofs.Fields.{ends}
 use Rattle.arc_owners.specs.declared.history.entry.Entry.TheVariants.{Down}
 use Rattle.arc_owners.specs.count.Invariant.{BlockId, right_owns, trace_owns}
 use Rattle.arc_owners.proofs.count.Operations.{left}
-use Rattle.arc_owners.specs.contracts.count.word.OwnerToken as OwnerToken
 use Rattle.arc_owners.specs.contracts.count.word.PassState as PassState
 use Rattle.arc_owners.proofs.count.Begins as begins
 use Rattle.arc_owners.specs.contracts.count.word.OwnerToken.finish as f
@@ -34,10 +32,8 @@ use Rattle.arc_owners.proofs.count.word.OwnerToken.finish.Code as code
 
 pub finish_spec : {M : Type 1} → statement M
 finish_spec 𝓤 𝓛 𝓜 𝓡 wired T L =
-    let H = 𝓛.H in let 𝓣 = tables 𝓤 H 𝓜 𝓡 𝓡.env in let R : RattleType = param 0 T in
-    let Own : RattleType = OwnerToken.the_row R in let En = f.ended T in
-    let c = f.clauses T 𝓛 𝓜.mem 𝓡.returns in
-    let inst = layouts (a_type ∷ []) (T, tt) in let fn = inst_fn inst code.function in
+    let 𝓣 = tables 𝓤 𝓛.H 𝓜 𝓡 𝓡.env in let Own : RattleType = Right T in let En = f.ended T in
+    let c = f.clauses T 𝓛 𝓜.mem 𝓡.returns in let fn = code_at T code.function in
     let hs : Stays En.signature.params En.kept = (
       stay_ref (0 ∷ []) tt (plain (λ _. Own)),
       (stay_ref (1 ∷ []) tt (plain (λ _. PassState.the_row)), tt),
@@ -48,7 +44,7 @@ finish_spec 𝓤 𝓛 𝓜 𝓡 wired T L =
         Goes-ref 𝓛 3 1 tt (plain (λ _. PassState.the_row)),
         tt,
       ),
-    ) (f.Key.name inst) fn (code.unfolded 𝓤 H 𝓜 𝓡 wired (T, tt))
+    ) (f.Key.name (layouts_at T)) fn (code.unfolded 𝓤 𝓛.H 𝓜 𝓡 wired (T, tt))
     (λ κs. (mut_vals, (mut_vals, tt)))
     (λ κs. (mut_Tells (named 0) κs.0 Own, (mut_Tells (named 1) κs.1.0 PassState.the_row, tt)))
     (λ κs qs bounds a gh are.

@@ -1,9 +1,7 @@
 -- `lend` opens the invariant of a sole owner, who lends the block for a new lifetime.
 use contract.BorrowLft.{◌⊑◌}
-use denote.Param.{param, layouts}
-use mir.MapTy.{inst_fn}
 use Rattle.std.proofs.Common.{◌≡◌, Bool, true, List, [], ◌∷◌, refl}
-use mir.Syntax.{named, a_type}
+use mir.Syntax.{named}
 use mir.Val.{Val, vunit, vptr}
 use base.Logic.{SProp, emp}
 use base.Fml.{ftrue, fsep, flft}
@@ -22,7 +20,7 @@ use Rattle.std.proofs.raw_atomic.Walks.{proved}
 use Rattle.logbook.proofs.Fields.{ends}
 use Rattle.arc_owners.specs.count.Invariant.{Lease, right_owns}
 use Rattle.arc_owners.specs.count.LentNotes.{no_note}
-use Rattle.arc_owners.specs.contracts.count.word.OwnerToken as OwnerToken
+use Rattle.arc_owners.proofs.count.AtType.{layouts_at, code_at, Right}
 use Rattle.arc_owners.proofs.count.Begins as begins
 use Rattle.arc_owners.specs.contracts.count.word.OwnerToken.lend as f
 use Rattle.arc_owners.proofs.count.word.OwnerToken.lend.Statement.{statement}
@@ -30,14 +28,12 @@ use Rattle.arc_owners.proofs.count.word.OwnerToken.lend.Code as code
 
 pub lend_spec : {M : Type 1} → statement M
 lend_spec 𝓤 𝓛 𝓜 𝓡 wired T L =
-    let H = 𝓛.H in let 𝓣 = tables 𝓤 H 𝓜 𝓡 𝓡.env in let R : RattleType = param 0 T in
-    let Own : RattleType = OwnerToken.the_row R in let En = f.ended T in
-    let c = f.clauses T 𝓛 𝓜.mem 𝓡.returns in
-    let inst = layouts (a_type ∷ []) (T, tt) in let fn = inst_fn inst code.function in
+    let 𝓣 = tables 𝓤 𝓛.H 𝓜 𝓡 𝓡.env in let Own : RattleType = Right T in let En = f.ended T in
+    let c = f.clauses T 𝓛 𝓜.mem 𝓡.returns in let fn = code_at T code.function in
     let hs : Stays En.signature.params En.kept = (stay_ref (0 ∷ []) tt (plain (λ _. Own)), tt)
     in
-    proved 𝓛 En hs c 𝓜 𝓡 (Goes-ref 𝓛 2 0 tt (plain (λ _. Own)), tt) (f.Key.name inst) fn
-    (code.unfolded 𝓤 H 𝓜 𝓡 wired (T, tt))
+    proved 𝓛 En hs c 𝓜 𝓡 (Goes-ref 𝓛 2 0 tt (plain (λ _. Own)), tt) (f.Key.name (layouts_at T)) fn
+    (code.unfolded 𝓤 𝓛.H 𝓜 𝓡 wired (T, tt))
     (λ κs. (mut_vals, tt)) (λ κs. (mut_Tells (named 0) κs.0 Own, tt)) (λ κs qs bounds a gh are.
     let own = a.0.now in let t = own.block in let b = a.0.ref_ptr.0 in let o = a.0.ref_ptr.1 in
     let y : (walk_of 𝓛 En hs c).Ghost = ((κs, qs, bounds, a, (vptr b o ∷ [], tt)), gh) in

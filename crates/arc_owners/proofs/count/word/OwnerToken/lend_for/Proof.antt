@@ -1,10 +1,8 @@
 -- `lend_for` opens the invariant of a sole owner, who lends the block for a lifetime that it has
 -- whole, with a note of what else is lent for it.
 use contract.BorrowLft.{◌⊑◌}
-use denote.Param.{param, layouts}
-use mir.MapTy.{inst_fn}
 use Rattle.std.proofs.Common.{◌≡◌, Bool, true, List, [], ◌∷◌, refl}
-use mir.Syntax.{named, a_type}
+use mir.Syntax.{named}
 use mir.Val.{Val, vunit, vptr}
 use base.Logic.{SProp, emp}
 use base.Fml.{ftrue, fsep, flft, Share}
@@ -27,7 +25,7 @@ use Rattle.core.proofs.alloc.Calls.{Goes-blank}
 use Rattle.arc_owners.specs.contracts.lifetime.LifetimeToken as LifetimeToken
 use Rattle.arc_owners.specs.count.Invariant.{Lease, right_owns}
 use Rattle.arc_owners.specs.count.LentNotes.{LentNote}
-use Rattle.arc_owners.specs.contracts.count.word.OwnerToken as OwnerToken
+use Rattle.arc_owners.proofs.count.AtType.{layouts_at, code_at, Right}
 use Rattle.arc_owners.proofs.count.Begins as begins
 use Rattle.arc_owners.specs.contracts.count.word.OwnerToken.lend_for as f
 use Rattle.arc_owners.proofs.count.word.OwnerToken.lend_for.Statement.{statement}
@@ -35,10 +33,9 @@ use Rattle.arc_owners.proofs.count.word.OwnerToken.lend_for.Code as code
 
 pub lend_for_spec : {M : Type 1} → statement M
 lend_for_spec 𝓤 𝓛 𝓜 𝓡 wired T L =
-    let H = 𝓛.H in let 𝓣 = tables 𝓤 H 𝓜 𝓡 𝓡.env in let R : RattleType = param 0 T in
-    let Own : RattleType = OwnerToken.the_row R in let Tok : RattleType = LifetimeToken.the_row in
-    let En = f.ended T in let c = f.clauses T 𝓛 𝓜.mem 𝓡.returns in
-    let inst = layouts (a_type ∷ []) (T, tt) in let fn = inst_fn inst code.function in
+    let 𝓣 = tables 𝓤 𝓛.H 𝓜 𝓡 𝓡.env in let Own : RattleType = Right T in
+    let Tok : RattleType = LifetimeToken.the_row in let En = f.ended T in
+    let c = f.clauses T 𝓛 𝓜.mem 𝓡.returns in let fn = code_at T code.function in
     let hs : Stays En.signature.params En.kept = (
       stay_ref (0 ∷ []) tt (plain (λ _. Own)),
       (stay_dropped (plain (λ _. Tok)) yes, tt),
@@ -47,7 +44,7 @@ lend_for_spec 𝓤 𝓛 𝓜 𝓡 wired T L =
       Goes-ref 𝓛 2 0 tt (plain (λ _. Own)),
       (Goes-blank 𝓛 2 (plain (λ _. Tok)) yes (λ κs x w. tt), tt),
     )
-    (f.Key.name inst) fn (code.unfolded 𝓤 H 𝓜 𝓡 wired (T, tt))
+    (f.Key.name (layouts_at T)) fn (code.unfolded 𝓤 𝓛.H 𝓜 𝓡 wired (T, tt))
     (λ κs. (mut_vals, ((λ _. token ∷ []), tt)))
     (λ κs. (mut_Tells (named 0) κs.0 Own, ((λ x vs p. token_told unit vs p.0), tt)))
     (λ κs qs bounds a gh are.

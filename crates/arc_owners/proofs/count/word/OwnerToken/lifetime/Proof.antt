@@ -1,8 +1,7 @@
 -- `lifetime` shows an owner's share of the lifetime, which a `&` to the owner holds.
-use denote.Param.{param, layouts}
-use mir.MapTy.{inst_fn}
+use denote.Param.{param}
 use Rattle.std.proofs.Common.{Bool, List, [], ◌∷◌, refl}
-use mir.Syntax.{named, a_type}
+use mir.Syntax.{named}
 use mir.Val.{Val, vptr}
 use base.Logic.{SProp, emp, id⊢}
 use base.Fml.{Lft, ftrue, fsep, flft, fhide}
@@ -32,20 +31,21 @@ use Rattle.arc_owners.specs.contracts.count.word.OwnerToken as OwnerToken
 use Rattle.arc_owners.specs.contracts.lifetime.LifetimeToken as LifetimeToken
 use base.Fraction.{full_share}
 use Rattle.arc_owners.specs.contracts.count.word.OwnerToken.lifetime as f
+use Rattle.arc_owners.proofs.count.AtType.{layouts_at, code_at, Right}
 use Rattle.arc_owners.proofs.count.word.OwnerToken.lifetime.Statement.{statement}
 use Rattle.arc_owners.proofs.count.word.OwnerToken.lifetime.Code as code
 
 pub lifetime_spec : {M : Type 1} → statement M
 lifetime_spec 𝓤 𝓛 𝓜 𝓡 wired T L =
-    let H = 𝓛.H in let 𝓣 = tables 𝓤 H 𝓜 𝓡 𝓡.env in let R : RattleType = param 0 T in
-    let Own : RattleType = OwnerToken.the_row R in let Tok : RattleType = LifetimeToken.the_row in
+    let 𝓣 = tables 𝓤 𝓛.H 𝓜 𝓡 𝓡.env in let R : RattleType = param 0 T in
+    let Own : RattleType = Right T in let Tok : RattleType = LifetimeToken.the_row in
     let En = f.ended T in let c = f.clauses T 𝓛 𝓜.mem 𝓡.returns in
-    let inst = layouts (a_type ∷ []) (T, tt) in let fn = inst_fn inst code.function in
+    let fn = code_at T code.function in
     let hs : Stays En.signature.params En.kept =
     (stay_dropped (RefOf (0 ∷ []) tt (plain (λ _. Own)) (λ _. tt)) yes, tt) in
     proved 𝓛 En hs c 𝓜 𝓡
     (Goes-dropped 𝓛 2 (RefOf (0 ∷ []) tt (plain (λ _. Own)) (λ _. tt)) yes (λ κs x w. refl), tt)
-    (f.Key.name inst) fn (code.unfolded 𝓤 H 𝓜 𝓡 wired (T, tt))
+    (f.Key.name (layouts_at T)) fn (code.unfolded 𝓤 𝓛.H 𝓜 𝓡 wired (T, tt))
     (λ κs. (shr_vals, tt)) (λ κs. (shr_Tells (named 0) κs.0 Own, tt))
     (λ κs qs bounds a gh are.
     let own = a.0.now in let b = a.0.ref_ptr.0 in let o = a.0.ref_ptr.1 in let κ : Lft = κs.0 in

@@ -1,13 +1,12 @@
 -- `lives_apart` opens the invariant of a sole owner, in which no other has a right.
 use contract.BorrowLft.{◌⊑◌}
-use denote.Param.{param, layouts}
-use mir.MapTy.{inst_fn}
+use denote.Param.{param}
 use Rattle.std.proofs.Common.{◌≡◌, Bool, true, List, [], ◌∷◌, refl, sym}
-use mir.Syntax.{named, a_type}
+use mir.Syntax.{named}
 use mir.Val.{Val, vunit, vptr}
 use base.Logic.{SProp, emp}
-use base.Fml.{Fml, ftrue, fsep, flft, fhide}
-use types.Kit.{‵, raw, ◌⊛◌, given, later, ◌$◌, ◌∵◌, !, qed, by, move, keep, drop, split, fsplit}
+use base.Fml.{Fml, ftrue, fsep, flft}
+use types.Kit.{‵, raw, ◌⊛◌, given, later, ◌$◌, ◌∵◌, !, qed, by, move, keep, split, fsplit}
 use types.Kit.{fsplit3, fjoin, fjoin3, learn, use1, use3, await, rewrite, feq_i}
 use types.Run.{unit_lit, of_opd, returns, enter}
 use types.ByLocal.{alloc_all, pass_all, free_all, look_at, sets}
@@ -18,28 +17,24 @@ use denote.RattleType.{owns, RattleType}
 use denote.Signature.{types_at, plain}
 use denote.Builtin.{RefOf}
 use denote.Ref.{mut_vals, mut_Tells, shr_vals, shr_Tells}
-use denote.Memory.{hidden_shr}
-use denote.Opens.{unhide}
 use denote.Steps.{nothing, opens, closes, heard}
-use denote.Struct.Lending.{lent_out}
 use denote.Triple.Walked.{Stays, stay_dropped, stay_ref, walk_of, Goes-dropped, Goes-ref}
-use Rattle.core.specs.contracts.marker.PhantomData as marker
 use Rattle.std.proofs.raw_atomic.Walks.{proved}
-use Rattle.logbook.proofs.Fields.{Token, ends}
-use Rattle.arc_owners.specs.count.Invariant.{right_owns, right_shown, right_shares}
-use Rattle.arc_owners.specs.contracts.count.word.OwnerToken as OwnerToken
+use Rattle.logbook.proofs.Fields.{ends}
+use Rattle.arc_owners.specs.count.Invariant.{right_owns, right_shown}
+use Rattle.arc_owners.proofs.count.AtType.{layouts_at, code_at, Right}
 use Rattle.arc_owners.proofs.count.Begins as begins
 use Rattle.arc_owners.proofs.count.Shared.{shares_shown}
+use Rattle.arc_owners.proofs.count.Walks.{owner_shown}
 use Rattle.arc_owners.specs.contracts.count.word.OwnerToken.lives_apart as f
 use Rattle.arc_owners.proofs.count.word.OwnerToken.lives_apart.Statement.{statement}
 use Rattle.arc_owners.proofs.count.word.OwnerToken.lives_apart.Code as code
 
 pub lives_apart_spec : {M : Type 1} → statement M
 lives_apart_spec 𝓤 𝓛 𝓜 𝓡 wired T L =
-    let H = 𝓛.H in let 𝓣 = tables 𝓤 H 𝓜 𝓡 𝓡.env in let R : RattleType = param 0 T in
-    let Own : RattleType = OwnerToken.the_row R in
-    let En = f.ended T in let c = f.clauses T 𝓛 𝓜.mem 𝓡.returns in
-    let inst = layouts (a_type ∷ []) (T, tt) in let fn = inst_fn inst code.function in
+    let 𝓣 = tables 𝓤 𝓛.H 𝓜 𝓡 𝓡.env in let R : RattleType = param 0 T in
+    let Own : RattleType = Right T in let En = f.ended T in let c = f.clauses T 𝓛 𝓜.mem 𝓡.returns in
+    let fn = code_at T code.function in
     let hs : Stays En.signature.params En.kept = (
       stay_dropped (RefOf (0 ∷ []) tt (plain (λ _. Own)) (λ _. tt)) yes,
       (stay_ref (1 ∷ []) tt (plain (λ _. Own)), tt),
@@ -48,7 +43,7 @@ lives_apart_spec 𝓤 𝓛 𝓜 𝓡 wired T L =
       Goes-dropped 𝓛 3 (RefOf (0 ∷ []) tt (plain (λ _. Own)) (λ _. tt)) yes (λ κs x w. refl),
       (Goes-ref 𝓛 3 1 tt (plain (λ _. Own)), tt),
     )
-    (f.Key.name inst) fn (code.unfolded 𝓤 H 𝓜 𝓡 wired (T, tt))
+    (f.Key.name (layouts_at T)) fn (code.unfolded 𝓤 𝓛.H 𝓜 𝓡 wired (T, tt))
     (λ κs. (shr_vals, (mut_vals, tt)))
     (λ κs. (shr_Tells (named 0) κs.0 Own, (mut_Tells (named 1) κs.1.0 Own, tt)))
     (λ κs qs bounds a gh are.
@@ -69,14 +64,7 @@ lives_apart_spec 𝓤 𝓛 𝓜 𝓡 wired T L =
     enter ! 𝓣.C 𝓣.Λ fn (vptr b₁ o₁ ∷ vptr b o ∷ []) Post $
     alloc_all ! (λ l. pass_all ! refl ((tt, tt), ((tt, tt), tt)) $
     move ! (2 ∷ []) $
-    use1 𝓛 (‵ (hidden_shr (Token R) κs.0 (other.marker, tt) b₁ o₁)
-    ⊛ ‵ (fhide (right_shares other.held other.block other.owner other.lease other.born κs.0)))
-    (lent_out 𝓛 (OwnerToken.struct R)
-    (OwnerToken.the_codes R.Denot R.coded (marker.the_row R).coded)
-    (OwnerToken.the_heap R) (OwnerToken.the_lent R) κs.0 other b₁ o₁) $
-    split ! $ drop ! $ unhide ! $
-    rewrite ! 0 (λ (k : Bool).
-    ‵ (right_shares k other.block other.owner other.lease other.born κs.0)) asked.0 refl $
+    owner_shown R ! b₁ o₁ other.block other (asked.0, refl) $
     use1 𝓛 (‵ (right_shown other.block other.owner other.lease other.born κs.0))
     (shares_shown 𝓛 other.block other.owner other.lease other.born κs.0) $
     -- [the other; two parts of the sole owner; its token; the other's token]

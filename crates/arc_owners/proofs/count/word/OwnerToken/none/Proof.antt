@@ -1,7 +1,4 @@
 -- `none` makes a value that owns nothing.
-use denote.Param.{param, layouts}
-use mir.MapTy.{inst_fn}
-use mir.Syntax.{a_type}
 use Rattle.std.proofs.Common.{false, [], ◌∷◌, refl}
 use mir.Val.{Val}
 use base.Logic.{SProp, emp}
@@ -12,7 +9,7 @@ use types.ByLocal.{alloc_all, pass_all, free_all, look_at, get, sets}
 use types.Part.{agg}
 use contract.Monad.{fact_i}
 use contract.Running.{tables}
-use denote.RattleType.{owns, RattleType}
+use denote.RattleType.{owns}
 use denote.Signature.{types_at}
 use denote.Builtin.{unit}
 use denote.Steps.{nothing}
@@ -21,19 +18,17 @@ use Rattle.std.proofs.raw_atomic.Walks.{proved}
 use Rattle.logbook.proofs.Fields.{token, Token, token_made, ends}
 use Rattle.arc_owners.specs.history.Histories.{Counted}
 use Rattle.arc_owners.specs.count.Invariant.{no_lease}
-use Rattle.arc_owners.specs.contracts.count.word.OwnerToken as OwnerToken
 use Rattle.arc_owners.specs.contracts.count.word.OwnerToken.none as f
+use Rattle.arc_owners.proofs.count.AtType.{layouts_at, code_at}
 use Rattle.arc_owners.proofs.count.word.OwnerToken.none.Statement.{statement}
 use Rattle.arc_owners.proofs.count.word.OwnerToken.none.Code as code
 
 pub none_spec : {M : Type 1} → statement M
 none_spec 𝓤 𝓛 𝓜 𝓡 wired T L =
-    let H = 𝓛.H in let 𝓣 = tables 𝓤 H 𝓜 𝓡 𝓡.env in let R : RattleType = param 0 T in
-    let Own : RattleType = OwnerToken.the_row R in let En = f.ended T in
-    let c = f.clauses T 𝓛 𝓜.mem 𝓡.returns in
-    let inst = layouts (a_type ∷ []) (T, tt) in let fn = inst_fn inst code.function in
+    let 𝓣 = tables 𝓤 𝓛.H 𝓜 𝓡 𝓡.env in let En = f.ended T in let c = f.clauses T 𝓛 𝓜.mem 𝓡.returns in
+    let fn = code_at T code.function in
     let hs : Stays En.signature.params En.kept = tt in
-    proved 𝓛 En hs c 𝓜 𝓡 tt (f.Key.name inst) fn (code.unfolded 𝓤 H 𝓜 𝓡 wired (T, tt)) (λ κs. tt)
+    proved 𝓛 En hs c 𝓜 𝓡 tt (f.Key.name (layouts_at T)) fn (code.unfolded 𝓤 𝓛.H 𝓜 𝓡 wired (T, tt)) (λ κs. tt)
     (λ κs. tt) (λ κs qs bounds a gh are.
     let y : (walk_of 𝓛 En hs c).Ghost = ((κs, qs, bounds, a, tt), gh) in
     let Post : Val → SProp 𝓤 = (walk_of 𝓛 En hs c).post y in

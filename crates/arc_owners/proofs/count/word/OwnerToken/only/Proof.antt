@@ -1,15 +1,14 @@
 -- `only` opens the invariant and reads its history, in which a sole owner lives alone.
 use contract.BorrowLft.{◌⊑◌}
-use denote.Param.{param, layouts}
-use mir.MapTy.{inst_fn}
+use denote.Param.{param}
 use Rattle.std.proofs.Common.{◌≡◌, Bool, true, List, [], ◌∷◌, refl}
-use mir.Syntax.{named, a_type}
+use mir.Syntax.{named}
 use mir.Val.{Val, vunit, vptr}
 use base.Logic.{SProp, emp, wand, apply∗}
-use base.Fml.{Fml, Share, ftrue, fsep, flft, fhide}
+use base.Fml.{Fml, Share, ftrue, fsep, flft}
 use types.Logic.{sem}
-use types.Kit.{‵, raw, ◌⊛◌, some, given, later, ◌$◌, ◌∵◌, !, qed, by, move, keep, drop, split}
-use types.Kit.{fsplit, fsplit3, fjoin, fjoin3, pick, learn, use1, use2, await, rewrite, feq_i}
+use types.Kit.{‵, raw, ◌⊛◌, some, given, later, ◌$◌, ◌∵◌, !, qed, by, move, keep, split}
+use types.Kit.{fsplit, fsplit3, fjoin, fjoin3, pick, learn, use2, await, rewrite, feq_i}
 use types.Run.{unit_lit, of_opd, returns, enter}
 use types.ByLocal.{alloc_all, pass_all, free_all, look_at, sets}
 use contract.Monad.{fact_i, fact}
@@ -19,32 +18,29 @@ use denote.RattleType.{owns, RattleType}
 use denote.Signature.{types_at, plain}
 use denote.Builtin.{RefOf}
 use denote.Ref.{mut_vals, mut_Tells, shr_vals, shr_Tells}
-use denote.Memory.{hidden_shr}
-use denote.Opens.{unhide}
 use denote.Steps.{nothing, opens, closes, heard}
-use denote.Struct.Lending.{lent_out}
 use denote.Triple.Walked.{Stays, stay_dropped, stay_ref, walk_of, Goes-dropped, Goes-ref}
 use Rattle.core.specs.contracts.marker.PhantomData as marker
 use Rattle.std.proofs.raw_atomic.Walks.{proved}
-use Rattle.logbook.proofs.Fields.{Token, ends}
+use Rattle.logbook.proofs.Fields.{ends}
 use Rattle.arc_owners.specs.count.Invariant.{BlockId, Line, entries_of, made_by, right}
-use Rattle.arc_owners.specs.count.Invariant.{right_shares, trace_owns}
+use Rattle.arc_owners.specs.count.Invariant.{trace_owns}
 use Rattle.arc_owners.specs.history.Histories.{LivesAlone}
-use Rattle.arc_owners.specs.contracts.count.word.OwnerToken as OwnerToken
 use Rattle.arc_owners.specs.contracts.count.word.PassState as PassState
 use mathlib.Core.List.{IsPrefix}
+use Rattle.arc_owners.proofs.count.AtType.{layouts_at, code_at, Right}
 use Rattle.arc_owners.proofs.count.Begins as begins
 use Rattle.arc_owners.proofs.count.Shared.{right_read}
+use Rattle.arc_owners.proofs.count.Walks.{owner_shown}
 use Rattle.arc_owners.specs.contracts.count.word.OwnerToken.only as f
 use Rattle.arc_owners.proofs.count.word.OwnerToken.only.Statement.{statement}
 use Rattle.arc_owners.proofs.count.word.OwnerToken.only.Code as code
 
 pub only_spec : {M : Type 1} → statement M
 only_spec 𝓤 𝓛 𝓜 𝓡 wired T L =
-    let H = 𝓛.H in let 𝓣 = tables 𝓤 H 𝓜 𝓡 𝓡.env in let R : RattleType = param 0 T in
-    let Own : RattleType = OwnerToken.the_row R in let En = f.ended T in
-    let c = f.clauses T 𝓛 𝓜.mem 𝓡.returns in
-    let inst = layouts (a_type ∷ []) (T, tt) in let fn = inst_fn inst code.function in
+    let 𝓣 = tables 𝓤 𝓛.H 𝓜 𝓡 𝓡.env in let R : RattleType = param 0 T in
+    let Own : RattleType = Right T in let En = f.ended T in let c = f.clauses T 𝓛 𝓜.mem 𝓡.returns in
+    let fn = code_at T code.function in
     let hs : Stays En.signature.params En.kept = (
       stay_dropped (RefOf (0 ∷ []) tt (plain (λ _. Own)) (λ _. tt)) yes,
       (stay_ref (1 ∷ []) tt (plain (λ _. PassState.the_row)), tt),
@@ -54,7 +50,7 @@ only_spec 𝓤 𝓛 𝓜 𝓡 wired T L =
           (λ κs x w. refl),
       (Goes-ref 𝓛 3 1 tt (plain (λ _. PassState.the_row)), tt),
     )
-    (f.Key.name inst) fn (code.unfolded 𝓤 H 𝓜 𝓡 wired (T, tt))
+    (f.Key.name (layouts_at T)) fn (code.unfolded 𝓤 𝓛.H 𝓜 𝓡 wired (T, tt))
     (λ κs. (shr_vals, (mut_vals, tt)))
     (λ κs. (shr_Tells (named 0) κs.0 Own, (mut_Tells (named 1) κs.1.0 PassState.the_row, tt)))
     (λ κs qs bounds a gh are.
@@ -74,15 +70,9 @@ only_spec 𝓤 𝓛 𝓜 𝓡 wired T L =
     enter ! 𝓣.C 𝓣.Λ fn (vptr b₁ o₁ ∷ vptr b o ∷ []) Post $
     alloc_all ! (λ l. pass_all ! refl ((tt, tt), ((tt, tt), tt)) $
     move ! (2 ∷ []) $
-    use1 𝓛 (‵ (hidden_shr (Token R) κs.0 (own.marker, tt) b₁ o₁) ⊛ ‵
-    (fhide (right_shares own.held me own.owner own.lease own.born κs.0)))
-    (lent_out 𝓛 (OwnerToken.struct R)
-    (OwnerToken.the_codes R.Denot R.coded (marker.the_row R).coded) (OwnerToken.the_heap R)
-    (OwnerToken.the_lent R) κs.0 own b₁ o₁) $ split ! $ drop ! $ unhide ! $
-    rewrite ! 0 (λ (k : Bool). ‵ (right_shares k me own.owner own.lease own.born κs.0)) asked.0.0
-    refl $ move ! (0 ∷ 4 ∷ []) $
+    owner_shown R ! b₁ o₁ own.block own (asked.0.0, refl) $ move ! (0 ∷ 4 ∷ []) $
     use2 𝓛 (later (some (λ (r : Share). ‵ (right me own.owner own.lease r) ⊛ raw
-    (wand 𝓤 (sem 𝓛 (right me own.owner own.lease r)) (H.⇛ (𝓛.A.lft κs.0 qs.0))))))
+    (wand 𝓤 (sem 𝓛 (right me own.owner own.lease r)) (𝓛.H.⇛ (𝓛.A.lft κs.0 qs.0))))))
     (right_read 𝓛 me own.owner own.lease own.born κs.0 qs.0) $ await ! tt $
     pick ! (λ r. split ! $
     -- [the right; its way back; two parts of the pass; its token]
@@ -108,7 +98,7 @@ only_spec 𝓤 𝓛 𝓜 𝓡 wired T L =
       lines = ls;
     } in
     move ! (1 ∷ 7 ∷ []) $ use2 𝓛 (later (‵ (flft κs.0 qs.0)))
-    (apply∗ 𝓤 (sem 𝓛 (right me own.owner own.lease r)) (H.⇛ (𝓛.A.lft κs.0 qs.0))) $ await ! tt $
+    (apply∗ 𝓤 (sem 𝓛 (right me own.owner own.lease r)) (𝓛.H.⇛ (𝓛.A.lft κs.0 qs.0))) $ await ! tt $
     -- [the owner's token; the pass; its marker; its cell; the open borrow, in three]
     move ! (2 ∷ 1 ∷ []) $ fjoin ! $ move ! (2 ∷ 0 ∷ 3 ∷ 4 ∷ 5 ∷ []) $
     closes ! tt PassState.the_row after vs b o $

@@ -1,9 +1,7 @@
 -- `claim` is one load, after which an owner that was found alone has the block back.
 use contract.BorrowLft.{◌⊑◌}
-use denote.Param.{param, layouts}
-use mir.MapTy.{inst_fn}
+use denote.Param.{param}
 use Rattle.std.proofs.Common.{[], ◌∷◌, refl, lit<}
-use mir.Syntax.{a_type}
 use mir.Val.{vptr}
 use base.Logic.{emp, snd∗}
 use types.Kit.{raw, later, at_ret, ◌$◌, ◌∵◌, !, qed, done, await}
@@ -16,6 +14,7 @@ use contract.Running.{tables}
 use denote.RawPtr.{block_ptr}
 use Rattle.core.proofs.atomic.Steps.{tail}
 use Rattle.std.proofs.raw_atomic.Calls.{fm, loads, seq_cst}
+use Rattle.arc_owners.proofs.count.AtType.{layouts_at, code_at}
 use Rattle.arc_owners.proofs.count.OneCall.{Ends_at, number_at, takes_number}
 use Rattle.arc_owners.proofs.count.Partings.{by_word, claiming}
 use Rattle.arc_owners.specs.contracts.count.word.Word.claim as f
@@ -24,8 +23,8 @@ use Rattle.arc_owners.proofs.count.word.Word.claim.Code as code
 
 pub claim_spec : {M : Type 1} → statement M
 claim_spec 𝓤 𝓛 𝓜 𝓡 wired T L =
-    let 𝓣 = tables 𝓤 𝓛.H 𝓜 𝓡 𝓡.env in let inst = layouts (a_type ∷ []) (T, tt) in
-    let fn = inst_fn inst code.function in let load = code.calls-core::raw_atomic::load 𝓡.env wired in
+    let 𝓣 = tables 𝓤 𝓛.H 𝓜 𝓡 𝓡.env in let fn = code_at T code.function in
+    let load = code.calls-core::raw_atomic::load 𝓡.env wired in
     by_word 𝓛 𝓜 𝓡 T (f.clauses T 𝓛 𝓜.mem 𝓡.returns) (claiming 𝓛 (param 0 T))
     (λ κs a g. snd∗ 𝓤 (fact 𝓤 (κs.1.1.1.1.0 ⊑ T.lives)) (fact 𝓤 _))
     (λ κs a g n before so. fact_i 𝓤 _ (emp 𝓤) (
@@ -35,7 +34,7 @@ claim_spec 𝓤 𝓛 𝓜 𝓡 wired T L =
       refl,
       refl,
     ))
-    (f.Key.name inst) fn (code.unfolded 𝓤 𝓛.H 𝓜 𝓡 wired (T, tt)) _ (seq_cst ∷ [])
+    (f.Key.name (layouts_at T)) fn (code.unfolded 𝓤 𝓛.H 𝓜 𝓡 wired (T, tt)) _ (seq_cst ∷ [])
     (λ b o b₁ o₁ b₂ o₂ b₃ o₃ P.
     qed 𝓛 (later (raw (Ends_at 𝓛 𝓜 𝓡 _ (vptr b o ∷ seq_cst ∷ []) P)) ∷ []) ∵
     enter ! 𝓣.C 𝓣.Λ fn (vptr b o ∷ vptr b₁ o₁ ∷ vptr b₂ o₂ ∷ vptr b₃ o₃ ∷ []) P $

@@ -1,10 +1,9 @@
 -- `compare_exchange` is one exchange, with the invariant, a share of an owner's right, the pass,
 -- and the right of the new owner.
 use contract.BorrowLft.{◌⊑◌}
-use denote.Param.{param, layouts}
-use mir.MapTy.{inst_fn}
+use denote.Param.{param}
 use Rattle.std.proofs.Common.{ℕ, true, eqb, List, [], ◌∷◌, refl, w64}
-use mir.Syntax.{named, a_type}
+use mir.Syntax.{named}
 use mir.Val.{Val, vint, vptr}
 use base.Logic.{SProp, emp}
 use base.Share.{quarter}
@@ -32,8 +31,8 @@ use Rattle.atomic_table.proofs.Calls.{fm, found, finds, exchanges}
 use Rattle.logbook.proofs.Fields.{ends}
 use Rattle.arc_owners.specs.count.Invariant.{Line, right_owns, trace_owns, next_owner}
 use Rattle.arc_owners.specs.contracts.count.word.Word as Word
-use Rattle.arc_owners.specs.contracts.count.word.OwnerToken as OwnerToken
 use Rattle.arc_owners.specs.contracts.count.word.PassState as PassState
+use Rattle.arc_owners.proofs.count.AtType.{layouts_at, code_at, Right}
 use Rattle.arc_owners.proofs.count.Operations.{Operation, compare_exchange, with_entry, left}
 use Rattle.arc_owners.proofs.count.Operations.{made_one}
 use Rattle.arc_owners.proofs.count.Moves as moves
@@ -46,10 +45,9 @@ use Rattle.arc_owners.proofs.count.word.Word.compare_exchange.Code as code
 
 pub compare_exchange_spec : {M : Type 1} → statement M
 compare_exchange_spec 𝓤 𝓛 𝓜 𝓡 wired T L =
-    let H = 𝓛.H in let 𝓣 = tables 𝓤 H 𝓜 𝓡 𝓡.env in let R : RattleType = param 0 T in
-    let Own : RattleType = OwnerToken.the_row R in let En = f.ended T in
-    let c = f.clauses T 𝓛 𝓜.mem 𝓡.returns in
-    let inst = layouts (a_type ∷ []) (T, tt) in let fn = inst_fn inst code.function in
+    let 𝓣 = tables 𝓤 𝓛.H 𝓜 𝓡 𝓡.env in let R : RattleType = param 0 T in
+    let Own : RattleType = Right T in let En = f.ended T in let c = f.clauses T 𝓛 𝓜.mem 𝓡.returns in
+    let fn = code_at T code.function in
     let hs : Stays En.signature.params En.kept = (
       stay_dropped (RefOf (0 ∷ []) tt (plain (λ _. Word.the_row)) (λ _. tt)) yes,
       (
@@ -82,7 +80,7 @@ compare_exchange_spec 𝓤 𝓛 𝓜 𝓡 wired T L =
         ),
       ),
     )
-    (f.Key.name inst) fn (code.unfolded 𝓤 H 𝓜 𝓡 wired (T, tt))
+    (f.Key.name (layouts_at T)) fn (code.unfolded 𝓤 𝓛.H 𝓜 𝓡 wired (T, tt))
     (λ κs. (shr_vals, (shr_vals, (mut_vals, (mut_vals, (uint_vals w64, (uint_vals w64, tt)))))))
     (λ κs. (
       shr_Tells (named 0) κs.0 Word.the_row,

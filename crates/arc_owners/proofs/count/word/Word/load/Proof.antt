@@ -1,10 +1,7 @@
 -- `load` is one atomic load, with the invariant, a share of an owner's right and the pass.
 use contract.BorrowLft.{◌⊑◌}
-use denote.Param.{layouts}
-use mir.MapTy.{inst_fn}
 use Rattle.std.proofs.Common.{eqb, [], ◌∷◌, refl, lit<}
 use mathlib.Core.Option.{some}
-use mir.Syntax.{a_type}
 use mir.Val.{vptr}
 use base.Logic.{emp, snd∗}
 use types.Kit.{raw, later, at_ret, ◌$◌, ◌∵◌, !, qed, done, await}
@@ -18,6 +15,7 @@ use denote.RawPtr.{block_ptr}
 use Rattle.core.proofs.atomic.Steps.{tail}
 use Rattle.std.proofs.raw_atomic.Calls.{fm, loads, seq_cst}
 use Rattle.arc_owners.specs.declared.history.entry.Entry.TheVariants.{Alone}
+use Rattle.arc_owners.proofs.count.AtType.{layouts_at, code_at}
 use Rattle.arc_owners.proofs.count.OneCall.{Ends_at, number_at, takes_number}
 use Rattle.arc_owners.proofs.count.Moves as moves
 use Rattle.arc_owners.proofs.count.Readings.{read}
@@ -27,13 +25,13 @@ use Rattle.arc_owners.proofs.count.word.Word.load.Code as code
 
 pub load_spec : {M : Type 1} → statement M
 load_spec 𝓤 𝓛 𝓜 𝓡 wired T L =
-    let 𝓣 = tables 𝓤 𝓛.H 𝓜 𝓡 𝓡.env in let inst = layouts (a_type ∷ []) (T, tt) in
-    let fn = inst_fn inst code.function in let load = code.calls-core::raw_atomic::load 𝓡.env wired in
+    let 𝓣 = tables 𝓤 𝓛.H 𝓜 𝓡 𝓡.env in let fn = code_at T code.function in
+    let load = code.calls-core::raw_atomic::load 𝓡.env wired in
     read 𝓛 𝓜 𝓡 T (f.clauses T 𝓛 𝓜.mem 𝓡.returns) (λ t o n before. some (Alone o (eqb n 1)))
     (λ me p ready seen o l q. moves.loads 𝓛 me p ready seen o l q)
     (λ κs a g. snd∗ 𝓤 (fact 𝓤 (κs.1.1.1.0 ⊑ T.lives)) (fact 𝓤 _))
     (λ κs a g n before so. fact_i 𝓤 _ (emp 𝓤) ((refl, refl, refl, refl), (before, (so.0, refl))))
-    (f.Key.name inst) fn (code.unfolded 𝓤 𝓛.H 𝓜 𝓡 wired (T, tt)) _ (seq_cst ∷ [])
+    (f.Key.name (layouts_at T)) fn (code.unfolded 𝓤 𝓛.H 𝓜 𝓡 wired (T, tt)) _ (seq_cst ∷ [])
     (λ b o b₁ o₁ b₂ o₂ P.
     qed 𝓛 (later (raw (Ends_at 𝓛 𝓜 𝓡 _ (vptr b o ∷ seq_cst ∷ []) P)) ∷ []) ∵
     enter ! 𝓣.C 𝓣.Λ fn (vptr b o ∷ vptr b₁ o₁ ∷ vptr b₂ o₂ ∷ []) P $

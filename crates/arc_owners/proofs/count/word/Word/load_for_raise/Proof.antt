@@ -1,10 +1,7 @@
 -- `load_for_raise` is one atomic load, with the invariant, a share of an owner's right and the
 -- pass.
 use contract.BorrowLft.{◌⊑◌}
-use denote.Param.{layouts}
-use mir.MapTy.{inst_fn}
 use Rattle.std.proofs.Common.{eqb, [], ◌∷◌, refl, lit<}
-use mir.Syntax.{a_type}
 use mir.Val.{vptr}
 use base.Logic.{emp}
 use types.Kit.{raw, later, at_ret, ◌$◌, ◌∵◌, !, qed, by, drop, done, await}
@@ -19,6 +16,7 @@ use denote.Steps.{heard}
 use Rattle.core.proofs.atomic.Steps.{tail}
 use Rattle.std.proofs.raw_atomic.Calls.{fm, loads, seq_cst}
 use Rattle.arc_owners.specs.count.Steps.{IsHeld, IsOf}
+use Rattle.arc_owners.proofs.count.AtType.{layouts_at, code_at}
 use Rattle.arc_owners.proofs.count.Operations.{full_if, filled}
 use Rattle.arc_owners.proofs.count.OneCall.{Ends_at, number_at, takes_number}
 use Rattle.arc_owners.proofs.count.Moves as moves
@@ -29,8 +27,8 @@ use Rattle.arc_owners.proofs.count.word.Word.load_for_raise.Code as code
 
 pub load_for_raise_spec : {M : Type 1} → statement M
 load_for_raise_spec 𝓤 𝓛 𝓜 𝓡 wired T L =
-    let 𝓣 = tables 𝓤 𝓛.H 𝓜 𝓡 𝓡.env in let inst = layouts (a_type ∷ []) (T, tt) in
-    let fn = inst_fn inst code.function in let load = code.calls-core::raw_atomic::load 𝓡.env wired in
+    let 𝓣 = tables 𝓤 𝓛.H 𝓜 𝓡 𝓡.env in let fn = code_at T code.function in
+    let load = code.calls-core::raw_atomic::load 𝓡.env wired in
     read 𝓛 𝓜 𝓡 T (f.clauses T 𝓛 𝓜.mem 𝓡.returns) (λ t o n before. full_if o (eqb n t.most))
     (λ me p ready seen o l q. moves.loads_for_raise 𝓛 me p ready seen o l q)
     (λ κs a g. qed 𝓛 (raw (fact 𝓤 (κs.1.1.1.0 ⊑ T.lives))
@@ -41,7 +39,7 @@ load_for_raise_spec 𝓤 𝓛 𝓜 𝓡 wired T L =
       filled a.0.now a.1.1.0.now.number a.1.1.0.now.lines a.1.0.now.owner n before
           (eqb n a.0.now.most) so,
     ))
-    (f.Key.name inst) fn (code.unfolded 𝓤 𝓛.H 𝓜 𝓡 wired (T, tt)) _ (seq_cst ∷ [])
+    (f.Key.name (layouts_at T)) fn (code.unfolded 𝓤 𝓛.H 𝓜 𝓡 wired (T, tt)) _ (seq_cst ∷ [])
     (λ b o b₁ o₁ b₂ o₂ P.
     qed 𝓛 (later (raw (Ends_at 𝓛 𝓜 𝓡 _ (vptr b o ∷ seq_cst ∷ []) P)) ∷ []) ∵
     enter ! 𝓣.C 𝓣.Λ fn (vptr b o ∷ vptr b₁ o₁ ∷ vptr b₂ o₂ ∷ []) P $

@@ -1,15 +1,12 @@
 -- `open` makes a new invariant, with its first owner and its first pass.
 use contract.BorrowLft.{◌⊑◌}
-use denote.Param.{param, layouts}
-use mir.MapTy.{inst_fn}
-use mir.Syntax.{a_type}
 use Rattle.std.proofs.Common.{◌≡◌, true, false, List, [], ◌∷◌, ◌++◌, refl, lit<, w64}
 use mir.Val.{Val, vint, vstruct, vcons, vnil, of_list}
 use base.Logic.{SProp, emp}
 use base.Fml.{ftrue, fsep, feq, flft}
-use types.Kit.{‵, raw, ◌⊛◌, some, given, later, mean, at_ret, ◌$◌, ◌∵◌, !, qed, by, move, keep}
-use types.Kit.{drop, split, join, group, fsplit, fsplit3, fjoin, fjoin3, fpick, fpack, pick, learn}
-use types.Kit.{use0, use1, use2, use3, await, rewrite, feq_i, flt_i}
+use types.Kit.{‵, raw, ◌⊛◌, some, given, later, ◌$◌, ◌∵◌, !, qed, by, move, keep}
+use types.Kit.{split, fjoin, fpack, pick, learn}
+use types.Kit.{use0, use1, await, feq_i}
 use types.Run.{lit, no_more, and_then, returns, enter}
 use types.ByLocal.{alloc_all, pass_all, free_all, look_at, get, sets}
 use types.Part.{agg}
@@ -26,12 +23,12 @@ use Rattle.std.proofs.raw_atomic.Walks.{proved}
 use Rattle.logbook.proofs.Fields.{token, Token, token_made, ends}
 use Rattle.arc_owners.specs.count.Invariant.{BlockId, Lease, right_owns, trace_owns}
 use Rattle.arc_owners.specs.contracts.count.word.Word as Word
-use Rattle.arc_owners.specs.contracts.count.word.OwnerToken as OwnerToken
 use Rattle.arc_owners.specs.contracts.count.word.PassState as PassState
 use denote.Builtin.{bool}
 use denote.Plain.{bool_vals, bool_Tells}
 use Rattle.arc_owners.specs.history.Histories.{Counted}
 use Rattle.arc_owners.specs.count.Invariant.{behind}
+use Rattle.arc_owners.proofs.count.AtType.{layouts_at, code_at, Right}
 use Rattle.arc_owners.proofs.count.Fields.{word_val, word_made}
 use Rattle.arc_owners.proofs.count.Begins as begins
 use Rattle.arc_owners.specs.contracts.count.word.Word.«open» as f
@@ -40,10 +37,8 @@ use Rattle.arc_owners.proofs.count.word.Word.«open».Code as code
 
 pub open_spec : {M : Type 1} → statement M
 open_spec 𝓤 𝓛 𝓜 𝓡 wired T L =
-    let H = 𝓛.H in let 𝓣 = tables 𝓤 H 𝓜 𝓡 𝓡.env in let R : RattleType = param 0 T in
-    let Own : RattleType = OwnerToken.the_row R in let En = f.ended T in
-    let c = f.clauses T 𝓛 𝓜.mem 𝓡.returns in
-    let inst = layouts (a_type ∷ []) (T, tt) in let fn = inst_fn inst code.function in
+    let 𝓣 = tables 𝓤 𝓛.H 𝓜 𝓡 𝓡.env in let Own : RattleType = Right T in let En = f.ended T in
+    let c = f.clauses T 𝓛 𝓜.mem 𝓡.returns in let fn = code_at T code.function in
     let hs : Stays En.signature.params En.kept = (
       stay_dropped (plain (λ _. u64)) yes,
       (stay_dropped (plain (λ _. bool)) yes, (stay_dropped (plain (λ _. bool)) yes, tt)),
@@ -54,8 +49,8 @@ open_spec 𝓤 𝓛 𝓜 𝓡 wired T L =
         Goes-dropped 𝓛 1 (plain (λ _. bool)) yes (λ κs x w. refl),
         (Goes-dropped 𝓛 1 (plain (λ _. bool)) yes (λ κs x w. refl), tt),
       ),
-    ) (f.Key.name inst) fn
-    (code.unfolded 𝓤 H 𝓜 𝓡 wired (T, tt))
+    ) (f.Key.name (layouts_at T)) fn
+    (code.unfolded 𝓤 𝓛.H 𝓜 𝓡 wired (T, tt))
     (λ κs. (uint_vals w64, (bool_vals, (bool_vals, tt))))
     (λ κs. (uint_Tells w64, (bool_Tells, (bool_Tells, tt)))) (λ κs qs bounds a gh are.
     let most = a.0 in let w = a.1.0 in let lent = a.1.1.0 in

@@ -1,10 +1,8 @@
 -- `subtract` is one subtraction, with the invariant, an owner's right, the pass, and what the end
 -- leaves.
 use contract.BorrowLft.{◌⊑◌}
-use denote.Param.{param, layouts}
-use mir.MapTy.{inst_fn}
+use denote.Param.{param}
 use Rattle.std.proofs.Common.{eqb, [], ◌∷◌, refl, lit<, w64}
-use mir.Syntax.{a_type}
 use mir.Val.{vint, vptr}
 use base.Logic.{emp, snd∗}
 use types.Kit.{raw, later, at_ret, ◌$◌, ◌∵◌, !, qed, done, await}
@@ -17,6 +15,7 @@ use contract.Running.{tables}
 use denote.RawPtr.{block_ptr}
 use Rattle.core.proofs.atomic.Steps.{tail}
 use Rattle.std.proofs.raw_atomic.Calls.{fm, subs, seq_cst}
+use Rattle.arc_owners.proofs.count.AtType.{layouts_at, code_at}
 use Rattle.arc_owners.proofs.count.Ends.{ends_when}
 use Rattle.arc_owners.proofs.count.OneCall.{Ends_at, number_at, takes_number}
 use Rattle.arc_owners.proofs.count.Partings.{by_word, subtracting}
@@ -26,8 +25,8 @@ use Rattle.arc_owners.proofs.count.word.Word.subtract.Code as code
 
 pub subtract_spec : {M : Type 1} → statement M
 subtract_spec 𝓤 𝓛 𝓜 𝓡 wired T L =
-    let 𝓣 = tables 𝓤 𝓛.H 𝓜 𝓡 𝓡.env in let inst = layouts (a_type ∷ []) (T, tt) in
-    let fn = inst_fn inst code.function in let less = code.calls-core::raw_atomic::fetch_sub 𝓡.env wired in
+    let 𝓣 = tables 𝓤 𝓛.H 𝓜 𝓡 𝓡.env in let fn = code_at T code.function in
+    let less = code.calls-core::raw_atomic::fetch_sub 𝓡.env wired in
     by_word 𝓛 𝓜 𝓡 T (f.clauses T 𝓛 𝓜.mem 𝓡.returns) (subtracting 𝓛 (param 0 T))
     (λ κs a g. snd∗ 𝓤 (fact 𝓤 (κs.1.1.1.1.0 ⊑ T.lives)) (fact 𝓤 _))
     (λ κs a g n before so. fact_i 𝓤 _ (emp 𝓤) (
@@ -38,7 +37,7 @@ subtract_spec 𝓤 𝓛 𝓜 𝓡 wired T L =
       refl,
       refl,
     ))
-    (f.Key.name inst) fn (code.unfolded 𝓤 𝓛.H 𝓜 𝓡 wired (T, tt)) _ (vint w64 1 ∷ seq_cst ∷ [])
+    (f.Key.name (layouts_at T)) fn (code.unfolded 𝓤 𝓛.H 𝓜 𝓡 wired (T, tt)) _ (vint w64 1 ∷ seq_cst ∷ [])
     (λ b o b₁ o₁ b₂ o₂ b₃ o₃ P.
     qed 𝓛 (later (raw (Ends_at 𝓛 𝓜 𝓡 _ (vptr b o ∷ vint w64 1 ∷ seq_cst ∷ []) P)) ∷ []) ∵
     enter ! 𝓣.C 𝓣.Λ fn (vptr b o ∷ vptr b₁ o₁ ∷ vptr b₂ o₂ ∷ vptr b₃ o₃ ∷ []) P $

@@ -1,8 +1,7 @@
 -- `word` shows the word that is borrowed, for as long as an owner is borrowed.
-use denote.Param.{param, layouts}
-use mir.MapTy.{inst_fn}
+use denote.Param.{param}
 use Rattle.std.proofs.Common.{◌≡◌, Bool, ℕ, List, [], ◌∷◌, ◌++◌, refl, sym, ap, ◌∙◌, subst}
-use mir.Syntax.{named, a_type}
+use mir.Syntax.{named}
 use mir.Val.{Val, vptr}
 use base.Logic.{SProp, ent, emp, never, id⊢}
 use base.Fml.{Lft, ftrue, fsep, flft, fhide, fshr_bor}
@@ -31,19 +30,19 @@ use Rattle.core.specs.contracts.marker.PhantomData as marker
 use Rattle.core.proofs.alloc.Shapes.{after}
 use Rattle.std.proofs.raw_atomic.Walks.{proved}
 use Rattle.logbook.proofs.Fields.{Token, ends}
-use Rattle.arc_owners.specs.count.Invariant.{right_shares, tokens, word_borrow, lent}
-use Rattle.arc_owners.specs.contracts.count.word.OwnerToken as OwnerToken
+use Rattle.arc_owners.specs.count.Invariant.{tokens, word_borrow, lent}
 use Rattle.arc_owners.specs.contracts.count.word.WordBorrow as WordBorrow
+use Rattle.arc_owners.proofs.count.Walks.{owner_shown}
 use Rattle.arc_owners.specs.contracts.count.word.WordBorrow.word as f
+use Rattle.arc_owners.proofs.count.AtType.{layouts_at, code_at, Right}
 use Rattle.arc_owners.proofs.count.word.WordBorrow.word.Statement.{statement}
 use Rattle.arc_owners.proofs.count.word.WordBorrow.word.Code as code
 
 pub word_spec : {M : Type 1} → statement M
 word_spec 𝓤 𝓛 𝓜 𝓡 wired T L =
-    let H = 𝓛.H in let 𝓣 = tables 𝓤 H 𝓜 𝓡 𝓡.env in let R : RattleType = param 0 T in
-    let Own : RattleType = OwnerToken.the_row R in let En = f.ended T in
-    let c = f.clauses T 𝓛 𝓜.mem 𝓡.returns in
-    let inst = layouts (a_type ∷ []) (T, tt) in let fn = inst_fn inst code.function in
+    let 𝓣 = tables 𝓤 𝓛.H 𝓜 𝓡 𝓡.env in let R : RattleType = param 0 T in
+    let Own : RattleType = Right T in let En = f.ended T in let c = f.clauses T 𝓛 𝓜.mem 𝓡.returns in
+    let fn = code_at T code.function in
     let hs : Stays En.signature.params En.kept = (
       stay_dropped (RefOf (0 ∷ []) tt (plain (λ _. WordBorrow.the_row)) (λ _. tt)) yes,
       (
@@ -61,7 +60,7 @@ word_spec 𝓤 𝓛 𝓜 𝓡 wired T L =
           tt,
         ),
       ),
-    ) (f.Key.name inst) fn (code.unfolded 𝓤 H 𝓜 𝓡 wired (T, tt))
+    ) (f.Key.name (layouts_at T)) fn (code.unfolded 𝓤 𝓛.H 𝓜 𝓡 wired (T, tt))
     (λ κs. (shr_vals, (rawptr_vals, (shr_vals, tt))))
     (λ κs. (
       shr_Tells (named 0) κs.0 WordBorrow.the_row,
@@ -73,7 +72,7 @@ word_spec 𝓤 𝓛 𝓜 𝓡 wired T L =
     let y : (walk_of 𝓛 En hs c).Ghost =
     ((κs, qs, bounds, a, (vptr b o ∷ [], (rawptr_vals place, (vptr b₂ o₂ ∷ [], tt)))), gh) in
     let Post : Val → SProp 𝓤 = (walk_of 𝓛 En hs c).post y in
-    let Run : List Val → SProp 𝓤 = λ ws. WpFn 𝓤 H 𝓣.C 𝓣.Λ fn ws Post in
+    let Run : List Val → SProp 𝓤 = λ ws. WpFn 𝓤 𝓛.H 𝓣.C 𝓣.Λ fn ws Post in
     qed 𝓛 ((‵ (fsep (flft κs.0 qs.0) (fsep (flft κs.1.0 qs.1.0) ftrue)) ⊛ ‵
     (owns (types_at En.signature.params κs) a y.0.4)) ∷ raw (fact 𝓤 (κs.1.0 ⊑ T.lives)) ∷ raw
     (fact 𝓤 _) ∷ []) ∵ move ! (2 ∷ []) $ heard ! _ (λ asked. keep ! (0 ∷ []) $ split ! $
@@ -85,13 +84,7 @@ word_spec 𝓤 𝓛 𝓜 𝓡 wired T L =
     (lent_out 𝓛 WordBorrow.struct (WordBorrow.the_codes (marker.the_row unit).coded)
     WordBorrow.the_heap WordBorrow.the_lent κ me b o) $ split ! $ drop ! $ unhide ! $
     move ! (1 ∷ []) $
-    use1 𝓛 (‵ (hidden_shr (Token R) κ (own.marker, tt) b₂ o₂) ⊛ ‵
-    (fhide (right_shares own.held own.block own.owner own.lease own.born κ)))
-    (lent_out 𝓛 (OwnerToken.struct R)
-    (OwnerToken.the_codes R.Denot R.coded (marker.the_row R).coded) (OwnerToken.the_heap R)
-    (OwnerToken.the_lent R) κ own b₂ o₂) $ split ! $ drop ! $ unhide ! $
-    rewrite ! 0 (λ (k : Bool). ‵ (right_shares k own.block own.owner own.lease own.born κ)) asked.1
-    refl $ fsplit ! $ drop ! $ fsplit ! $ drop ! $
+    owner_shown R ! b₂ o₂ own.block own (asked.1, refl) $ fsplit ! $ drop ! $ fsplit ! $ drop ! $
     rewrite ! 0 (λ (k : Bool). ‵ (tokens k own.lease κ)) asked.2 refl $
     rewrite ! 0 (λ (k : ℕ). ‵ (fshr_bor κ (λ q. flft (k ∷ []) q))) asked.3 refl $
     use0 𝓛 (‵ (before (α ++ κ) α)) (before-Incl 𝓛 (α ++ κ) α (meet_⊑_left α κ)) $
