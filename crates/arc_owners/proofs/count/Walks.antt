@@ -58,14 +58,7 @@ a_pass t p ready ls = record {
 }
 
 abbrev pub no_pass : Pass.Denot → Pass.Denot
-no_pass h = record {
-  marker = record {};
-  bound = false;
-  block = h.block;
-  number = h.number;
-  ready = h.ready;
-  lines = h.lines;
-}
+no_pass h = record h { marker = record {}; bound = false }
 
 abbrev pub an_owner : (R : RattleType) → Bool → BlockId → ℕ → Lease → List Line
     → (Own R).Denot

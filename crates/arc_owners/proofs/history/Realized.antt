@@ -45,25 +45,18 @@ is_step most h (Alone by found) n may = tt
 is_step most h (Promote by new) n may = false≢true (sym may.2 ∙ counted h)
 is_step most h (Joined by) n may = false≢true (sym n ∙ may.1)
 
-no_promotion : (e : Entry) → IsStep e → is_promotion e ≡ false
-no_promotion (Up by new) s = refl
-no_promotion (Full by) s = refl
-no_promotion (Down owner) s = refl
-no_promotion (Alone by found) s = refl
-no_promotion (Promote by new) s = absurd s
-no_promotion (Joined by) s = absurd s
-
-no_exchange : (e : Entry) → IsStep e → is_exchange e ≡ false
-no_exchange (Up by new) s = refl
-no_exchange (Full by) s = refl
-no_exchange (Down owner) s = refl
-no_exchange (Alone by found) s = refl
-no_exchange (Promote by new) s = absurd s
-no_exchange (Joined by) s = absurd s
+-- a step is no promotion, and no exchange
+no_other : (e : Entry) → IsStep e → (is_promotion e ≡ false) × (is_exchange e ≡ false)
+no_other (Up by new) s = (refl, refl)
+no_other (Full by) s = (refl, refl)
+no_other (Down owner) s = (refl, refl)
+no_other (Alone by found) s = (refl, refl)
+no_other (Promote by new) s = absurd s
+no_other (Joined by) s = absurd s
 
 still_none : (h : List Entry) (e : Entry) → is_promoted h ≡ false → IsStep e
     → is_promoted (h ++ e ∷ []) ≡ false
-still_none h e n s = promoted-append h e ∙ rw (n, no_promotion e s) refl
+still_none h e n s = promoted-append h e ∙ rw (n, (no_other e s).0) refl
 
 happens : (most : ℕ) (m : Machine) (e : Event) → Rattle.arc_owners.specs.history.Machine.may_happen
     most m e ≡ true → step most m e ≡ changed m e
@@ -83,7 +76,7 @@ module _ (most : ℕ) where
       let m : Machine = after_events most Counted events in
       let s : IsStep e = is_step most before e n r.0 in
       let one = one_event most Counted before l (counted before) e s r.0 m 1 t
-      (λ (x : is_exchange e ≡ true). absurd (false≢true (sym (no_exchange e s) ∙ x))) in
+      (λ (x : is_exchange e ≡ true). absurd (false≢true (sym (no_other e s).1 ∙ x))) in
       let all : List Event = events ++ one.0 ∷ [] in
       let next : after_events most Counted all ≡ changed m one.0 = fold-append (step most)
       (opening Counted) events (one.0 ∷ []) ∙ happens most m one.0 one.2 in

@@ -32,9 +32,8 @@ use Rattle.arc_owners.proofs.count.word.OwnerToken.lives_apart.Code as code
 
 pub lives_apart_spec : {M : Type 1} → statement M
 lives_apart_spec 𝓤 𝓛 𝓜 𝓡 wired T L =
-    let 𝓣 = tables 𝓤 𝓛.H 𝓜 𝓡 𝓡.env in let R : RattleType = param 0 T in
+    let 𝓣 = tables 𝓤 𝓛.H 𝓜 𝓡 𝓡.env in let fn = code_at T code.function in
     let Own : RattleType = Right T in let En = f.ended T in let c = f.clauses T 𝓛 𝓜.mem 𝓡.returns in
-    let fn = code_at T code.function in
     let hs : Stays En.signature.params En.kept = (
       stay_dropped (RefOf (0 ∷ []) tt (plain (λ _. Own)) (λ _. tt)) yes,
       (stay_ref (1 ∷ []) tt (plain (λ _. Own)), tt),
@@ -64,7 +63,7 @@ lives_apart_spec 𝓤 𝓛 𝓜 𝓡 wired T L =
     enter ! 𝓣.C 𝓣.Λ fn (vptr b₁ o₁ ∷ vptr b o ∷ []) Post $
     alloc_all ! (λ l. pass_all ! refl ((tt, tt), ((tt, tt), tt)) $
     move ! (2 ∷ []) $
-    owner_shown R ! b₁ o₁ other.block other (asked.0, refl) $
+    owner_shown (param 0 T) ! b₁ o₁ other.block other (asked.0, refl) $
     use1 𝓛 (‵ (right_shown other.block other.owner other.lease other.born κs.0))
     (shares_shown 𝓛 other.block other.owner other.lease other.born κs.0) $
     -- [the other; two parts of the sole owner; its token; the other's token]

@@ -38,9 +38,8 @@ use Rattle.arc_owners.proofs.count.word.OwnerToken.only.Code as code
 
 pub only_spec : {M : Type 1} → statement M
 only_spec 𝓤 𝓛 𝓜 𝓡 wired T L =
-    let 𝓣 = tables 𝓤 𝓛.H 𝓜 𝓡 𝓡.env in let R : RattleType = param 0 T in
+    let 𝓣 = tables 𝓤 𝓛.H 𝓜 𝓡 𝓡.env in let fn = code_at T code.function in
     let Own : RattleType = Right T in let En = f.ended T in let c = f.clauses T 𝓛 𝓜.mem 𝓡.returns in
-    let fn = code_at T code.function in
     let hs : Stays En.signature.params En.kept = (
       stay_dropped (RefOf (0 ∷ []) tt (plain (λ _. Own)) (λ _. tt)) yes,
       (stay_ref (1 ∷ []) tt (plain (λ _. PassState.the_row)), tt),
@@ -70,7 +69,7 @@ only_spec 𝓤 𝓛 𝓜 𝓡 wired T L =
     enter ! 𝓣.C 𝓣.Λ fn (vptr b₁ o₁ ∷ vptr b o ∷ []) Post $
     alloc_all ! (λ l. pass_all ! refl ((tt, tt), ((tt, tt), tt)) $
     move ! (2 ∷ []) $
-    owner_shown R ! b₁ o₁ own.block own (asked.0.0, refl) $ move ! (0 ∷ 4 ∷ []) $
+    owner_shown (param 0 T) ! b₁ o₁ own.block own (asked.0.0, refl) $ move ! (0 ∷ 4 ∷ []) $
     use2 𝓛 (later (some (λ (r : Share). ‵ (right me own.owner own.lease r) ⊛ raw
     (wand 𝓤 (sem 𝓛 (right me own.owner own.lease r)) (𝓛.H.⇛ (𝓛.A.lft κs.0 qs.0))))))
     (right_read 𝓛 me own.owner own.lease own.born κs.0 qs.0) $ await ! tt $

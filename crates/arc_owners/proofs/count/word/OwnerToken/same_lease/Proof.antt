@@ -32,9 +32,8 @@ use Rattle.arc_owners.proofs.count.word.OwnerToken.same_lease.Code as code
 
 pub same_lease_spec : {M : Type 1} → statement M
 same_lease_spec 𝓤 𝓛 𝓜 𝓡 wired T L =
-    let 𝓣 = tables 𝓤 𝓛.H 𝓜 𝓡 𝓡.env in let R : RattleType = param 0 T in
+    let 𝓣 = tables 𝓤 𝓛.H 𝓜 𝓡 𝓡.env in let fn = code_at T code.function in
     let Own : RattleType = Right T in let En = f.ended T in let c = f.clauses T 𝓛 𝓜.mem 𝓡.returns in
-    let fn = code_at T code.function in
     let hs : Stays En.signature.params En.kept = (
       stay_dropped (RefOf (0 ∷ []) tt (plain (λ _. Own)) (λ _. tt)) yes,
       (stay_dropped (RefOf (1 ∷ []) tt (plain (λ _. Own)) (λ _. tt)) yes, tt),
@@ -66,11 +65,11 @@ same_lease_spec 𝓤 𝓛 𝓜 𝓡 wired T L =
     -- [the other owner; the owner; the tokens, of the other first]
     enter ! 𝓣.C 𝓣.Λ fn (vptr b₁ o₁ ∷ vptr b₂ o₂ ∷ []) Post $
     alloc_all ! (λ l. pass_all ! refl ((tt, tt), ((tt, tt), tt)) $
-    owner_shown R ! b₂ o₂ other.block other (asked.1, refl) $
+    owner_shown (param 0 T) ! b₂ o₂ other.block other (asked.1, refl) $
     use1 𝓛 (‵ (right_shown other.block other.owner other.lease other.born κs.1.0))
     (shares_shown 𝓛 other.block other.owner other.lease other.born κs.1.0) $ move ! (1 ∷ []) $
     -- [the owner; the other owner; the tokens]
-    owner_shown R ! b₁ o₁ own.block own (asked.0, refl) $ use1 𝓛 (‵ (right_shown me own.owner own.lease own.born κs.0))
+    owner_shown (param 0 T) ! b₁ o₁ own.block own (asked.0, refl) $ use1 𝓛 (‵ (right_shown me own.owner own.lease own.born κs.0))
     (shares_shown 𝓛 me own.owner own.lease own.born κs.0) $ move ! (2 ∷ 3 ∷ []) $ join ! $
     move ! (1 ∷ 2 ∷ 0 ∷ []) $
     use3 𝓛 (later (given (other.block ≡ me → other.lease ≡ own.lease)
