@@ -31,14 +31,15 @@ use Rattle.std.proofs.raw_atomic.Calls.{fm, found}
 use Rattle.logbook.proofs.Fields.{Token}
 use Rattle.arc_owners.specs.declared.history.entry.Entry.{Entry}
 use Rattle.arc_owners.specs.count.Invariant.{BlockId, Line, Lease, known, right, stake, word_shares}
-use Rattle.arc_owners.specs.count.Invariant.{right_owns, right_shares, trace_owns, end_tokens}
+use Rattle.arc_owners.specs.count.Invariant.{right_owns, right_shares, right_shown, trace_owns}
+use Rattle.arc_owners.specs.count.Invariant.{end_tokens}
 use Rattle.arc_owners.specs.contracts.count.word.OwnerToken as OwnerToken
 use Rattle.arc_owners.specs.contracts.count.word.PassState as PassState
 use Rattle.arc_owners.specs.contracts.count.word.EndTokens as EndTokens
 use Rattle.arc_owners.proofs.count.Signs.{signs}
 use Rattle.arc_owners.proofs.count.Operations.{Operation, with_entry, left_by, left}
 use Rattle.arc_owners.proofs.count.Moves.{Steps}
-use Rattle.arc_owners.proofs.count.Shared.{right_read}
+use Rattle.arc_owners.proofs.count.Shared.{right_read, shares_shown}
 use Rattle.arc_owners.proofs.count.Places as places
 
 abbrev Pass : RattleType
@@ -188,6 +189,14 @@ module _ {M : Type 1} {𝓤 : Ura M} {𝓛 : Logic 𝓤} {K : Type 0} {Γ : List
         (OwnerToken.the_lent R) κ h b o) $ split t $ drop t $ unhide t $
         rewrite t 0 (λ (k : Bool × BlockId). ‵ (right_shares k.0 k.1 h.owner h.lease h.born κ))
         (λ i. (is.0 i, is.1 i)) refl $ s)
+
+    -- and what two owners are compared by
+    pub owner_told : K → {κ : Lft} (b o : ℕ) (h : (Own R).Denot) → h.held ≡ true
+        → Step K 𝓛 (‵ (right_shown h.block h.owner h.lease h.born κ) ∷ Γ) G
+        (‵ (hidden_shr (Own R) κ h b o) ∷ Γ) G
+    owner_told t {κ} b o h held = step (λ s. owner_shown t b o h.block h (held, refl) $
+        use1 𝓛 (‵ (right_shown h.block h.owner h.lease h.born κ))
+        (shares_shown 𝓛 h.block h.owner h.lease h.born κ) $ s)
 
 module _ {M : Type 1} {𝓤 : Ura M} (𝓛 : Logic 𝓤) (𝓜 : Model 𝓤 𝓛.H) (𝓡 : Running 𝓤 𝓛.H 𝓜) (k : Callee)
     (vs : List Val) where

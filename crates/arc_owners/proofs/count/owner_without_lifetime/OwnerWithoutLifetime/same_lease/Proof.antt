@@ -30,8 +30,7 @@ use Rattle.arc_owners.specs.count.Invariant.{right_shown}
 use Rattle.arc_owners.specs.contracts.count.owner_without_lifetime.OwnerWithoutLifetime as OwnerWithoutLifetime
 use Rattle.arc_owners.proofs.count.AtType.{layouts_at, code_at, Right}
 use Rattle.arc_owners.proofs.count.Begins as begins
-use Rattle.arc_owners.proofs.count.Shared.{shares_shown}
-use Rattle.arc_owners.proofs.count.Walks.{owner_shown}
+use Rattle.arc_owners.proofs.count.Walks.{owner_told}
 use Rattle.arc_owners.specs.contracts.count.owner_without_lifetime.OwnerWithoutLifetime.same_lease as f
 use Rattle.arc_owners.proofs.count.owner_without_lifetime.OwnerWithoutLifetime.same_lease.Statement.{statement}
 use Rattle.arc_owners.proofs.count.owner_without_lifetime.OwnerWithoutLifetime.same_lease.Code as code
@@ -73,9 +72,7 @@ same_lease_spec 𝓤 𝓛 𝓜 𝓡 wired T L =
     -- [the other owner; the owner; the tokens, of the other first]
     enter ! 𝓣.C 𝓣.Λ fn (vptr b₁ o₁ ∷ vptr b₂ o₂ ∷ []) Post $
     alloc_all ! (λ l. pass_all ! refl ((tt, tt), ((tt, tt), tt)) $
-    owner_shown R ! b₂ o₂ other.block other (asked, refl) $
-    use1 𝓛 (‵ (right_shown other.block other.owner other.lease other.born κs.1.0))
-    (shares_shown 𝓛 other.block other.owner other.lease other.born κs.1.0) $ move ! (1 ∷ []) $
+    owner_told R ! b₂ o₂ other asked $ move ! (1 ∷ []) $
     -- [the owner; the other owner; the tokens]
     use1 𝓛 (‵ (hidden_shr (Token R) κs.0 (own.marker, tt) b₁ o₁)
     ⊛ ‵ (fhide (right_shown me own.owner own.lease own.born κs.0)))

@@ -1,13 +1,13 @@
 -- `finish` writes a sole owner's end into the invariant, without a step.
 use contract.BorrowLft.{◌⊑◌}
-use Rattle.std.proofs.Common.{Bool, true, false, List, [], ◌∷◌, ◌++◌, refl}
+use Rattle.std.proofs.Common.{true, List, [], ◌∷◌, ◌++◌, refl}
 use mathlib.Core.Option.{some as just}
 use mir.Syntax.{named}
 use mir.Val.{Val, vunit, vptr}
 use base.Logic.{SProp, emp}
 use base.Fml.{ftrue, fsep, flft}
 use types.Kit.{‵, ◌⊛◌, later, ◌$◌, ◌∵◌, !, qed, by, move, keep, drop, split, fsplit, fsplit3, fjoin}
-use types.Kit.{fjoin3, fpick, use2, await, rewrite, feq_i, raw}
+use types.Kit.{fpick, use2, await, feq_i, raw}
 use types.Run.{unit_lit, of_opd, returns, enter}
 use types.ByLocal.{alloc_all, pass_all, free_all, look_at, sets}
 use contract.Monad.{fact_i, fact}
@@ -15,15 +15,18 @@ use contract.Running.{tables}
 use denote.RattleType.{owns, RattleType}
 use denote.Signature.{types_at, plain}
 use denote.Ref.{mut_vals, mut_Tells}
-use denote.Steps.{nothing, opens, closes, heard}
+use denote.Steps.{nothing, heard}
 use denote.Triple.Walked.{Stays, stay_ref, walk_of, Goes-ref}
 use Rattle.std.proofs.raw_atomic.Walks.{proved}
 use Rattle.arc_owners.proofs.count.AtType.{layouts_at, code_at, Right}
 use Rattle.arc_owners.proofs.count.Ends.{ends_when}
 use Rattle.logbook.proofs.Fields.{ends}
 use Rattle.arc_owners.specs.declared.history.entry.Entry.TheVariants.{Down}
-use Rattle.arc_owners.specs.count.Invariant.{BlockId, right_owns, trace_owns}
+use Rattle.arc_owners.specs.count.Invariant.{trace_owns}
 use Rattle.arc_owners.proofs.count.Operations.{left}
+use Rattle.arc_owners.proofs.count.Walks.{a_pass, no_pass, no_owner, pass_out, pass_in, owner_out}
+use Rattle.arc_owners.proofs.count.Walks.{given_back}
+use denote.Param.{param}
 use Rattle.arc_owners.specs.contracts.count.word.PassState as PassState
 use Rattle.arc_owners.proofs.count.Begins as begins
 use Rattle.arc_owners.specs.contracts.count.word.OwnerToken.finish as f
@@ -62,57 +65,32 @@ finish_spec 𝓤 𝓛 𝓜 𝓡 wired T L =
     -- [two parts of the owner; two of the pass; their tokens, last first]
     enter ! 𝓣.C 𝓣.Λ fn (vptr b₁ o₁ ∷ vptr b₂ o₂ ∷ []) Post $
     alloc_all ! (λ l. pass_all ! refl ((tt, tt), ((tt, tt), tt)) $
-    move ! (0 ∷ 1 ∷ 5 ∷ []) $ opens ! tt Own b₁ o₁ (λ ts. move ! (1 ∷ []) $ fsplit ! $
-    move ! (1 ∷ []) $
-    rewrite ! 0 (λ (k : Bool). ‵ (right_owns k me own.owner own.lease own.born)) asked.0.0 refl
-    $
-    fsplit ! $ drop ! $ fsplit ! $ move ! (1 ∷ []) $ drop ! $
-    -- [the right; its marker, cell and open borrow; two parts of the pass; its token]
-    move ! (6 ∷ 7 ∷ 8 ∷ []) $ opens ! tt PassState.the_row b₂ o₂ (λ vs. move ! (1 ∷ []) $ fsplit ! $
-    move ! (1 ∷ []) $
-    rewrite ! 0 (λ (k : Bool × BlockId). ‵ (trace_owns k.0 k.1 seen.number seen.ready seen.lines))
-    (λ i. (asked.1.0 i, asked.1.1 i)) refl $
-    -- [the pass; its marker, cell and open borrow; the right; its marker, cell and open borrow]
-    move ! (0 ∷ 6 ∷ []) $
+    move ! (0 ∷ 1 ∷ 5 ∷ []) $ owner_out (param 0 T) ! tt b₁ o₁ me own (asked.0.0, refl) $
+    move ! (6 ∷ 7 ∷ 8 ∷ []) $ pass_out ! tt b₂ o₂ me seen asked.1 $
+    -- [the pass; its two parts and its token; what the owner knows, its right and its stake; its
+    -- two parts and its token; the last token]
+    move ! (0 ∷ 5 ∷ []) $
     use2 𝓛 (later (‵
     (left me seen.number seen.lines (λ ls. trace_owns true me seen.number seen.ready ls) 1
     (λ _. just (Down own.owner)) (λ _. ftrue)))) (begins.finishes_by 𝓛 me seen.number seen.ready
     seen.lines own.owner own.lease asked.0.2) $
     await ! tt $ fpick ! (λ before. fsplit ! $ fpick ! (λ so. drop ! $ fsplit ! $ move ! (1 ∷ []) $
     drop ! $
-    let after : PassState.the_row.Denot = record {
-      marker = record {};
-      bound = true;
-      block = me;
-      number = seen.number;
-      ready = seen.ready;
-      lines =
-          before ++ (seen.number, Down own.owner) ∷ [];
-    } in
-    let gone : Own.Denot = record {
-      marker = record {};
-      held = false;
-      block = me;
-      owner = own.owner;
-      lease = own.lease;
-      born = own.born;
-    } in
-    move ! (1 ∷ 0 ∷ []) $ fjoin ! $ move ! (1 ∷ 0 ∷ 2 ∷ 3 ∷ 4 ∷ []) $
-    closes ! tt PassState.the_row after vs b₂ o₂ $
-    nothing ! $ move ! (4 ∷ 0 ∷ []) $ fjoin ! $ move ! (4 ∷ 0 ∷ 5 ∷ 6 ∷ 7 ∷ []) $
-    closes ! tt Own gone ts b₁ o₁ $
+    let after : PassState.the_row.Denot = a_pass me seen.number seen.ready
+    (before ++ (seen.number, Down own.owner) ∷ []) in
+    move ! (0 ∷ 1 ∷ 2 ∷ 3 ∷ []) $ pass_in ! tt b₂ o₂ (no_pass seen) after $
+    move ! (5 ∷ 6 ∷ 7 ∷ 0 ∷ 1 ∷ 2 ∷ 8 ∷ []) $
     sets ! (of_opd ! (unit_lit !)) refl (tt, tt) $ feq_i ! (List Val) (vunit ∷ []) (vunit ∷ []) refl
     $
     -- [the result; two parts of the owner; its token; two parts of the pass; its token]
     move ! (7 ∷ []) $ move ! (7 ∷ 0 ∷ []) $ fjoin ! $ move ! (4 ∷ 0 ∷ []) $ fjoin ! $
-    nothing ! $ feq_i ! (List Val) (vptr b₂ o₂ ∷ []) (vptr b₂ o₂ ∷ []) refl $
-    move ! (0 ∷ 6 ∷ 7 ∷ []) $ fjoin3 ! $ fjoin ! $ feq_i ! (List Val) (vptr b₁ o₁ ∷ [])
-    (vptr b₁ o₁ ∷ []) refl $ move ! (0 ∷ 4 ∷ 5 ∷ []) $ fjoin3 ! $ fjoin ! $
+    nothing ! $ move ! (5 ∷ 6 ∷ 0 ∷ []) $ given_back ! b₂ o₂ $ move ! (3 ∷ 4 ∷ 0 ∷ []) $
+    given_back ! b₁ o₁ $
     returns ! (look_at ! 0 refl) $ free_all ! refl $ keep ! (1 ∷ 0 ∷ 2 ∷ []) $
-    by ! (ends 𝓛 En hs c y vunit tt (gone, (after, tt)) (tt, (tt, tt))
+    by ! (ends 𝓛 En hs c y vunit tt (no_owner (param 0 T) own, (after, tt)) (tt, (tt, tt))
     (fact_i 𝓤 _ (emp 𝓤) (
       (refl, refl, refl, refl),
       ends_when me seen.number seen.lines own.owner
           1 before true refl so,
       refl,
-    ))))))))))
+    ))))))))

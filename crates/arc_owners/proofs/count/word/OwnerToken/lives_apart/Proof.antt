@@ -7,7 +7,7 @@ use mir.Val.{Val, vunit, vptr}
 use base.Logic.{SProp, emp}
 use base.Fml.{Fml, ftrue, fsep, flft}
 use types.Kit.{‵, raw, ◌⊛◌, given, later, ◌$◌, ◌∵◌, !, qed, by, move, keep, split, fsplit}
-use types.Kit.{fsplit3, fjoin, fjoin3, learn, use1, use3, await, rewrite, feq_i}
+use types.Kit.{fsplit3, fjoin, fjoin3, learn, use3, await, rewrite, feq_i}
 use types.Run.{unit_lit, of_opd, returns, enter}
 use types.ByLocal.{alloc_all, pass_all, free_all, look_at, sets}
 use contract.Monad.{fact_i, fact}
@@ -21,11 +21,10 @@ use denote.Steps.{nothing, opens, closes, heard}
 use denote.Triple.Walked.{Stays, stay_dropped, stay_ref, walk_of, Goes-dropped, Goes-ref}
 use Rattle.std.proofs.raw_atomic.Walks.{proved}
 use Rattle.logbook.proofs.Fields.{ends}
-use Rattle.arc_owners.specs.count.Invariant.{right_owns, right_shown}
+use Rattle.arc_owners.specs.count.Invariant.{right_owns}
 use Rattle.arc_owners.proofs.count.AtType.{layouts_at, code_at, Right}
 use Rattle.arc_owners.proofs.count.Begins as begins
-use Rattle.arc_owners.proofs.count.Shared.{shares_shown}
-use Rattle.arc_owners.proofs.count.Walks.{owner_shown}
+use Rattle.arc_owners.proofs.count.Walks.{owner_told}
 use Rattle.arc_owners.specs.contracts.count.word.OwnerToken.lives_apart as f
 use Rattle.arc_owners.proofs.count.word.OwnerToken.lives_apart.Statement.{statement}
 use Rattle.arc_owners.proofs.count.word.OwnerToken.lives_apart.Code as code
@@ -63,9 +62,7 @@ lives_apart_spec 𝓤 𝓛 𝓜 𝓡 wired T L =
     enter ! 𝓣.C 𝓣.Λ fn (vptr b₁ o₁ ∷ vptr b o ∷ []) Post $
     alloc_all ! (λ l. pass_all ! refl ((tt, tt), ((tt, tt), tt)) $
     move ! (2 ∷ []) $
-    owner_shown (param 0 T) ! b₁ o₁ other.block other (asked.0, refl) $
-    use1 𝓛 (‵ (right_shown other.block other.owner other.lease other.born κs.0))
-    (shares_shown 𝓛 other.block other.owner other.lease other.born κs.0) $
+    owner_told (param 0 T) ! b₁ o₁ other asked.0 $
     -- [the other; two parts of the sole owner; its token; the other's token]
     move ! (1 ∷ 2 ∷ 3 ∷ []) $ opens ! tt Own b o (λ vs. move ! (1 ∷ []) $ fsplit ! $
     move ! (1 ∷ []) $

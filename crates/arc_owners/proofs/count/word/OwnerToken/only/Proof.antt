@@ -1,14 +1,14 @@
 -- `only` opens the invariant and reads its history, in which a sole owner lives alone.
 use contract.BorrowLft.{◌⊑◌}
 use denote.Param.{param}
-use Rattle.std.proofs.Common.{◌≡◌, Bool, true, List, [], ◌∷◌, refl}
+use Rattle.std.proofs.Common.{◌≡◌, true, List, [], ◌∷◌, refl}
 use mir.Syntax.{named}
 use mir.Val.{Val, vunit, vptr}
 use base.Logic.{SProp, emp, wand, apply∗}
 use base.Fml.{Fml, Share, ftrue, fsep, flft}
 use types.Logic.{sem}
 use types.Kit.{‵, raw, ◌⊛◌, some, given, later, ◌$◌, ◌∵◌, !, qed, by, move, keep, split}
-use types.Kit.{fsplit, fsplit3, fjoin, fjoin3, pick, learn, use2, await, rewrite, feq_i}
+use types.Kit.{fsplit, fsplit3, fjoin, pick, learn, use2, await, feq_i}
 use types.Run.{unit_lit, of_opd, returns, enter}
 use types.ByLocal.{alloc_all, pass_all, free_all, look_at, sets}
 use contract.Monad.{fact_i, fact}
@@ -18,12 +18,11 @@ use denote.RattleType.{owns, RattleType}
 use denote.Signature.{types_at, plain}
 use denote.Builtin.{RefOf}
 use denote.Ref.{mut_vals, mut_Tells, shr_vals, shr_Tells}
-use denote.Steps.{nothing, opens, closes, heard}
+use denote.Steps.{nothing, heard}
 use denote.Triple.Walked.{Stays, stay_dropped, stay_ref, walk_of, Goes-dropped, Goes-ref}
-use Rattle.core.specs.contracts.marker.PhantomData as marker
 use Rattle.std.proofs.raw_atomic.Walks.{proved}
 use Rattle.logbook.proofs.Fields.{ends}
-use Rattle.arc_owners.specs.count.Invariant.{BlockId, Line, entries_of, made_by, right}
+use Rattle.arc_owners.specs.count.Invariant.{Line, entries_of, made_by, right}
 use Rattle.arc_owners.specs.count.Invariant.{trace_owns}
 use Rattle.arc_owners.specs.history.Histories.{LivesAlone}
 use Rattle.arc_owners.specs.contracts.count.word.PassState as PassState
@@ -31,7 +30,8 @@ use mathlib.Core.List.{IsPrefix}
 use Rattle.arc_owners.proofs.count.AtType.{layouts_at, code_at, Right}
 use Rattle.arc_owners.proofs.count.Begins as begins
 use Rattle.arc_owners.proofs.count.Shared.{right_read}
-use Rattle.arc_owners.proofs.count.Walks.{owner_shown}
+use Rattle.arc_owners.proofs.count.Walks.{a_pass, no_pass, pass_out, pass_in, owner_shown}
+use Rattle.arc_owners.proofs.count.Walks.{given_back}
 use Rattle.arc_owners.specs.contracts.count.word.OwnerToken.only as f
 use Rattle.arc_owners.proofs.count.word.OwnerToken.only.Statement.{statement}
 use Rattle.arc_owners.proofs.count.word.OwnerToken.only.Code as code
@@ -75,38 +75,25 @@ only_spec 𝓤 𝓛 𝓜 𝓡 wired T L =
     (right_read 𝓛 me own.owner own.lease own.born κs.0 qs.0) $ await ! tt $
     pick ! (λ r. split ! $
     -- [the right; its way back; two parts of the pass; its token]
-    move ! (2 ∷ 3 ∷ 4 ∷ []) $ opens ! tt PassState.the_row b o (λ vs. move ! (1 ∷ []) $ fsplit ! $
-    move ! (1 ∷ []) $
-    rewrite ! 0 (λ (k : Bool × BlockId). ‵ (trace_owns k.0 k.1 seen.number seen.ready seen.lines))
-    (λ i. (asked.1.0 i, asked.1.1 i)) refl $
-    -- [the pass; its marker; its cell; the open borrow, in three; the right; its way back]
-    move ! (0 ∷ 6 ∷ []) $
+    move ! (2 ∷ 3 ∷ 4 ∷ []) $ pass_out ! tt b o me seen asked.1 $
+    -- [the pass; its two parts and its token; the right; its way back]
+    move ! (0 ∷ 4 ∷ []) $
     use2 𝓛 (later (some (λ (ls : List Line). given (IsPrefix seen.lines ls
     × (made_by seen.number ls ≡ made_by seen.number seen.lines)
     × (me.whole ≡ true → ls ≡ seen.lines) × LivesAlone own.owner (entries_of ls))
     (‵ (trace_owns true me seen.number seen.ready ls) ⊛ ‵ (right me own.owner own.lease r)))))
     (begins.onlies 𝓛 me seen.number seen.ready seen.lines own.owner own.lease r asked.0.2) $
     await ! tt $ pick ! (λ ls. learn ! (λ so. split ! $
-    -- [the pass; the right; its marker; its cell; the open borrow, in three; the right's way back]
-    let after : PassState.the_row.Denot = record {
-      marker = record {};
-      bound = true;
-      block = me;
-      number = seen.number;
-      ready = seen.ready;
-      lines = ls;
-    } in
-    move ! (1 ∷ 7 ∷ []) $ use2 𝓛 (later (‵ (flft κs.0 qs.0)))
+    -- [the pass; the right; two parts of the pass; its token; the right's way back]
+    let after : PassState.the_row.Denot = a_pass me seen.number seen.ready ls in
+    move ! (1 ∷ 5 ∷ []) $ use2 𝓛 (later (‵ (flft κs.0 qs.0)))
     (apply∗ 𝓤 (sem 𝓛 (right me own.owner own.lease r)) (𝓛.H.⇛ (𝓛.A.lft κs.0 qs.0))) $ await ! tt $
-    -- [the owner's token; the pass; its marker; its cell; the open borrow, in three]
-    move ! (2 ∷ 1 ∷ []) $ fjoin ! $ move ! (2 ∷ 0 ∷ 3 ∷ 4 ∷ 5 ∷ []) $
-    closes ! tt PassState.the_row after vs b o $
+    move ! (1 ∷ 2 ∷ 3 ∷ 4 ∷ []) $ pass_in ! tt b o (no_pass seen) after $
     -- [two parts of the pass; the tokens, last first]
     sets ! (of_opd ! (unit_lit !)) refl (tt, tt) $ feq_i ! (List Val) (vunit ∷ []) (vunit ∷ []) refl
     $
     move ! (5 ∷ []) $ move ! (4 ∷ 0 ∷ []) $ fjoin ! $ move ! (4 ∷ 0 ∷ []) $ fjoin ! $
-    nothing ! $ feq_i ! (List Val) (vptr b o ∷ []) (vptr b o ∷ []) refl $ move ! (0 ∷ 4 ∷ 5 ∷ []) $
-    fjoin3 ! $ fjoin ! $ nothing ! $ fjoin ! $
+    nothing ! $ move ! (3 ∷ 4 ∷ 0 ∷ []) $ given_back ! b o $ nothing ! $ fjoin ! $
     returns ! (look_at ! 0 refl) $ free_all ! refl $ keep ! (1 ∷ 0 ∷ 2 ∷ []) $
     by ! (ends 𝓛 En hs c y vunit tt (tt, (after, tt)) (tt, (tt, tt))
-    (fact_i 𝓤 _ (emp 𝓤) ((refl, refl, refl, refl), so.0, so.1, so.2, so.3))))))))))
+    (fact_i 𝓤 _ (emp 𝓤) ((refl, refl, refl, refl), so.0, so.1, so.2, so.3)))))))))

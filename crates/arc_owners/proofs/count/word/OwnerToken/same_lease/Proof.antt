@@ -7,7 +7,7 @@ use mir.Val.{Val, vunit, vptr}
 use base.Logic.{SProp, emp}
 use base.Fml.{Fml, ftrue, fsep, flft}
 use types.Kit.{‵, raw, ◌⊛◌, given, later, ◌$◌, ◌∵◌, !, qed, by, move, keep, split}
-use types.Kit.{fsplit, fjoin, join, learn, use1, use3, await, feq_i}
+use types.Kit.{fsplit, fjoin, join, learn, use3, await, feq_i}
 use types.Run.{unit_lit, of_opd, returns, enter}
 use types.ByLocal.{alloc_all, pass_all, free_all, look_at, sets}
 use contract.Monad.{fact_i, fact}
@@ -21,11 +21,9 @@ use denote.Steps.{nothing, heard}
 use denote.Triple.Walked.{Stays, stay_dropped, walk_of, Goes-dropped}
 use Rattle.std.proofs.raw_atomic.Walks.{proved}
 use Rattle.logbook.proofs.Fields.{ends}
-use Rattle.arc_owners.specs.count.Invariant.{right_shown}
 use Rattle.arc_owners.proofs.count.AtType.{layouts_at, code_at, Right}
 use Rattle.arc_owners.proofs.count.Begins as begins
-use Rattle.arc_owners.proofs.count.Shared.{shares_shown}
-use Rattle.arc_owners.proofs.count.Walks.{owner_shown}
+use Rattle.arc_owners.proofs.count.Walks.{owner_told}
 use Rattle.arc_owners.specs.contracts.count.word.OwnerToken.same_lease as f
 use Rattle.arc_owners.proofs.count.word.OwnerToken.same_lease.Statement.{statement}
 use Rattle.arc_owners.proofs.count.word.OwnerToken.same_lease.Code as code
@@ -65,12 +63,9 @@ same_lease_spec 𝓤 𝓛 𝓜 𝓡 wired T L =
     -- [the other owner; the owner; the tokens, of the other first]
     enter ! 𝓣.C 𝓣.Λ fn (vptr b₁ o₁ ∷ vptr b₂ o₂ ∷ []) Post $
     alloc_all ! (λ l. pass_all ! refl ((tt, tt), ((tt, tt), tt)) $
-    owner_shown (param 0 T) ! b₂ o₂ other.block other (asked.1, refl) $
-    use1 𝓛 (‵ (right_shown other.block other.owner other.lease other.born κs.1.0))
-    (shares_shown 𝓛 other.block other.owner other.lease other.born κs.1.0) $ move ! (1 ∷ []) $
+    owner_told (param 0 T) ! b₂ o₂ other asked.1 $ move ! (1 ∷ []) $
     -- [the owner; the other owner; the tokens]
-    owner_shown (param 0 T) ! b₁ o₁ own.block own (asked.0, refl) $ use1 𝓛 (‵ (right_shown me own.owner own.lease own.born κs.0))
-    (shares_shown 𝓛 me own.owner own.lease own.born κs.0) $ move ! (2 ∷ 3 ∷ []) $ join ! $
+    owner_told (param 0 T) ! b₁ o₁ own asked.0 $ move ! (2 ∷ 3 ∷ []) $ join ! $
     move ! (1 ∷ 2 ∷ 0 ∷ []) $
     use3 𝓛 (later (given (other.block ≡ me → other.lease ≡ own.lease)
     (‵ (flft κs.1.0 qs.1.0) ⊛ ‵ (flft κs.0 qs.0))))
