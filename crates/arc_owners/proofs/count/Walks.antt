@@ -156,6 +156,19 @@ module _ {M : Type 1} {𝓤 : Ura M} {𝓛 : Logic 𝓤} {K : Type 0} {Γ : List
     swaps_owner t z b o h h' = swaps t z (Own R) (λ vs. (Token R).own_val (record {}, tt) vs)
         (λ w. right_owns w.held w.block w.owner w.lease w.born) (λ w vs. refl) b o h h'
 
+    -- the right as a whole, and its three parts
+    pub right_out : K → Soaks G → {κ : Lft} {q : Share} {γ : GName} (b o : ℕ) (t : BlockId)
+        (h : (Own R).Denot)
+        → (h.held ≡ true) × (h.block ≡ t)
+        → Step K 𝓛 (‵ (right_owns true t h.owner h.lease h.born)
+        ∷ ‵ (fobs γ ((Own R).coded.code (no_owner R h))) ∷ ‵ (fbor κ (Body (mem (Own R)) b o γ))
+        ∷ ‵ (flft κ q) ∷ Γ) G
+        (‵ (fobs γ ((Own R).coded.code h)) ∷ ‵ (fbor κ (Body (mem (Own R)) b o γ)) ∷ ‵ (flft κ q)
+        ∷ Γ) G
+    right_out t z b o me h is = step (λ s. nothing t $ swaps_owner t z b o h (no_owner R h) $
+        rewrite t 0 (λ (k : Bool × BlockId). ‵ (right_owns k.0 k.1 h.owner h.lease h.born))
+        (λ i. (is.0 i, is.1 i)) refl $ s)
+
     pub owner_out : K → Soaks G → {κ : Lft} {q : Share} {γ : GName} (b o : ℕ) (t : BlockId)
         (h : (Own R).Denot)
         → (h.held ≡ true) × (h.block ≡ t)
@@ -164,10 +177,7 @@ module _ {M : Type 1} {𝓤 : Ura M} {𝓛 : Logic 𝓤} {K : Type 0} {Γ : List
         ∷ ‵ (flft κ q) ∷ Γ) G
         (‵ (fobs γ ((Own R).coded.code h)) ∷ ‵ (fbor κ (Body (mem (Own R)) b o γ)) ∷ ‵ (flft κ q)
         ∷ Γ) G
-    owner_out t z b o me h is = step (λ s. nothing t $ swaps_owner t z b o h (no_owner R h) $
-        rewrite t 0 (λ (k : Bool × BlockId). ‵ (right_owns k.0 k.1 h.owner h.lease h.born))
-        (λ i. (is.0 i, is.1 i)) refl $
-        fsplit3 t $ s)
+    owner_out t z b o me h is = step (λ s. right_out t z b o me h is $ fsplit3 t $ s)
 
     pub owner_in : K → Soaks G → {κ : Lft} {q : Share} {γ : GName} (b o : ℕ) (was h : (Own R).Denot)
         → Step K 𝓛 (‵ (fobs γ ((Own R).coded.code h)) ∷ ‵ (fbor κ (Body (mem (Own R)) b o γ))

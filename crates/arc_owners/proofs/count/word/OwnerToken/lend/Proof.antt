@@ -1,12 +1,12 @@
 -- `lend` opens the invariant of a sole owner, who lends the block for a new lifetime.
 use contract.BorrowLft.{◌⊑◌}
-use Rattle.std.proofs.Common.{◌≡◌, Bool, true, List, [], ◌∷◌, refl}
+use Rattle.std.proofs.Common.{◌≡◌, true, List, [], ◌∷◌, refl}
 use mir.Syntax.{named}
 use mir.Val.{Val, vunit, vptr}
 use base.Logic.{SProp, emp}
 use base.Fml.{ftrue, fsep, flft}
 use types.Kit.{‵, ◌⊛◌, some, given, later, ◌$◌, ◌∵◌, !, qed, by, move, keep, split, fsplit, fsplit3}
-use types.Kit.{fjoin, fjoin3, pick, learn, use1, await, rewrite, feq_i, raw}
+use types.Kit.{fjoin, pick, learn, use1, await, feq_i, raw}
 use types.Run.{unit_lit, of_opd, returns, enter}
 use types.ByLocal.{alloc_all, pass_all, free_all, look_at, sets}
 use contract.Monad.{fact_i, fact}
@@ -14,7 +14,7 @@ use contract.Running.{tables}
 use denote.RattleType.{owns, RattleType}
 use denote.Signature.{types_at, plain}
 use denote.Ref.{mut_vals, mut_Tells}
-use denote.Steps.{nothing, opens, closes, heard}
+use denote.Steps.{nothing, heard}
 use denote.Triple.Walked.{Stays, stay_ref, walk_of, Goes-ref}
 use Rattle.std.proofs.raw_atomic.Walks.{proved}
 use Rattle.logbook.proofs.Fields.{ends}
@@ -22,6 +22,8 @@ use Rattle.arc_owners.specs.count.Invariant.{Lease, right_owns}
 use Rattle.arc_owners.specs.count.LentNotes.{no_note}
 use Rattle.arc_owners.proofs.count.AtType.{layouts_at, code_at, Right}
 use Rattle.arc_owners.proofs.count.Begins as begins
+use denote.Param.{param}
+use Rattle.arc_owners.proofs.count.Walks.{an_owner, no_owner, right_out, owner_in, given_back}
 use Rattle.arc_owners.specs.contracts.count.word.OwnerToken.lend as f
 use Rattle.arc_owners.proofs.count.word.OwnerToken.lend.Statement.{statement}
 use Rattle.arc_owners.proofs.count.word.OwnerToken.lend.Code as code
@@ -44,27 +46,17 @@ lend_spec 𝓤 𝓛 𝓜 𝓡 wired T L =
     fsplit ! $ move ! (2 ∷ []) $ fsplit ! $ fsplit3 ! $ keep ! (1 ∷ 2 ∷ 4 ∷ 5 ∷ []) $
     -- [two parts of the owner; its token; no further token]
     enter ! 𝓣.C 𝓣.Λ fn (vptr b o ∷ []) Post $ alloc_all ! (λ l. pass_all ! refl ((tt, tt), tt) $
-    move ! (0 ∷ 1 ∷ 2 ∷ []) $ opens ! tt Own b o (λ vs. move ! (1 ∷ []) $ fsplit ! $
-    move ! (1 ∷ []) $
-    rewrite ! 0 (λ (k : Bool). ‵ (right_owns k t own.owner own.lease own.born)) asked.0 refl $
+    right_out (param 0 T) ! tt b o t own (asked.0, refl) $
     use1 𝓛 (later (some (λ (m : Lease). given ((m.is_lent ≡ true) × (m.note ≡ no_note))
     (‵ (right_owns true t own.owner m own.born)))))
     (begins.relets 𝓛 t own.owner own.lease own.born asked.1) $ await ! tt $
     pick ! (λ m. learn ! (λ so.
-    let after : Own.Denot = record {
-      marker = record {};
-      held = true;
-      block = t;
-      owner = own.owner;
-      lease = m;
-      born = own.born;
-    } in
-    move ! (1 ∷ 0 ∷ []) $ fjoin ! $ move ! (1 ∷ 0 ∷ 2 ∷ 3 ∷ 4 ∷ []) $ closes ! tt Own after vs b o $
+    let after : Own.Denot = an_owner (param 0 T) true t own.owner m own.born in
+    owner_in (param 0 T) ! tt b o (no_owner (param 0 T) own) after $
     sets ! (of_opd ! (unit_lit !)) refl (tt, tt) $ feq_i ! (List Val) (vunit ∷ []) (vunit ∷ []) refl
     $
     -- [the result; two parts of the owner; its token; no further token]
-    move ! (3 ∷ 4 ∷ []) $ fjoin ! $ nothing ! $ feq_i ! (List Val) (vptr b o ∷ []) (vptr b o ∷ [])
-    refl $ move ! (0 ∷ 4 ∷ 5 ∷ []) $ fjoin3 ! $ fjoin ! $
+    move ! (3 ∷ 4 ∷ []) $ fjoin ! $ nothing ! $ move ! (3 ∷ 4 ∷ 0 ∷ []) $ given_back ! b o $
     returns ! (look_at ! 0 refl) $ free_all ! refl $ keep ! (1 ∷ 0 ∷ 2 ∷ []) $
     by ! (ends 𝓛 En hs c y vunit tt (after, tt) (tt, tt)
-    (fact_i 𝓤 _ (emp 𝓤) (refl, refl, refl, refl, so.0, so.1)))))))))
+    (fact_i 𝓤 _ (emp 𝓤) (refl, refl, refl, refl, so.0, so.1))))))))

@@ -1,13 +1,13 @@
 -- `lend_for` opens the invariant of a sole owner, who lends the block for a lifetime that it has
 -- whole, with a note of what else is lent for it.
 use contract.BorrowLft.{◌⊑◌}
-use Rattle.std.proofs.Common.{◌≡◌, Bool, true, List, [], ◌∷◌, refl}
+use Rattle.std.proofs.Common.{◌≡◌, true, List, [], ◌∷◌, refl}
 use mir.Syntax.{named}
 use mir.Val.{Val, vunit, vptr}
 use base.Logic.{SProp, emp}
 use base.Fml.{ftrue, fsep, flft, Share}
 use types.Kit.{‵, ◌⊛◌, some, given, later, ◌$◌, ◌∵◌, !, qed, by, move, keep, drop, split, fsplit}
-use types.Kit.{fsplit3, fjoin, fjoin3, pick, learn, use2, await, rewrite, feq_i, raw}
+use types.Kit.{fsplit3, fjoin, pick, learn, use2, await, rewrite, feq_i, raw}
 use types.Run.{unit_lit, of_opd, returns, enter}
 use types.ByLocal.{alloc_all, pass_all, free_all, look_at, sets}
 use contract.Monad.{fact_i, fact}
@@ -15,7 +15,7 @@ use contract.Running.{tables}
 use denote.RattleType.{owns, RattleType}
 use denote.Signature.{types_at, plain}
 use denote.Ref.{mut_vals, mut_Tells}
-use denote.Steps.{nothing, opens, closes, heard}
+use denote.Steps.{nothing, heard}
 use denote.Builtin.{unit}
 use denote.Exit.{yes}
 use denote.Triple.Walked.{Stays, stay_ref, stay_dropped, walk_of, Goes-ref}
@@ -27,6 +27,8 @@ use Rattle.arc_owners.specs.count.Invariant.{Lease, right_owns}
 use Rattle.arc_owners.specs.count.LentNotes.{LentNote}
 use Rattle.arc_owners.proofs.count.AtType.{layouts_at, code_at, Right}
 use Rattle.arc_owners.proofs.count.Begins as begins
+use denote.Param.{param}
+use Rattle.arc_owners.proofs.count.Walks.{an_owner, no_owner, right_out, owner_in, given_back}
 use Rattle.arc_owners.specs.contracts.count.word.OwnerToken.lend_for as f
 use Rattle.arc_owners.proofs.count.word.OwnerToken.lend_for.Statement.{statement}
 use Rattle.arc_owners.proofs.count.word.OwnerToken.lend_for.Code as code
@@ -64,33 +66,22 @@ lend_for_spec 𝓤 𝓛 𝓜 𝓡 wired T L =
     keep ! (0 ∷ 2 ∷ 3 ∷ 4 ∷ 5 ∷ []) $
     enter ! 𝓣.C 𝓣.Λ fn (vptr b o ∷ token ∷ []) Post $
     alloc_all ! (λ l. pass_all ! refl ((tt, tt), ((tt, (tt, tt)), tt)) $
-    move ! (1 ∷ 2 ∷ 3 ∷ []) $ opens ! tt Own b o (λ vs.
-    move ! (1 ∷ []) $ fsplit ! $ move ! (1 ∷ []) $
-    rewrite ! 0 (λ (k : Bool). ‵ (right_owns k t own.owner own.lease own.born)) asked.0 refl $
-    -- [the owner; its marker; its cell; the open borrow, in three; the lifetime's token]
-    move ! (6 ∷ 0 ∷ []) $
+    move ! (1 ∷ 2 ∷ 3 ∷ []) $ right_out (param 0 T) ! tt b o t own (asked.0, refl) $
+    -- [the owner; its two parts and its token; the lifetime's token; no further token]
+    move ! (4 ∷ 0 ∷ []) $
     use2 𝓛 (later (some (λ (m : Lease). given ((m.is_lent ≡ true)
     × ((m.lifetime ≡ tok.lifetime) × (m.note ≡ n)))
     (‵ (right_owns true t own.owner m own.born)))))
     (begins.relets_for 𝓛 t own.owner own.lease own.born tok.lifetime n
     (λ m. (m.lifetime ≡ tok.lifetime) × (m.note ≡ n)) asked.1 (λ k. (refl, refl))) $
     await ! tt $ pick ! (λ m. learn ! (λ so.
-    let after : Own.Denot = record {
-      marker = record {};
-      held = true;
-      block = t;
-      owner = own.owner;
-      lease = m;
-      born = own.born;
-    } in
-    move ! (1 ∷ 0 ∷ []) $ fjoin ! $ move ! (1 ∷ 0 ∷ 2 ∷ 3 ∷ 4 ∷ []) $
-    closes ! tt Own after vs b o $
+    let after : Own.Denot = an_owner (param 0 T) true t own.owner m own.born in
+    owner_in (param 0 T) ! tt b o (no_owner (param 0 T) own) after $
     sets ! (of_opd ! (unit_lit !)) refl (tt, tt) $
     feq_i ! (List Val) (vunit ∷ []) (vunit ∷ []) refl $
     -- [the result; two parts of the owner; its token; no further token]
-    move ! (3 ∷ 4 ∷ []) $ fjoin ! $ nothing ! $ nothing ! $ fjoin ! $
-    feq_i ! (List Val) (vptr b o ∷ []) (vptr b o ∷ []) refl $ move ! (0 ∷ 4 ∷ 5 ∷ []) $
-    fjoin3 ! $ fjoin ! $
+    move ! (3 ∷ 4 ∷ []) $ fjoin ! $ nothing ! $ nothing ! $ fjoin ! $ move ! (3 ∷ 4 ∷ 0 ∷ []) $
+    given_back ! b o $
     returns ! (look_at ! 0 refl) $ free_all ! refl $ keep ! (1 ∷ 0 ∷ 2 ∷ []) $
     by ! (ends 𝓛 En hs c y vunit tt (after, (tt, tt)) (tt, (tt, tt))
-    (fact_i 𝓤 _ (emp 𝓤) (refl, refl, refl, refl, so.0, so.1.0, so.1.1)))))))))
+    (fact_i 𝓤 _ (emp 𝓤) (refl, refl, refl, refl, so.0, so.1.0, so.1.1))))))))

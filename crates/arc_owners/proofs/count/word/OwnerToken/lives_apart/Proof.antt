@@ -7,7 +7,7 @@ use mir.Val.{Val, vunit, vptr}
 use base.Logic.{SProp, emp}
 use base.Fml.{Fml, ftrue, fsep, flft}
 use types.Kit.{‵, raw, ◌⊛◌, given, later, ◌$◌, ◌∵◌, !, qed, by, move, keep, split, fsplit}
-use types.Kit.{fsplit3, fjoin, fjoin3, learn, use3, await, rewrite, feq_i}
+use types.Kit.{fsplit3, fjoin, learn, use3, await, rewrite, feq_i}
 use types.Run.{unit_lit, of_opd, returns, enter}
 use types.ByLocal.{alloc_all, pass_all, free_all, look_at, sets}
 use contract.Monad.{fact_i, fact}
@@ -17,14 +17,14 @@ use denote.RattleType.{owns, RattleType}
 use denote.Signature.{types_at, plain}
 use denote.Builtin.{RefOf}
 use denote.Ref.{mut_vals, mut_Tells, shr_vals, shr_Tells}
-use denote.Steps.{nothing, opens, closes, heard}
+use denote.Steps.{nothing, heard}
 use denote.Triple.Walked.{Stays, stay_dropped, stay_ref, walk_of, Goes-dropped, Goes-ref}
 use Rattle.std.proofs.raw_atomic.Walks.{proved}
 use Rattle.logbook.proofs.Fields.{ends}
 use Rattle.arc_owners.specs.count.Invariant.{right_owns}
 use Rattle.arc_owners.proofs.count.AtType.{layouts_at, code_at, Right}
 use Rattle.arc_owners.proofs.count.Begins as begins
-use Rattle.arc_owners.proofs.count.Walks.{owner_told}
+use Rattle.arc_owners.proofs.count.Walks.{no_owner, right_out, owner_in, owner_told, given_back}
 use Rattle.arc_owners.specs.contracts.count.word.OwnerToken.lives_apart as f
 use Rattle.arc_owners.proofs.count.word.OwnerToken.lives_apart.Statement.{statement}
 use Rattle.arc_owners.proofs.count.word.OwnerToken.lives_apart.Code as code
@@ -64,25 +64,21 @@ lives_apart_spec 𝓤 𝓛 𝓜 𝓡 wired T L =
     move ! (2 ∷ []) $
     owner_told (param 0 T) ! b₁ o₁ other asked.0 $
     -- [the other; two parts of the sole owner; its token; the other's token]
-    move ! (1 ∷ 2 ∷ 3 ∷ []) $ opens ! tt Own b o (λ vs. move ! (1 ∷ []) $ fsplit ! $
-    move ! (1 ∷ []) $
-    rewrite ! 0 (λ (k : Bool). ‵ (right_owns k me sole.owner sole.lease sole.born)) asked.1 refl $
-    -- [the sole owner; its marker; its cell; the open borrow, in three; the other; its token]
-    move ! (0 ∷ 6 ∷ 7 ∷ []) $
+    move ! (1 ∷ 2 ∷ 3 ∷ []) $ right_out (param 0 T) ! tt b o me sole (asked.1, refl) $
+    -- [the sole owner; its two parts and its token; the other; its token]
+    move ! (0 ∷ 4 ∷ 5 ∷ []) $
     use3 𝓛 (later (given (¬ (other.block ≡ me))
     (‵ (right_owns true me sole.owner sole.lease sole.born) ⊛ ‵ (flft κs.0 qs.0))))
     (begins.apart 𝓛 me sole.born sole.owner sole.lease other.block other.born other.owner
     other.lease κs.0 qs.0 asked.2) $ await ! tt $ learn ! (λ so. split ! $
     rewrite ! 0 (λ (k : Bool). ‵ (right_owns k me sole.owner sole.lease sole.born))
-    (sym asked.1) refl $ move ! (1 ∷ []) $
-    -- [the other's token; the sole owner; its marker; its cell; the open borrow, in three]
-    move ! (2 ∷ 1 ∷ []) $ fjoin ! $ move ! (2 ∷ 0 ∷ 3 ∷ 4 ∷ 5 ∷ []) $ closes ! tt Own sole vs b o $
+    (sym asked.1) refl $
+    move ! (0 ∷ 2 ∷ 3 ∷ 4 ∷ []) $ owner_in (param 0 T) ! tt b o (no_owner (param 0 T) sole) sole $
     -- [two parts of the sole owner; the tokens, last first]
     sets ! (of_opd ! (unit_lit !)) refl (tt, tt) $
     feq_i ! (List Val) (vunit ∷ []) (vunit ∷ []) refl $
     move ! (5 ∷ []) $ move ! (4 ∷ 0 ∷ []) $ fjoin ! $ move ! (4 ∷ 0 ∷ []) $ fjoin ! $
-    nothing ! $ feq_i ! (List Val) (vptr b o ∷ []) (vptr b o ∷ []) refl $
-    move ! (0 ∷ 4 ∷ 5 ∷ []) $ fjoin3 ! $ fjoin ! $ nothing ! $ fjoin ! $
+    nothing ! $ move ! (3 ∷ 4 ∷ 0 ∷ []) $ given_back ! b o $ nothing ! $ fjoin ! $
     returns ! (look_at ! 0 refl) $ free_all ! refl $ keep ! (1 ∷ 0 ∷ 2 ∷ []) $
     by ! (ends 𝓛 En hs c y vunit tt (tt, (sole, tt)) (tt, (tt, tt))
-    (fact_i 𝓤 _ (emp 𝓤) (refl, so))))))))
+    (fact_i 𝓤 _ (emp 𝓤) (refl, so)))))))

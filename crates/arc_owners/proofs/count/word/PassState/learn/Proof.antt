@@ -5,7 +5,7 @@ use mir.Val.{Val, vunit, vptr}
 use base.Logic.{SProp, emp}
 use base.Fml.{Fml, ftrue, fsep, flft, fhide}
 use types.Kit.{‵, ◌⊛◌, some, given, later, ◌$◌, ◌∵◌, !, qed, by, move, keep, drop, split, fsplit}
-use types.Kit.{fsplit3, fjoin, fjoin3, pick, learn, use1, use2, await, rewrite, feq_i}
+use types.Kit.{fsplit3, fjoin, pick, learn, use1, use2, await, rewrite, feq_i}
 use types.Run.{unit_lit, of_opd, returns, enter}
 use types.ByLocal.{alloc_all, pass_all, free_all, look_at, sets}
 use contract.Monad.{fact_i}
@@ -17,7 +17,7 @@ use denote.Builtin.{RefOf, unit}
 use denote.Ref.{mut_vals, mut_Tells, shr_vals, shr_Tells}
 use denote.Memory.{hidden_shr}
 use denote.Opens.{unhide}
-use denote.Steps.{nothing, opens, closes}
+use denote.Steps.{nothing}
 use denote.Struct.Lending.{lent_out}
 use denote.Triple.Walked.{Stays, stay_dropped, stay_ref, walk_of, Goes-dropped, Goes-ref}
 use Rattle.core.specs.contracts.marker.PhantomData as marker
@@ -28,6 +28,7 @@ use Rattle.arc_owners.specs.contracts.count.word.PassState as PassState
 use mathlib.Core.List.{IsPrefix}
 use Rattle.arc_owners.specs.count.Invariant.{made_by, trace_shares}
 use Rattle.arc_owners.proofs.count.Begins as begins
+use Rattle.arc_owners.proofs.count.Walks.{a_pass, no_pass, pass_out, pass_in, given_back}
 use Rattle.arc_owners.specs.contracts.count.word.PassState.learn as f
 use Rattle.arc_owners.proofs.count.word.PassState.learn.Statement.{statement}
 use Rattle.arc_owners.proofs.count.word.PassState.learn.Code as code
@@ -74,34 +75,21 @@ learn_spec 𝓤 𝓛 𝓜 𝓡 wired =
     PassState.the_heap PassState.the_lent κs.1.0 other b₁ o₁) $ split ! $ drop ! $ unhide ! $
     rewrite ! 0 (λ (k : Bool × BlockId). ‵ (trace_shares k.0 k.1 other.lines))
     (λ i. (asked.1 i, asked.2 i)) refl $ fsplit ! $ drop ! $
-    move ! (1 ∷ 2 ∷ 3 ∷ []) $ opens ! tt PassState.the_row b o (λ vs. move ! (1 ∷ []) $ fsplit ! $
-    move ! (1 ∷ []) $ rewrite ! 0 (λ (k : Bool). ‵ (trace_owns k t me.number me.ready me.lines))
-    asked.0 refl $
-    -- [this pass; its marker; its cell; the open borrow, in three; what the other has seen; the
-    -- tokens]
-    move ! (0 ∷ 6 ∷ []) $
+    move ! (1 ∷ 2 ∷ 3 ∷ []) $ pass_out ! tt b o t me (asked.0, refl) $
+    -- [this pass; its two parts and its token; what the other has seen; the tokens]
+    move ! (0 ∷ 4 ∷ []) $
     use2 𝓛 (later (some (λ (ls : List Line). given (IsPrefix me.lines ls
     × IsPrefix other.lines ls × (made_by me.number ls ≡ made_by me.number me.lines))
     (‵ (trace_owns true t me.number me.ready ls)))))
     (begins.learns 𝓛 t me.number me.ready me.lines other.lines) $ await ! tt $
-    pick ! (λ ls. learn ! (λ so. let after : PassState.the_row.Denot =
-    record {
-      marker = record {};
-      bound = true;
-      block = t;
-      number = me.number;
-      ready =
-          me.ready;
-      lines = ls;
-    } in
-    move ! (1 ∷ 0 ∷ []) $ fjoin ! $ move ! (1 ∷ 0 ∷ 2 ∷ 3 ∷ 4 ∷ []) $
-    closes ! tt PassState.the_row after vs b o $
+    pick ! (λ ls. learn ! (λ so.
+    let after : PassState.the_row.Denot = a_pass t me.number me.ready ls in
+    pass_in ! tt b o (no_pass me) after $
     sets ! (of_opd ! (unit_lit !)) refl (tt, tt) $ feq_i ! (List Val) (vunit ∷ []) (vunit ∷ []) refl
     $
     -- [the result; two parts of this pass; its token; the other tokens]
-    move ! (3 ∷ 4 ∷ []) $ fjoin ! $ nothing ! $ nothing ! $ fjoin ! $
-    feq_i ! (List Val) (vptr b o ∷ []) (vptr b o ∷ []) refl $ move ! (0 ∷ 4 ∷ 5 ∷ []) $
-    fjoin3 ! $ fjoin ! $
+    move ! (3 ∷ 4 ∷ []) $ fjoin ! $ nothing ! $ nothing ! $ fjoin ! $ move ! (3 ∷ 4 ∷ 0 ∷ []) $
+    given_back ! b o $
     returns ! (look_at ! 0 refl) $ free_all ! refl $ keep ! (1 ∷ 0 ∷ 2 ∷ []) $
     by ! (ends 𝓛 f.ended stayed c y vunit tt (after, (tt, tt)) (tt, (tt, tt))
-    (fact_i 𝓤 _ (emp 𝓤) ((refl, refl, refl, refl), so.0, so.1, so.2)))))))))
+    (fact_i 𝓤 _ (emp 𝓤) ((refl, refl, refl, refl), so.0, so.1, so.2))))))))
