@@ -6,7 +6,7 @@ use mir.Syntax.{Fn, Callee, named}
 use mir.Val.{Val, vint, vptr}
 use base.Logic.{emp, via}
 use base.Share.{quarter}
-use base.Fml.{Lft, GName, Share, Fml, ftrue, feq, flt, fsep, flft, fobs, fbor, fhide}
+use base.Fml.{Lft, GName, Share, Fml, ftrue, feq, flt, fsep, flft, fobs, fbor}
 use prog.Model.{Model}
 use prog.Wp.{Closed}
 use types.Logic.{Logic}
@@ -20,22 +20,20 @@ use contract.Running.{Running, MachineTables, tables}
 use denote.Exit.{yes}
 use denote.RattleType.{owns, RattleType}
 use denote.Signature.{types_at, plain}
-use denote.Builtin.{RefOf, unit}
-use denote.Memory.{mem, hidden_shr}
+use denote.Builtin.{RefOf}
+use denote.Memory.{mem}
 use denote.Opens.{unhide}
 use denote.RawPtr.{Ptr, RawPtr, block_ptr, ptr_val, rawptr_vals, rawptr_Tells}
 use denote.Ref.{mut_vals, mut_Tells, shr_vals, shr_Tells}
 use denote.Steps.{nothing, heard}
-use denote.Struct.Lending.{lent_out}
 use denote.Param.{param}
 use denote.Triple.Clauses.{Ended, Clauses, closing, at_exit}
 use denote.Triple.Entry.{Args}
 use denote.Triple.Spec.{Meets}
 use denote.Triple.Walked.{Stays, stay_dropped, stay_ref, walk_of, Goes-dropped, Goes-ref}
-use Rattle.core.specs.contracts.marker.PhantomData as marker
 use Rattle.core.specs.Sync.RawAtomic.{asks, always}
 use Rattle.std.proofs.raw_atomic.Walks.{proved}
-use Rattle.logbook.proofs.Fields.{Token, ends}
+use Rattle.logbook.proofs.Fields.{ends}
 use Rattle.arc_owners.specs.count.Invariant.{BlockId, Line, Lease, lease_after, known, right, stake}
 use Rattle.arc_owners.specs.count.Invariant.{right_owns, end_tokens, claim_gain, trace_owns}
 use Rattle.arc_owners.specs.count.Invariant.{word_borrow}
@@ -56,6 +54,7 @@ use Rattle.arc_owners.proofs.count.Places as places
 use Rattle.arc_owners.proofs.count.Stakes as stakes
 use Rattle.arc_owners.proofs.count.Walks.{a_pass, no_pass, no_owner, an_owner, an_end, pass_out}
 use Rattle.arc_owners.proofs.count.Walks.{pass_in, owner_out, owner_in, ends_in, by_reference}
+use Rattle.arc_owners.proofs.count.Walks.{lodging_shown}
 use Rattle.arc_owners.proofs.count.Walks.{answered, given_back}
 
 abbrev Pass : RattleType
@@ -398,11 +397,7 @@ module _ {M : Type 1} {𝓤 : Ura M} (𝓛 : Logic 𝓤) (𝓜 : Model 𝓤 𝓛
         keep ! (8 ∷ 9 ∷ 15 ∷ 5 ∷ 6 ∷ 14 ∷ 1 ∷ 2 ∷ 12 ∷ 11 ∷ 16 ∷ 13 ∷ []) $
         -- [the owner, the pass and the end tokens; what says where the word lies; two tokens]
         brings 𝓛 R x t own p ! tt b₁ o₁ b₂ o₂ asked.0 asked.1 $ move ! (13 ∷ []) $
-        use1 𝓛 (‵ (hidden_shr (Token unit) κs.0 (record {}, tt) b o)
-        ⊛ ‵ (fhide (word_borrow t g.at g.lifetime)))
-        (lent_out 𝓛 WordBorrow.struct (WordBorrow.the_codes
-        (marker.the_row unit).coded) WordBorrow.the_heap WordBorrow.the_lent κs.0 g b o) $
-        split ! $ drop ! $ unhide ! $
+        lodging_shown ! b o g $
         rewrite ! 0 (λ (k : Ptr × ℕ). ‵ (word_borrow t k.0 k.1))
         (λ i. (asked.2.0 i, asked.2.1 i)) refl $
         move ! (0 ∷ 1 ∷ 2 ∷ 3 ∷ []) $ group ! 4 $

@@ -15,7 +15,7 @@ use types.SemTy.{Body}
 use types.Kit.{Item, Goal, Soaks, Step, step, ‵, raw, ◌⊛◌, some, given, later, mean, ◌$◌, ◌∵◌}
 use types.Kit.{ !, qed}
 use types.Kit.{move, drop, split, split3, group, fsplit, fsplit3, fjoin, fpick, fpack, pick, learn}
-use types.Kit.{fjoin3, feq_i, flt_i, show, check, done, rewrite, updating, await, now, use1, use2}
+use types.Kit.{fjoin3, feq_i, flt_i, show, check, done, rewrite, updating, await, now, use0, use1, use2}
 use contract.Running.{Running, MachineTables, tables}
 use contract.Shared.{Lends-one}
 use denote.RattleType.{RattleType}
@@ -28,14 +28,15 @@ use denote.RawPtr.{block_ptr}
 use denote.Steps.{nothing, opens, closes}
 use Rattle.core.specs.Sync.RawAtomic.{asks, always}
 use Rattle.std.proofs.raw_atomic.Calls.{fm, found}
-use Rattle.logbook.proofs.Fields.{Token}
+use Rattle.logbook.proofs.Fields.{token, Token, token_made}
 use Rattle.arc_owners.specs.declared.history.entry.Entry.{Entry}
 use Rattle.arc_owners.specs.count.Invariant.{BlockId, Line, Lease, known, right, stake, word_shares}
 use Rattle.arc_owners.specs.count.Invariant.{right_owns, right_shares, right_shown, trace_owns}
-use Rattle.arc_owners.specs.count.Invariant.{end_tokens}
+use Rattle.arc_owners.specs.count.Invariant.{end_tokens, trace_shares, word_borrow}
 use Rattle.arc_owners.specs.contracts.count.word.OwnerToken as OwnerToken
 use Rattle.arc_owners.specs.contracts.count.word.PassState as PassState
 use Rattle.arc_owners.specs.contracts.count.word.EndTokens as EndTokens
+use Rattle.arc_owners.specs.contracts.count.word.WordBorrow as WordBorrow
 use Rattle.arc_owners.proofs.count.Signs.{signs}
 use Rattle.arc_owners.proofs.count.Operations.{Operation, with_entry, left_by, left}
 use Rattle.arc_owners.proofs.count.Moves.{Steps}
@@ -144,6 +145,30 @@ module _ {M : Type 1} {𝓤 : Ura M} {𝓛 : Logic 𝓤} {K : Type 0} {Γ : List
       ∷ Γ) G (‵ P ∷ ‵ Q ∷ ‵ later ∷ Γ) G
   given_back t b o = step (λ s. feq_i t (List Val) (vptr b o ∷ []) (vptr b o ∷ []) refl $ fjoin3 t $
       fjoin t $ s)
+
+  -- a token made anew, beside what its type has
+  pub tokened : K → (X : RattleType) {P : Fml}
+      → Step K 𝓛 (‵ (fsep ((Token X).own_val (record {}, tt) (token ∷ [])) P) ∷ Γ) G (‵ P ∷ Γ) G
+  tokened t X = step (λ s. use0 𝓛 (‵ ((Token X).own_val (record {}, tt) (token ∷ [])))
+      (token_made X 𝓛) $ fjoin t $ s)
+
+  -- what a `&` to a pass, and to what says where a word lies, shows
+  pub pass_shown : K → {κ : Lft} (b o : ℕ) (h : Pass.Denot)
+      → Step K 𝓛 (‵ (trace_shares h.bound h.block h.lines) ∷ Γ) G
+      (‵ (hidden_shr Pass κ h b o) ∷ Γ) G
+  pass_shown t {κ} b o h = step (λ s. use1 𝓛 (‵ (hidden_shr (Token unit) κ (record {}, tt) b o)
+      ⊛ ‵ (fhide (trace_shares h.bound h.block h.lines)))
+      (lent_out 𝓛 PassState.struct (PassState.the_codes (marker.the_row unit).coded)
+      PassState.the_heap PassState.the_lent κ h b o) $ split t $ drop t $ unhide t $ s)
+
+  pub lodging_shown : K → {κ : Lft} (b o : ℕ) (g : WordBorrow.the_row.Denot)
+      → Step K 𝓛 (‵ (word_borrow g.block g.at g.lifetime) ∷ Γ) G
+      (‵ (hidden_shr WordBorrow.the_row κ g b o) ∷ Γ) G
+  lodging_shown t {κ} b o g = step (λ s. use1 𝓛
+      (‵ (hidden_shr (Token unit) κ (record {}, tt) b o)
+      ⊛ ‵ (fhide (word_borrow g.block g.at g.lifetime)))
+      (lent_out 𝓛 WordBorrow.struct (WordBorrow.the_codes (marker.the_row unit).coded)
+      WordBorrow.the_heap WordBorrow.the_lent κ g b o) $ split t $ drop t $ unhide t $ s)
 
   module _ (R : RattleType) where
     swaps_owner : K → Soaks G → {κ : Lft} {q : Share} {γ : GName} (b o : ℕ) (h h' : (Own R).Denot)

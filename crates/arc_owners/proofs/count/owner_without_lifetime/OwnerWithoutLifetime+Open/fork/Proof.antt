@@ -5,7 +5,7 @@ use mir.Val.{Val, vptr}
 use base.Logic.{SProp, emp}
 use base.Fml.{ftrue, fsep, flft, fhide}
 use types.Kit.{‵, ◌⊛◌, some, given, later, ◌$◌, ◌∵◌, !, qed, by, move, keep, drop, split, fsplit}
-use types.Kit.{fjoin, pick, learn, use0, use1, await}
+use types.Kit.{fjoin, pick, learn, use1, await}
 use types.Run.{no_more, and_then, returns, enter}
 use types.ByLocal.{alloc_all, pass_all, free_all, look_at, get, sets}
 use types.Part.{agg}
@@ -23,13 +23,14 @@ use denote.Struct.Lending.{lent_out}
 use denote.Triple.Walked.{Stays, stay_dropped, walk_of, Goes-dropped}
 use Rattle.core.specs.contracts.marker.PhantomData as marker
 use Rattle.std.proofs.raw_atomic.Walks.{proved}
-use Rattle.logbook.proofs.Fields.{token, Token, token_made, ends}
+use Rattle.logbook.proofs.Fields.{token, Token, ends}
 use Rattle.arc_owners.specs.count.Invariant.{Line, trace_owns}
 use Rattle.arc_owners.specs.contracts.count.owner_without_lifetime.OwnerWithoutLifetime as Rest
 use Rattle.arc_owners.specs.contracts.mark.Open.{the_row}
 use mathlib.Core.List.{IsPrefix}
 use Rattle.arc_owners.specs.count.Invariant.{made_by, right_shown}
 use Rattle.arc_owners.proofs.count.Begins as begins
+use Rattle.arc_owners.proofs.count.Walks.{tokened}
 use Rattle.arc_owners.specs.contracts.count.owner_without_lifetime.OwnerWithoutLifetime+Open.fork as f
 use Rattle.arc_owners.proofs.count.owner_without_lifetime.OwnerWithoutLifetime+Open.fork.Statement.{statement}
 use Rattle.arc_owners.proofs.count.owner_without_lifetime.OwnerWithoutLifetime+Open.fork.Code as code
@@ -74,7 +75,7 @@ fork_spec 𝓤 𝓛 𝓜 𝓡 wired =
     (begins.forks 𝓛 own.block own.born asked) $ await ! tt $ pick ! (λ x. learn ! (λ so.
     sets ! (agg ! (no_more !)) refl (tt, tt) $ sets ! (agg ! (and_then ! (get ! refl) (no_more !)))
     refl (tt, (tt, tt)) $
-    use0 𝓛 (‵ ((Token unit).own_val (record {}, tt) (token ∷ []))) (token_made unit 𝓛) $ fjoin ! $
+    tokened ! unit $
     nothing ! $ nothing ! $ fjoin ! $
     returns ! (look_at ! 0 refl) $ free_all ! refl $ keep ! (2 ∷ 0 ∷ 1 ∷ []) $
     by ! (ends 𝓛 f.ended stayed c y token

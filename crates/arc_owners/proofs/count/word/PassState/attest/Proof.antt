@@ -3,29 +3,25 @@ use Rattle.std.proofs.Common.{◌≡◌, true, List, [], ◌∷◌, refl}
 use mir.Syntax.{named}
 use mir.Val.{Val, vunit, vptr}
 use base.Logic.{SProp}
-use base.Fml.{ftrue, fsep, flft, fhide}
+use base.Fml.{ftrue, fsep, flft}
 use types.Kit.{‵, raw, group, frame, suffices, ◌⊛◌, given, feq_i, done, later, ◌$◌, ◌∵◌, !, qed}
-use types.Kit.{move, keep, drop, split, fsplit, fjoin, learn, use1, await}
+use types.Kit.{move, keep, split, fsplit, fjoin, learn, use1, await}
 use types.Run.{unit_lit, of_opd, returns, enter}
 use types.ByLocal.{alloc_all, pass_all, free_all, look_at, sets}
 use contract.Running.{tables}
 use denote.Exit.{yes}
 use denote.RattleType.{owns}
 use denote.Signature.{types_at, plain}
-use denote.Builtin.{RefOf, unit}
+use denote.Builtin.{RefOf}
 use denote.Ref.{shr_vals, shr_Tells}
-use denote.Memory.{hidden_shr}
-use denote.Opens.{unhide}
 use denote.Steps.{nothing}
-use denote.Struct.Lending.{lent_out}
 use denote.Triple.Walked.{says, Stays, stay_dropped, walk_of, ends_at, Goes-dropped}
-use Rattle.core.specs.contracts.marker.PhantomData as marker
 use Rattle.std.proofs.raw_atomic.Walks.{proved}
-use Rattle.logbook.proofs.Fields.{Token}
-use Rattle.arc_owners.specs.count.Invariant.{entries_of, trace_shares, told_of}
+use Rattle.arc_owners.specs.count.Invariant.{entries_of, told_of}
 use Rattle.arc_owners.specs.history.Histories.{IsLegal}
 use Rattle.arc_owners.specs.contracts.count.word.PassState as PassState
 use Rattle.arc_owners.proofs.count.Begins as begins
+use Rattle.arc_owners.proofs.count.Walks.{pass_shown}
 use Rattle.arc_owners.specs.contracts.count.word.PassState.attest as f
 use Rattle.arc_owners.proofs.count.word.PassState.attest.Statement.{statement}
 use Rattle.arc_owners.proofs.count.word.PassState.attest.Code as code
@@ -54,11 +50,7 @@ attest_spec 𝓤 𝓛 𝓜 𝓡 wired =
     -- [the pass; the tokens]
     enter ! 𝓣.C 𝓣.Λ fn (vptr a.0.ref_ptr.0 a.0.ref_ptr.1 ∷ []) Post $
     alloc_all ! (λ l. pass_all ! refl ((tt, tt), tt) $
-    use1 𝓛 (‵ (hidden_shr (Token unit) κs.0 (record {}, tt) a.0.ref_ptr.0 a.0.ref_ptr.1) ⊛ ‵
-    (fhide (trace_shares me.bound t me.lines)))
-    (lent_out 𝓛 PassState.struct (PassState.the_codes (marker.the_row unit).coded)
-    PassState.the_heap PassState.the_lent κs.0 me a.0.ref_ptr.0 a.0.ref_ptr.1) $ split ! $
-    drop ! $ unhide ! $
+    pass_shown ! a.0.ref_ptr.0 a.0.ref_ptr.1 me $
     use1 𝓛 (later (given (me.bound ≡ true → IsLegal t.most t.began (entries_of me.lines))
     (‵ (told_of me.bound t me.lines)))) (begins.attests 𝓛 t me.bound me.lines) $ await ! tt $
     learn ! (λ legal.

@@ -3,9 +3,9 @@ use Rattle.std.proofs.Common.{◌≡◌, Bool, true, List, [], ◌∷◌, refl}
 use mir.Syntax.{named}
 use mir.Val.{Val, vunit, vptr}
 use base.Logic.{SProp, emp}
-use base.Fml.{Fml, ftrue, fsep, flft, fhide}
+use base.Fml.{Fml, ftrue, fsep, flft}
 use types.Kit.{‵, ◌⊛◌, some, given, later, ◌$◌, ◌∵◌, !, qed, by, move, keep, drop, split, fsplit}
-use types.Kit.{fsplit3, fjoin, pick, learn, use1, use2, await, rewrite, feq_i}
+use types.Kit.{fsplit3, fjoin, pick, learn, use2, await, rewrite, feq_i}
 use types.Run.{unit_lit, of_opd, returns, enter}
 use types.ByLocal.{alloc_all, pass_all, free_all, look_at, sets}
 use contract.Monad.{fact_i}
@@ -13,21 +13,18 @@ use contract.Running.{tables}
 use denote.Exit.{yes}
 use denote.RattleType.{owns}
 use denote.Signature.{types_at, plain}
-use denote.Builtin.{RefOf, unit}
+use denote.Builtin.{RefOf}
 use denote.Ref.{mut_vals, mut_Tells, shr_vals, shr_Tells}
-use denote.Memory.{hidden_shr}
-use denote.Opens.{unhide}
 use denote.Steps.{nothing}
-use denote.Struct.Lending.{lent_out}
 use denote.Triple.Walked.{Stays, stay_dropped, stay_ref, walk_of, Goes-dropped, Goes-ref}
-use Rattle.core.specs.contracts.marker.PhantomData as marker
 use Rattle.std.proofs.raw_atomic.Walks.{proved}
-use Rattle.logbook.proofs.Fields.{Token, ends}
+use Rattle.logbook.proofs.Fields.{ends}
 use Rattle.arc_owners.specs.count.Invariant.{BlockId, Line, trace_owns}
 use Rattle.arc_owners.specs.contracts.count.word.PassState as PassState
 use mathlib.Core.List.{IsPrefix}
 use Rattle.arc_owners.specs.count.Invariant.{made_by, trace_shares}
 use Rattle.arc_owners.proofs.count.Begins as begins
+use Rattle.arc_owners.proofs.count.Walks.{pass_shown}
 use Rattle.arc_owners.proofs.count.Walks.{a_pass, no_pass, pass_out, pass_in, given_back}
 use Rattle.arc_owners.specs.contracts.count.word.PassState.learn as f
 use Rattle.arc_owners.proofs.count.word.PassState.learn.Statement.{statement}
@@ -69,10 +66,7 @@ learn_spec 𝓤 𝓛 𝓜 𝓡 wired =
     -- [the other pass; two parts of this one; its token; the other tokens]
     enter ! 𝓣.C 𝓣.Λ fn (vptr b o ∷ vptr b₁ o₁ ∷ []) Post $
     alloc_all ! (λ l. pass_all ! refl ((tt, tt), ((tt, tt), tt)) $
-    use1 𝓛 (‵ (hidden_shr (Token unit) κs.1.0 (record {}, tt) b₁ o₁) ⊛ ‵
-    (fhide (trace_shares other.bound other.block other.lines)))
-    (lent_out 𝓛 PassState.struct (PassState.the_codes (marker.the_row unit).coded)
-    PassState.the_heap PassState.the_lent κs.1.0 other b₁ o₁) $ split ! $ drop ! $ unhide ! $
+    pass_shown ! b₁ o₁ other $
     rewrite ! 0 (λ (k : Bool × BlockId). ‵ (trace_shares k.0 k.1 other.lines))
     (λ i. (asked.1 i, asked.2 i)) refl $ fsplit ! $ drop ! $
     move ! (1 ∷ 2 ∷ 3 ∷ []) $ pass_out ! tt b o t me (asked.0, refl) $

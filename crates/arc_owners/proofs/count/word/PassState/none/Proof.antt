@@ -3,7 +3,7 @@ use Rattle.std.proofs.Common.{false, [], ◌∷◌, refl}
 use mir.Val.{Val}
 use base.Logic.{SProp, emp}
 use base.Fml.{ftrue}
-use types.Kit.{‵, raw, ◌⊛◌, ◌$◌, ◌∵◌, !, qed, by, keep, split, fjoin, use0}
+use types.Kit.{‵, raw, ◌⊛◌, ◌$◌, ◌∵◌, !, qed, by, keep, split}
 use types.Run.{no_more, and_then, returns, enter}
 use types.ByLocal.{alloc_all, pass_all, free_all, look_at, get, sets}
 use types.Part.{agg}
@@ -15,8 +15,9 @@ use denote.Builtin.{unit}
 use denote.Steps.{nothing}
 use denote.Triple.Walked.{Stays, walk_of}
 use Rattle.std.proofs.raw_atomic.Walks.{proved}
-use Rattle.logbook.proofs.Fields.{token, Token, token_made, ends}
+use Rattle.logbook.proofs.Fields.{token, ends}
 use Rattle.arc_owners.specs.history.Histories.{Counted}
+use Rattle.arc_owners.proofs.count.Walks.{tokened}
 use Rattle.arc_owners.specs.contracts.count.word.PassState.none as f
 use Rattle.arc_owners.proofs.count.word.PassState.none.Statement.{statement}
 use Rattle.arc_owners.proofs.count.word.PassState.none.Code as code
@@ -33,8 +34,7 @@ none_spec 𝓤 𝓛 𝓜 𝓡 wired =
     qed 𝓛 ((‵ ftrue ⊛ ‵ (owns (types_at f.ended.signature.params κs) a y.0.4)) ∷ raw
     ((c κs a).requires gh) ∷ []) ∵ keep ! (0 ∷ []) $ split ! $ keep ! (0 ∷ []) $
     enter ! 𝓣.C 𝓣.Λ fn [] Post $ alloc_all ! (λ l. pass_all ! refl tt $
-    nothing ! $ use0 𝓛 (‵ ((Token unit).own_val (record {}, tt) (token ∷ []))) (token_made unit 𝓛) $
-    fjoin ! $ sets ! (agg ! (no_more !)) refl (tt, tt) $
+    nothing ! $ tokened ! unit $ sets ! (agg ! (no_more !)) refl (tt, tt) $
     sets ! (agg ! (and_then ! (get ! refl) (no_more !))) refl (tt, (tt, tt)) $ nothing ! $
     returns ! (look_at ! 0 refl) $ free_all ! refl $ keep ! (2 ∷ 0 ∷ 1 ∷ []) $
     by ! (ends 𝓛 f.ended stayed c y token

@@ -3,9 +3,8 @@ use Rattle.std.proofs.Common.{[], ◌∷◌, refl}
 use mir.Syntax.{named}
 use mir.Val.{Val, vptr}
 use base.Logic.{SProp, emp}
-use base.Fml.{ftrue, fsep, flft, fhide}
-use types.Kit.{‵, raw, ◌⊛◌, ◌$◌, ◌∵◌, !, qed, by, move, keep, drop, split, fsplit, fjoin, use0}
-use types.Kit.{use1}
+use base.Fml.{ftrue, fsep, flft}
+use types.Kit.{‵, raw, ◌⊛◌, ◌$◌, ◌∵◌, !, qed, by, move, keep, split, fsplit, fjoin}
 use types.Run.{no_more, and_then, returns, enter}
 use types.ByLocal.{alloc_all, pass_all, free_all, look_at, get, sets}
 use types.Part.{agg}
@@ -16,16 +15,13 @@ use denote.RattleType.{owns}
 use denote.Signature.{types_at, plain}
 use denote.Builtin.{RefOf, unit}
 use denote.Ref.{shr_vals, shr_Tells}
-use denote.Memory.{hidden_shr}
-use denote.Opens.{unhide}
 use denote.Steps.{nothing}
-use denote.Struct.Lending.{lent_out}
 use denote.Triple.Walked.{Stays, stay_dropped, walk_of, Goes-dropped}
 use Rattle.core.specs.contracts.marker.PhantomData as marker
 use Rattle.std.proofs.raw_atomic.Walks.{proved}
-use Rattle.logbook.proofs.Fields.{token, Token, token_made, ends}
-use Rattle.arc_owners.specs.count.Invariant.{word_borrow}
+use Rattle.logbook.proofs.Fields.{token, ends}
 use Rattle.arc_owners.specs.contracts.count.word.WordBorrow as WordBorrow
+use Rattle.arc_owners.proofs.count.Walks.{lodging_shown, tokened}
 use Rattle.arc_owners.specs.contracts.count.word.WordBorrow.again as f
 use Rattle.arc_owners.proofs.count.word.WordBorrow.again.Statement.{statement}
 use Rattle.arc_owners.proofs.count.word.WordBorrow.again.Code as code
@@ -54,14 +50,10 @@ again_spec 𝓤 𝓛 𝓜 𝓡 wired =
     -- [what is lent of it; the tokens]
     enter ! 𝓣.C 𝓣.Λ fn (vptr a.0.ref_ptr.0 a.0.ref_ptr.1 ∷ []) Post $
     alloc_all ! (λ l. pass_all ! refl ((tt, tt), tt) $
-    use1 𝓛 (‵ (hidden_shr (Token unit) κs.0 (record {}, tt) a.0.ref_ptr.0 a.0.ref_ptr.1) ⊛ ‵
-    (fhide (word_borrow me.block me.at me.lifetime)))
-    (lent_out 𝓛 WordBorrow.struct (WordBorrow.the_codes (marker.the_row unit).coded)
-    WordBorrow.the_heap WordBorrow.the_lent κs.0 me a.0.ref_ptr.0 a.0.ref_ptr.1) $ split ! $
-    drop ! $ unhide ! $
+    lodging_shown ! a.0.ref_ptr.0 a.0.ref_ptr.1 me $
     sets ! (agg ! (no_more !)) refl (tt, tt) $ sets ! (agg ! (and_then ! (get ! refl) (no_more !)))
     refl (tt, (tt, tt)) $
-    use0 𝓛 (‵ ((Token unit).own_val (record {}, tt) (token ∷ []))) (token_made unit 𝓛) $ fjoin ! $
+    tokened ! unit $
     nothing ! $ nothing ! $ fjoin ! $
     returns ! (look_at ! 0 refl) $ free_all ! refl $ keep ! (2 ∷ 0 ∷ 1 ∷ []) $
     by ! (ends 𝓛 f.ended stayed c y token

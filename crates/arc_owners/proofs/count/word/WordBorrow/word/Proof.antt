@@ -4,10 +4,10 @@ use Rattle.std.proofs.Common.{◌≡◌, Bool, ℕ, List, [], ◌∷◌, ◌++�
 use mir.Syntax.{named}
 use mir.Val.{Val, vptr}
 use base.Logic.{SProp, ent, emp, never, id⊢}
-use base.Fml.{Lft, ftrue, fsep, flft, fhide, fshr_bor}
+use base.Fml.{Lft, ftrue, fsep, flft, fshr_bor}
 use prog.Wp.{WpFn}
 use types.Kit.{‵, ◌⊛◌, at_ret, ◌$◌, ◌∵◌, !, qed, by, move, keep, drop, split, fsplit, fjoin, fpick}
-use types.Kit.{fpack, suffices, use0, use1, use2, rewrite, feq_i, raw}
+use types.Kit.{fpack, suffices, use0, use2, rewrite, feq_i, raw}
 use types.Run.{stop, addr, of_opd, first, blocks, exec, returns, enter}
 use types.ByLocal.{alloc_all, pass_all, free_all, look_at, get, through, sets, sets_last, env}
 use contract.Monad.{fact_i, fact}
@@ -18,20 +18,18 @@ use contract.Running.{tables}
 use denote.Exit.{yes}
 use denote.RattleType.{owns, RattleType}
 use denote.Signature.{types_at, plain}
-use denote.Builtin.{RefOf, unit}
+use denote.Builtin.{RefOf}
 use denote.Ref.{shr_vals, shr_Tells}
-use denote.Memory.{hidden_shr}
-use denote.Opens.{unhide, hide}
+use denote.Opens.{hide}
 use denote.RawPtr.{Ptr, RawPtr, block_ptr, ptr_val, in_a_block, rawptr_vals, rawptr_Tells}
 use denote.Steps.{nothing, heard}
-use denote.Struct.Lending.{lent_out}
 use denote.Triple.Walked.{Stays, stay_dropped, walk_of, Goes-dropped}
-use Rattle.core.specs.contracts.marker.PhantomData as marker
 use Rattle.core.proofs.alloc.Shapes.{after}
 use Rattle.std.proofs.raw_atomic.Walks.{proved}
-use Rattle.logbook.proofs.Fields.{Token, ends}
+use Rattle.logbook.proofs.Fields.{ends}
 use Rattle.arc_owners.specs.count.Invariant.{tokens, word_borrow, lent}
 use Rattle.arc_owners.specs.contracts.count.word.WordBorrow as WordBorrow
+use Rattle.arc_owners.proofs.count.Walks.{lodging_shown}
 use Rattle.arc_owners.proofs.count.Walks.{owner_shown}
 use Rattle.arc_owners.specs.contracts.count.word.WordBorrow.word as f
 use Rattle.arc_owners.proofs.count.AtType.{layouts_at, code_at, Right}
@@ -79,10 +77,7 @@ word_spec 𝓤 𝓛 𝓜 𝓡 wired T L =
     move ! (1 ∷ []) $ fsplit ! $ fsplit ! $ move ! (2 ∷ []) $ fsplit ! $ drop ! $ fsplit ! $
     fsplit ! $ keep ! (4 ∷ 1 ∷ 5 ∷ []) $
     -- [what is lent of the word borrow, and of the owner; the tokens]
-    use1 𝓛 (‵ (hidden_shr (Token unit) κ (record {}, tt) b o) ⊛ ‵
-    (fhide (word_borrow me.block me.at me.lifetime)))
-    (lent_out 𝓛 WordBorrow.struct (WordBorrow.the_codes (marker.the_row unit).coded)
-    WordBorrow.the_heap WordBorrow.the_lent κ me b o) $ split ! $ drop ! $ unhide ! $
+    lodging_shown ! b o me $
     move ! (1 ∷ []) $
     owner_shown R ! b₂ o₂ own.block own (asked.1, refl) $ fsplit ! $ drop ! $ fsplit ! $ drop ! $
     rewrite ! 0 (λ (k : Bool). ‵ (tokens k own.lease κ)) asked.2 refl $
