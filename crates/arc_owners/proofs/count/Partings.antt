@@ -144,8 +144,8 @@ module _ {M : Type 1} {𝓤 : Ura M} (𝓛 : Logic 𝓤) (R : RattleType) where
         {γ₁ γ₂ : GName} where
       -- before it: what the owner and the pass have is taken out
       brings : K → Soaks G → (b₁ o₁ b₂ o₂ : ℕ) → IsHeld t h → IsOf t p
-          → Step K 𝓛 (‵ (trace_owns true t p.number p.ready p.lines) ∷ ‵ (right t h.owner h.lease quarter)
-          ∷ ‵ (stake h.lease) ∷ ‵ (known t h.born) ∷ held_by (Own R) γ₁ (no_owner R h) κ₁ q₁ b₁ o₁
+          → Step K 𝓛 (‵ (trace_owns true t p.number p.ready p.lines)
+          ∷ ‵ (right t h.owner h.lease quarter) ∷ ‵ (stake h.lease) ∷ ‵ (known t h.born) ∷ held_by (Own R) γ₁ (no_owner R h) κ₁ q₁ b₁ o₁
           (held_by Pass γ₂ (no_pass p) κ₂ q₂ b₂ o₂ Γ)) G
           (held_by (Own R) γ₁ h κ₁ q₁ b₁ o₁ (held_by Pass γ₂ p κ₂ q₂ b₂ o₂ Γ)) G
       brings k z b₁ o₁ b₂ o₂ held is = step (λ s. owner_out R k z b₁ o₁ t h (held.0, held.1) $
@@ -164,7 +164,7 @@ module _ {M : Type 1} {𝓤 : Ura M} (𝓛 : Logic 𝓤) (R : RattleType) where
           (held_by End γ₃ e κ₃ q₃ b₃ o₃ Γ))) G
       leaves k z b₁ o₁ b₂ o₂ b₃ o₃ e n so = fpick k (λ before. fsplit k $ fpick k (λ told. drop k $
           fsplit k $ let kept : (Own R).Denot = x.kept t h n in
-          -- [the pass; what is gained; what the owner knows; the owner, the pass and the end tokens]
+          -- [the pass; what is gained; what the owner knows; the owner, the pass, the end tokens]
           move k (2 ∷ 1 ∷ []) $ use2 𝓛 (‵ (right_owns kept.held kept.block kept.owner kept.lease
           kept.born) ⊛ ‵ (end_tokens h.lease (eqb n 1))) (x.parts t h n before) $ split k $
           -- [its right; what its end leaves; the pass; the owner, the pass and the end tokens]
@@ -219,7 +219,10 @@ module _ {M : Type 1} {𝓤 : Ura M} (𝓛 : Logic 𝓤) (𝓜 : Model 𝓤 𝓛
           stay_dropped (RefOf (0 ∷ []) tt (plain (λ _. Word.the_row)) (λ _. tt)) yes,
           (
             stay_ref (1 ∷ []) tt (plain (λ _. Own R)),
-            (stay_ref (2 ∷ []) tt (plain (λ _. Pass)), (stay_ref (3 ∷ []) tt (plain (λ _. End)), tt)),
+            (
+              stay_ref (2 ∷ []) tt (plain (λ _. Pass)),
+              (stay_ref (3 ∷ []) tt (plain (λ _. End)), tt),
+            ),
           ),
         ) in
         proved 𝓛 En hs c 𝓜 𝓡 (
@@ -287,8 +290,8 @@ module _ {M : Type 1} {𝓤 : Ura M} (𝓛 : Logic 𝓤) (𝓜 : Model 𝓤 𝓛
         let after : Pass.Denot = passed 𝓛 R x t own p n before in
         let left : End.Denot = an_end (eqb n 1) own.lease in
         gives_back R ! n fits b₁ o₁ b₂ o₂ b₃ o₃ kept after left $ nothing ! $ fjoin ! $ now ! $
-        keep ! (1 ∷ 0 ∷ 2 ∷ []) $ by ! (ends 𝓛 En hs c y (vint w64 n) n (tt, (kept, (after, (left, tt))))
-        (tt, (tt, (tt, (tt, tt)))) (tells κs a gh n before told))))))
+        keep ! (1 ∷ 0 ∷ 2 ∷ []) $ by ! (ends 𝓛 En hs c y (vint w64 n) n
+        (tt, (kept, (after, (left, tt)))) (tt, (tt, (tt, (tt, tt)))) (tells κs a gh n before told))))))
         (call b o b₁ o₁ b₂ o₂ b₃ o₃ P))
 
   abbrev At : Ended
@@ -319,7 +322,8 @@ module _ {M : Type 1} {𝓤 : Ura M} (𝓛 : Logic 𝓤) (𝓜 : Model 𝓤 𝓛
         )))
         → (k : Callee) (fn : Fn) → Closed 𝓤 H 𝓣.C 𝓣.Λ k fn → (j : Callee) (ws : List Val)
         → ((place : Ptr) (b o b₁ o₁ b₂ o₂ b₃ o₃ : ℕ) → IsCall 𝓛 𝓜 𝓡 fn
-        (ptr_val place ∷ vptr b o ∷ vptr b₁ o₁ ∷ vptr b₂ o₂ ∷ vptr b₃ o₃ ∷ []) j (ptr_val place ∷ ws))
+        (ptr_val place ∷ vptr b o ∷ vptr b₁ o₁ ∷ vptr b₂ o₂ ∷ vptr b₃ o₃ ∷ [])
+        j (ptr_val place ∷ ws))
         → ((t : BlockId) (i : ℕ) (l : Lease) (place : Ptr) (out : ℕ → Fml)
         → asks 𝓛 place (x.op t i l).next always out ⊢ Answers 𝓛 𝓜 𝓡 j (ptr_val place ∷ ws) out)
         → Meets 𝓛 At.signature (𝓣.C k) (closing 𝓛 At c)
@@ -330,7 +334,10 @@ module _ {M : Type 1} {𝓤 : Ura M} (𝓛 : Logic 𝓤) (𝓜 : Model 𝓤 𝓛
             stay_dropped (RefOf (0 ∷ []) tt (plain (λ _. WordBorrow.the_row)) (λ _. tt)) yes,
             (
               stay_ref (1 ∷ []) tt (plain (λ _. Own R)),
-              (stay_ref (2 ∷ []) tt (plain (λ _. Pass)), (stay_ref (3 ∷ []) tt (plain (λ _. End)), tt)),
+              (
+                stay_ref (2 ∷ []) tt (plain (λ _. Pass)),
+                (stay_ref (3 ∷ []) tt (plain (λ _. End)), tt),
+              ),
             ),
           ),
         ) in
@@ -410,7 +417,8 @@ module _ {M : Type 1} {𝓤 : Ura M} (𝓛 : Logic 𝓤) (𝓜 : Model 𝓤 𝓛
         let kept : (Own R).Denot = x.kept t own n in
         let after : Pass.Denot = passed 𝓛 R x t own p n before in
         let left : End.Denot = an_end (eqb n 1) own.lease in
-        gives_back R ! n fits b₁ o₁ b₂ o₂ b₃ o₃ kept after left $ nothing ! $ fjoin ! $ nothing ! $ fjoin ! $
-        now ! $ keep ! (1 ∷ 0 ∷ 2 ∷ []) $ by ! (ends 𝓛 At hs c y (vint w64 n) n
-        (tt, (tt, (kept, (after, (left, tt))))) (tt, (tt, (tt, (tt, (tt, tt))))) (tells κs a gh n before told))))))
+        gives_back R ! n fits b₁ o₁ b₂ o₂ b₃ o₃ kept after left $ nothing ! $ fjoin ! $
+        nothing ! $ fjoin ! $ now ! $ keep ! (1 ∷ 0 ∷ 2 ∷ []) $ by ! (ends 𝓛 At hs c y (vint w64 n) n
+        (tt, (tt, (kept, (after, (left, tt))))) (tt, (tt, (tt, (tt, (tt, tt)))))
+        (tells κs a gh n before told))))))
         (call place b o b₁ o₁ b₂ o₂ b₃ o₃ P))

@@ -74,9 +74,7 @@ fork_spec 𝓤 𝓛 𝓜 𝓡 wired =
     × (made_by x.0 x.1 ≡ [])) (‵ (trace_owns true own.block x.0 false x.1)))))
     (begins.forks 𝓛 own.block own.born asked) $ await ! tt $ pick ! (λ x. learn ! (λ so.
     sets ! (agg ! (no_more !)) refl (tt, tt) $ sets ! (agg ! (and_then ! (get ! refl) (no_more !)))
-    refl (tt, (tt, tt)) $
-    tokened ! unit $
-    nothing ! $ nothing ! $ fjoin ! $
+    refl (tt, (tt, tt)) $ tokened ! unit $ nothing ! $ nothing ! $ fjoin ! $
     returns ! (look_at ! 0 refl) $ free_all ! refl $ keep ! (2 ∷ 0 ∷ 1 ∷ []) $
     by ! (ends 𝓛 f.ended stayed c y token
     (record {

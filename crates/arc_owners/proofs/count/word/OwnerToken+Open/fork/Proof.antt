@@ -63,15 +63,13 @@ fork_spec 𝓤 𝓛 𝓜 𝓡 wired =
     -- [the owner; the tokens]
     enter ! 𝓣.C 𝓣.Λ fn (vptr a.0.ref_ptr.0 a.0.ref_ptr.1 ∷ []) Post $
     alloc_all ! (λ l. pass_all ! refl ((tt, tt), tt) $
-    owner_shown R ! a.0.ref_ptr.0 a.0.ref_ptr.1 own.block own (asked.0, refl) $ fsplit ! $ move ! (1 ∷ []) $ drop ! $ use1 𝓛 (‵ (known own.block own.born))
-    (id⊢ 𝓤 _) $
+    owner_shown R ! a.0.ref_ptr.0 a.0.ref_ptr.1 own.block own (asked.0, refl) $ fsplit ! $
+    move ! (1 ∷ []) $ drop ! $ use1 𝓛 (‵ (known own.block own.born)) (id⊢ 𝓤 _) $
     use1 𝓛 (later (some (λ (x : ℕ × List Line). given (IsPrefix own.born x.1
     × (made_by x.0 x.1 ≡ [])) (‵ (trace_owns true own.block x.0 false x.1)))))
     (begins.forks 𝓛 own.block own.born asked.1) $ await ! tt $ pick ! (λ x. learn ! (λ so.
     sets ! (agg ! (no_more !)) refl (tt, tt) $ sets ! (agg ! (and_then ! (get ! refl) (no_more !)))
-    refl (tt, (tt, tt)) $
-    tokened ! unit $
-    nothing ! $ nothing ! $ fjoin ! $
+    refl (tt, (tt, tt)) $ tokened ! unit $ nothing ! $ nothing ! $ fjoin ! $
     returns ! (look_at ! 0 refl) $ free_all ! refl $ keep ! (2 ∷ 0 ∷ 1 ∷ []) $
     by ! (ends 𝓛 f.ended stayed c y token
     (record {

@@ -61,8 +61,7 @@ lives_apart_spec 𝓤 𝓛 𝓜 𝓡 wired T L =
     -- [two parts of the sole owner; the other; the tokens, last first]
     enter ! 𝓣.C 𝓣.Λ fn (vptr b₁ o₁ ∷ vptr b o ∷ []) Post $
     alloc_all ! (λ l. pass_all ! refl ((tt, tt), ((tt, tt), tt)) $
-    move ! (2 ∷ []) $
-    owner_told (param 0 T) ! b₁ o₁ other asked.0 $
+    move ! (2 ∷ []) $ owner_told (param 0 T) ! b₁ o₁ other asked.0 $
     -- [the other; two parts of the sole owner; its token; the other's token]
     move ! (1 ∷ 2 ∷ 3 ∷ []) $ right_out (param 0 T) ! tt b o me sole (asked.1, refl) $
     -- [the sole owner; its two parts and its token; the other; its token]

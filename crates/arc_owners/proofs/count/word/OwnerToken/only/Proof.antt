@@ -14,7 +14,7 @@ use types.ByLocal.{alloc_all, pass_all, free_all, look_at, sets}
 use contract.Monad.{fact_i, fact}
 use contract.Running.{tables}
 use denote.Exit.{yes}
-use denote.RattleType.{owns, RattleType}
+use denote.RattleType.{owns}
 use denote.Signature.{types_at, plain}
 use denote.Builtin.{RefOf}
 use denote.Ref.{mut_vals, mut_Tells, shr_vals, shr_Tells}
@@ -39,19 +39,22 @@ use Rattle.arc_owners.proofs.count.word.OwnerToken.only.Code as code
 pub only_spec : {M : Type 1} → statement M
 only_spec 𝓤 𝓛 𝓜 𝓡 wired T L =
     let 𝓣 = tables 𝓤 𝓛.H 𝓜 𝓡 𝓡.env in let fn = code_at T code.function in
-    let Own : RattleType = Right T in let En = f.ended T in let c = f.clauses T 𝓛 𝓜.mem 𝓡.returns in
+    let En = f.ended T in let c = f.clauses T 𝓛 𝓜.mem 𝓡.returns in
     let hs : Stays En.signature.params En.kept = (
-      stay_dropped (RefOf (0 ∷ []) tt (plain (λ _. Own)) (λ _. tt)) yes,
+      stay_dropped (RefOf (0 ∷ []) tt (plain (λ _. Right T)) (λ _. tt)) yes,
       (stay_ref (1 ∷ []) tt (plain (λ _. PassState.the_row)), tt),
     ) in
     proved 𝓛 En hs c 𝓜 𝓡 (
-      Goes-dropped 𝓛 3 (RefOf (0 ∷ []) tt (plain (λ _. Own)) (λ _. tt)) yes
+      Goes-dropped 𝓛 3 (RefOf (0 ∷ []) tt (plain (λ _. Right T)) (λ _. tt)) yes
           (λ κs x w. refl),
       (Goes-ref 𝓛 3 1 tt (plain (λ _. PassState.the_row)), tt),
     )
     (f.Key.name (layouts_at T)) fn (code.unfolded 𝓤 𝓛.H 𝓜 𝓡 wired (T, tt))
     (λ κs. (shr_vals, (mut_vals, tt)))
-    (λ κs. (shr_Tells (named 0) κs.0 Own, (mut_Tells (named 1) κs.1.0 PassState.the_row, tt)))
+    (λ κs. (
+      shr_Tells (named 0) κs.0 (Right T),
+      (mut_Tells (named 1) κs.1.0 PassState.the_row, tt),
+    ))
     (λ κs qs bounds a gh are.
     let own = a.0.now in let me = own.block in let seen = a.1.0.now in let b₁ = a.0.ref_ptr.0 in
     let o₁ = a.0.ref_ptr.1 in let b = a.1.0.ref_ptr.0 in let o = a.1.0.ref_ptr.1 in
@@ -68,8 +71,8 @@ only_spec 𝓤 𝓛 𝓜 𝓡 wired T L =
     -- [two parts of the pass; the owner; the tokens, last first]
     enter ! 𝓣.C 𝓣.Λ fn (vptr b₁ o₁ ∷ vptr b o ∷ []) Post $
     alloc_all ! (λ l. pass_all ! refl ((tt, tt), ((tt, tt), tt)) $
-    move ! (2 ∷ []) $
-    owner_shown (param 0 T) ! b₁ o₁ own.block own (asked.0.0, refl) $ move ! (0 ∷ 4 ∷ []) $
+    move ! (2 ∷ []) $ owner_shown (param 0 T) ! b₁ o₁ own.block own (asked.0.0, refl) $
+    move ! (0 ∷ 4 ∷ []) $
     use2 𝓛 (later (some (λ (r : Share). ‵ (right me own.owner own.lease r) ⊛ raw
     (wand 𝓤 (sem 𝓛 (right me own.owner own.lease r)) (𝓛.H.⇛ (𝓛.A.lft κs.0 qs.0))))))
     (right_read 𝓛 me own.owner own.lease own.born κs.0 qs.0) $ await ! tt $

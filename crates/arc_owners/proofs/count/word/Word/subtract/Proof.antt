@@ -37,7 +37,8 @@ subtract_spec 𝓤 𝓛 𝓜 𝓡 wired T L =
       refl,
       refl,
     ))
-    (f.Key.name (layouts_at T)) fn (code.unfolded 𝓤 𝓛.H 𝓜 𝓡 wired (T, tt)) _ (vint w64 1 ∷ seq_cst ∷ [])
+    (f.Key.name (layouts_at T)) fn (code.unfolded 𝓤 𝓛.H 𝓜 𝓡 wired (T, tt)) _
+    (vint w64 1 ∷ seq_cst ∷ [])
     (λ b o b₁ o₁ b₂ o₂ b₃ o₃ P.
     qed 𝓛 (later (raw (Ends_at 𝓛 𝓜 𝓡 _ (vptr b o ∷ vint w64 1 ∷ seq_cst ∷ []) P)) ∷ []) ∵
     enter ! 𝓣.C 𝓣.Λ fn (vptr b o ∷ vptr b₁ o₁ ∷ vptr b₂ o₂ ∷ vptr b₃ o₃ ∷ []) P $

@@ -30,13 +30,14 @@ subtract_raw_spec 𝓤 𝓛 𝓜 𝓡 wired T L =
     (λ κs a g. snd∗ 𝓤 (fact 𝓤 (κs.1.1.1.1.0 ⊑ T.lives)) (fact 𝓤 _))
     (λ κs a g n before so. fact_i 𝓤 _ (emp 𝓤) (
       (refl, refl, refl, refl),
-      ends_when a.1.0.now.block a.1.1.1.0.now.number a.1.1.1.0.now.lines a.1.1.0.now.owner n before (eqb n 1) refl
-          so,
+      ends_when a.1.0.now.block a.1.1.1.0.now.number a.1.1.1.0.now.lines a.1.1.0.now.owner n before
+          (eqb n 1) refl so,
       refl,
       refl,
       refl,
     ))
-    (f.Key.name (layouts_at T)) fn (code.unfolded 𝓤 𝓛.H 𝓜 𝓡 wired (T, tt)) _ (vint w64 1 ∷ seq_cst ∷ [])
+    (f.Key.name (layouts_at T)) fn (code.unfolded 𝓤 𝓛.H 𝓜 𝓡 wired (T, tt)) _
+    (vint w64 1 ∷ seq_cst ∷ [])
     (λ place b o b₁ o₁ b₂ o₂ b₃ o₃ P.
     qed 𝓛 (later (raw (Ends_at 𝓛 𝓜 𝓡 _ (ptr_val place ∷ vint w64 1 ∷ seq_cst ∷ []) P)) ∷ []) ∵
     enter ! 𝓣.C 𝓣.Λ fn (ptr_val place ∷ vptr b o ∷ vptr b₁ o₁ ∷ vptr b₂ o₂ ∷ vptr b₃ o₃ ∷ []) P $

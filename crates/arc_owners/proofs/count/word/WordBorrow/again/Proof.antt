@@ -52,9 +52,7 @@ again_spec 𝓤 𝓛 𝓜 𝓡 wired =
     alloc_all ! (λ l. pass_all ! refl ((tt, tt), tt) $
     lodging_shown ! a.0.ref_ptr.0 a.0.ref_ptr.1 me $
     sets ! (agg ! (no_more !)) refl (tt, tt) $ sets ! (agg ! (and_then ! (get ! refl) (no_more !)))
-    refl (tt, (tt, tt)) $
-    tokened ! unit $
-    nothing ! $ nothing ! $ fjoin ! $
+    refl (tt, (tt, tt)) $ tokened ! unit $ nothing ! $ nothing ! $ fjoin ! $
     returns ! (look_at ! 0 refl) $ free_all ! refl $ keep ! (2 ∷ 0 ∷ 1 ∷ []) $
     by ! (ends 𝓛 f.ended stayed c y token
     (record { marker = record {}; block = me.block; at = me.at; lifetime = me.lifetime })

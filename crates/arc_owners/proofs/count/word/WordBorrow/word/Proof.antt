@@ -38,9 +38,8 @@ use Rattle.arc_owners.proofs.count.word.WordBorrow.word.Code as code
 
 pub word_spec : {M : Type 1} → statement M
 word_spec 𝓤 𝓛 𝓜 𝓡 wired T L =
-    let 𝓣 = tables 𝓤 𝓛.H 𝓜 𝓡 𝓡.env in let R : RattleType = param 0 T in
+    let 𝓣 = tables 𝓤 𝓛.H 𝓜 𝓡 𝓡.env in let fn = code_at T code.function in
     let Own : RattleType = Right T in let En = f.ended T in let c = f.clauses T 𝓛 𝓜.mem 𝓡.returns in
-    let fn = code_at T code.function in
     let hs : Stays En.signature.params En.kept = (
       stay_dropped (RefOf (0 ∷ []) tt (plain (λ _. WordBorrow.the_row)) (λ _. tt)) yes,
       (
@@ -77,9 +76,8 @@ word_spec 𝓤 𝓛 𝓜 𝓡 wired T L =
     move ! (1 ∷ []) $ fsplit ! $ fsplit ! $ move ! (2 ∷ []) $ fsplit ! $ drop ! $ fsplit ! $
     fsplit ! $ keep ! (4 ∷ 1 ∷ 5 ∷ []) $
     -- [what is lent of the word borrow, and of the owner; the tokens]
-    lodging_shown ! b o me $
-    move ! (1 ∷ []) $
-    owner_shown R ! b₂ o₂ own.block own (asked.1, refl) $ fsplit ! $ drop ! $ fsplit ! $ drop ! $
+    lodging_shown ! b o me $ move ! (1 ∷ []) $
+    owner_shown (param 0 T) ! b₂ o₂ own.block own (asked.1, refl) $ fsplit ! $ drop ! $ fsplit ! $ drop ! $
     rewrite ! 0 (λ (k : Bool). ‵ (tokens k own.lease κ)) asked.2 refl $
     rewrite ! 0 (λ (k : ℕ). ‵ (fshr_bor κ (λ q. flft (k ∷ []) q))) asked.3 refl $
     use0 𝓛 (‵ (before (α ++ κ) α)) (before-Incl 𝓛 (α ++ κ) α (meet_⊑_left α κ)) $
