@@ -19,7 +19,8 @@ use contract.Monad.{fact}
 use contract.Running.{Running, MachineTables, tables}
 use denote.Exit.{yes}
 use denote.RattleType.{owns, RattleType}
-use denote.Signature.{types_at, plain}
+use denote.Laws.{Spells, Tellss, Ises}
+use denote.Signature.{Slot, types_at, plain, mut_ref_to}
 use denote.Builtin.{RefOf}
 use denote.Memory.{mem}
 use denote.Opens.{unhide}
@@ -30,7 +31,7 @@ use denote.Param.{param}
 use denote.Triple.Clauses.{Ended, Clauses, closing, at_exit}
 use denote.Triple.Entry.{Args}
 use denote.Triple.Spec.{Meets}
-use denote.Triple.Walked.{Stays, stay_dropped, stay_ref, walk_of, Goes-dropped, Goes-ref}
+use denote.Triple.Walked.{Stays, AllGo, stay_dropped, stay_ref, walk_of, Goes-dropped, Goes-ref}
 use Rattle.core.specs.Sync.RawAtomic.{asks, always}
 use Rattle.std.proofs.raw_atomic.Walks.{proved}
 use Rattle.logbook.proofs.Fields.{ends}
@@ -145,7 +146,8 @@ module _ {M : Type 1} {𝓤 : Ura M} (𝓛 : Logic 𝓤) (R : RattleType) where
       -- before it: what the owner and the pass have is taken out
       brings : K → Soaks G → (b₁ o₁ b₂ o₂ : ℕ) → IsHeld t h → IsOf t p
           → Step K 𝓛 (‵ (trace_owns true t p.number p.ready p.lines)
-          ∷ ‵ (right t h.owner h.lease quarter) ∷ ‵ (stake h.lease) ∷ ‵ (known t h.born) ∷ held_by (Own R) γ₁ (no_owner R h) κ₁ q₁ b₁ o₁
+          ∷ ‵ (right t h.owner h.lease quarter) ∷ ‵ (stake h.lease) ∷ ‵ (known t h.born)
+          ∷ held_by (Own R) γ₁ (no_owner R h) κ₁ q₁ b₁ o₁
           (held_by Pass γ₂ (no_pass p) κ₂ q₂ b₂ o₂ Γ)) G
           (held_by (Own R) γ₁ h κ₁ q₁ b₁ o₁ (held_by Pass γ₂ p κ₂ q₂ b₂ o₂ Γ)) G
       brings k z b₁ o₁ b₂ o₂ held is = step (λ s. owner_out R k z b₁ o₁ t h (held.0, held.1) $
@@ -185,6 +187,33 @@ module _ {M : Type 1} {𝓤 : Ura M} (𝓛 : Logic 𝓤) (𝓜 : Model 𝓤 𝓛
   abbrev R : RattleType
   R = param 0 T
 
+  -- the owner, the pass and the end tokens, which come back
+  abbrev three : List (Slot 5)
+  three = mut_ref_to (1 ∷ []) tt (plain (λ _. Own R)) ∷ mut_ref_to (2 ∷ []) tt (plain (λ _. Pass))
+      ∷ mut_ref_to (3 ∷ []) tt (plain (λ _. End)) ∷ []
+
+  abbrev three_stay : Stays three (yes, (yes, (yes, tt)))
+  three_stay = (
+    stay_ref (1 ∷ []) tt (plain (λ _. Own R)),
+    (stay_ref (2 ∷ []) tt (plain (λ _. Pass)), (stay_ref (3 ∷ []) tt (plain (λ _. End)), tt)),
+  )
+
+  three_go : AllGo 𝓛 5 three (yes, (yes, (yes, tt))) three_stay
+  three_go = (
+    Goes-ref 𝓛 5 1 tt (plain (λ _. Own R)),
+    (Goes-ref 𝓛 5 2 tt (plain (λ _. Pass)), (Goes-ref 𝓛 5 3 tt (plain (λ _. End)), tt)),
+  )
+
+  abbrev three_vals : (κs : Lfts 5) → Spells (types_at three κs)
+  three_vals κs = (mut_vals, (mut_vals, (mut_vals, tt)))
+
+  three_tell : (κs : Lfts 5)
+      → Tellss (types_at three κs) (Ises (types_at three κs)) (three_vals κs)
+  three_tell κs = (
+    mut_Tells (named 1) κs.1.0 (Own R),
+    (mut_Tells (named 2) κs.1.1.0 Pass, (mut_Tells (named 3) κs.1.1.1.0 End, tt)),
+  )
+
   abbrev En : Ended
   En = claim_as.ended T
 
@@ -217,33 +246,14 @@ module _ {M : Type 1} {𝓤 : Ura M} (𝓛 : Logic 𝓤) (𝓜 : Model 𝓤 𝓛
     by_word says tells k fn closed j ws call next =
         let hs : Stays En.signature.params En.kept = (
           stay_dropped (RefOf (0 ∷ []) tt (plain (λ _. Word.the_row)) (λ _. tt)) yes,
-          (
-            stay_ref (1 ∷ []) tt (plain (λ _. Own R)),
-            (
-              stay_ref (2 ∷ []) tt (plain (λ _. Pass)),
-              (stay_ref (3 ∷ []) tt (plain (λ _. End)), tt),
-            ),
-          ),
+          three_stay,
         ) in
         proved 𝓛 En hs c 𝓜 𝓡 (
           Goes-dropped 𝓛 5 (RefOf (0 ∷ []) tt (plain (λ _. Word.the_row)) (λ _. tt))
               yes (λ κs w u. refl),
-          (
-            Goes-ref 𝓛 5 1 tt (plain (λ _. Own R)),
-            (
-              Goes-ref 𝓛 5 2 tt (plain (λ _. Pass)),
-              (Goes-ref 𝓛 5 3 tt (plain (λ _. End)), tt),
-            ),
-          ),
-        ) k fn closed
-        (λ κs. (shr_vals, (mut_vals, (mut_vals, (mut_vals, tt)))))
-        (λ κs. (
-          shr_Tells (named 0) κs.0 Word.the_row,
-          (
-            mut_Tells (named 1) κs.1.0 (Own R),
-            (mut_Tells (named 2) κs.1.1.0 Pass, (mut_Tells (named 3) κs.1.1.1.0 End, tt)),
-          ),
-        ))
+          three_go,
+        ) k fn closed (λ κs. (shr_vals, three_vals κs))
+        (λ κs. (shr_Tells (named 0) κs.0 Word.the_row, three_tell κs))
         (λ κs qs bounds a gh are.
         let t = a.0.now in let own = a.1.0.now in let p = a.1.1.0.now in let e = a.1.1.1.0.now in
         let b = a.0.ref_ptr.0 in let o = a.0.ref_ptr.1 in let b₁ = a.1.0.ref_ptr.0 in
@@ -291,7 +301,8 @@ module _ {M : Type 1} {𝓤 : Ura M} (𝓛 : Logic 𝓤) (𝓜 : Model 𝓤 𝓛
         let left : End.Denot = an_end (eqb n 1) own.lease in
         gives_back R ! n fits b₁ o₁ b₂ o₂ b₃ o₃ kept after left $ nothing ! $ fjoin ! $ now ! $
         keep ! (1 ∷ 0 ∷ 2 ∷ []) $ by ! (ends 𝓛 En hs c y (vint w64 n) n
-        (tt, (kept, (after, (left, tt)))) (tt, (tt, (tt, (tt, tt)))) (tells κs a gh n before told))))))
+        (tt, (kept, (after, (left, tt)))) (tt, (tt, (tt, (tt, tt))))
+        (tells κs a gh n before told))))))
         (call b o b₁ o₁ b₂ o₂ b₃ o₃ P))
 
   abbrev At : Ended
@@ -332,13 +343,7 @@ module _ {M : Type 1} {𝓤 : Ura M} (𝓛 : Logic 𝓤) (𝓜 : Model 𝓤 𝓛
           stay_dropped (plain (λ _. RawPtr)) yes,
           (
             stay_dropped (RefOf (0 ∷ []) tt (plain (λ _. WordBorrow.the_row)) (λ _. tt)) yes,
-            (
-              stay_ref (1 ∷ []) tt (plain (λ _. Own R)),
-              (
-                stay_ref (2 ∷ []) tt (plain (λ _. Pass)),
-                (stay_ref (3 ∷ []) tt (plain (λ _. End)), tt),
-              ),
-            ),
+            three_stay,
           ),
         ) in
         proved 𝓛 At hs c 𝓜 𝓡 (
@@ -346,26 +351,10 @@ module _ {M : Type 1} {𝓤 : Ura M} (𝓛 : Logic 𝓤) (𝓜 : Model 𝓤 𝓛
           (
             Goes-dropped 𝓛 5 (RefOf (0 ∷ []) tt (plain (λ _. WordBorrow.the_row)) (λ _. tt)) yes
                 (λ κs w u. refl),
-            (
-              Goes-ref 𝓛 5 1 tt (plain (λ _. Own R)),
-              (
-                Goes-ref 𝓛 5 2 tt (plain (λ _. Pass)),
-                (Goes-ref 𝓛 5 3 tt (plain (λ _. End)), tt),
-              ),
-            ),
+            three_go,
           ),
-        ) k fn closed
-        (λ κs. (rawptr_vals, (shr_vals, (mut_vals, (mut_vals, (mut_vals, tt))))))
-        (λ κs. (
-          rawptr_Tells,
-          (
-            shr_Tells (named 0) κs.0 WordBorrow.the_row,
-            (
-              mut_Tells (named 1) κs.1.0 (Own R),
-              (mut_Tells (named 2) κs.1.1.0 Pass, (mut_Tells (named 3) κs.1.1.1.0 End, tt)),
-            ),
-          ),
-        ))
+        ) k fn closed (λ κs. (rawptr_vals, (shr_vals, three_vals κs)))
+        (λ κs. (rawptr_Tells, (shr_Tells (named 0) κs.0 WordBorrow.the_row, three_tell κs)))
         (λ κs qs bounds a gh are.
         let place : Ptr = a.0 in let g = a.1.0.now in let t = g.block in let own = a.1.1.0.now in
         let p = a.1.1.1.0.now in let e = a.1.1.1.1.0.now in
@@ -418,7 +407,7 @@ module _ {M : Type 1} {𝓤 : Ura M} (𝓛 : Logic 𝓤) (𝓜 : Model 𝓤 𝓛
         let after : Pass.Denot = passed 𝓛 R x t own p n before in
         let left : End.Denot = an_end (eqb n 1) own.lease in
         gives_back R ! n fits b₁ o₁ b₂ o₂ b₃ o₃ kept after left $ nothing ! $ fjoin ! $
-        nothing ! $ fjoin ! $ now ! $ keep ! (1 ∷ 0 ∷ 2 ∷ []) $ by ! (ends 𝓛 At hs c y (vint w64 n) n
-        (tt, (tt, (kept, (after, (left, tt))))) (tt, (tt, (tt, (tt, (tt, tt)))))
+        nothing ! $ fjoin ! $ now ! $ keep ! (1 ∷ 0 ∷ 2 ∷ []) $
+        by ! (ends 𝓛 At hs c y (vint w64 n) n (tt, (tt, (kept, (after, (left, tt))))) (tt, (tt, (tt, (tt, (tt, tt)))))
         (tells κs a gh n before told))))))
         (call place b o b₁ o₁ b₂ o₂ b₃ o₃ P))

@@ -77,7 +77,8 @@ word_spec 𝓤 𝓛 𝓜 𝓡 wired T L =
     fsplit ! $ keep ! (4 ∷ 1 ∷ 5 ∷ []) $
     -- [what is lent of the word borrow, and of the owner; the tokens]
     lodging_shown ! b o me $ move ! (1 ∷ []) $
-    owner_shown (param 0 T) ! b₂ o₂ own.block own (asked.1, refl) $ fsplit ! $ drop ! $ fsplit ! $ drop ! $
+    owner_shown (param 0 T) ! b₂ o₂ own.block own (asked.1, refl) $ fsplit ! $ drop ! $
+    fsplit ! $ drop ! $
     rewrite ! 0 (λ (k : Bool). ‵ (tokens k own.lease κ)) asked.2 refl $
     rewrite ! 0 (λ (k : ℕ). ‵ (fshr_bor κ (λ q. flft (k ∷ []) q))) asked.3 refl $
     use0 𝓛 (‵ (before (α ++ κ) α)) (before-Incl 𝓛 (α ++ κ) α (meet_⊑_left α κ)) $
