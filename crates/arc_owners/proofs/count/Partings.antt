@@ -408,6 +408,6 @@ module _ {M : Type 1} {𝓤 : Ura M} (𝓛 : Logic 𝓤) (𝓜 : Model 𝓤 𝓛
         let left : End.Denot = an_end (eqb n 1) own.lease in
         gives_back R ! n fits b₁ o₁ b₂ o₂ b₃ o₃ kept after left $ nothing ! $ fjoin ! $
         nothing ! $ fjoin ! $ now ! $ keep ! (1 ∷ 0 ∷ 2 ∷ []) $
-        by ! (ends 𝓛 At hs c y (vint w64 n) n (tt, (tt, (kept, (after, (left, tt))))) (tt, (tt, (tt, (tt, (tt, tt)))))
-        (tells κs a gh n before told))))))
+        by ! (ends 𝓛 At hs c y (vint w64 n) n (tt, (tt, (kept, (after, (left, tt)))))
+        (tt, (tt, (tt, (tt, (tt, tt))))) (tells κs a gh n before told))))))
         (call place b o b₁ o₁ b₂ o₂ b₃ o₃ P))
