@@ -1,6 +1,7 @@
 pub mod Borrows
 pub mod BoxPlaces
 pub mod Boxes
+pub mod Endings
 pub mod Inheritances
 pub mod HeaderRooms
 pub mod Inners
