@@ -8,3 +8,4 @@ pub use Rattle.arc_owners.proofs.count.Wholes
 pub use Rattle.arc_owners.proofs.count.Markers
 pub use Rattle.arc_owners.proofs.memory.Endings
 pub use Rattle.arc_owners.proofs.memory.LentSlices
+pub use Rattle.arc_owners.proofs.memory.References

@@ -18,25 +18,24 @@ use denote.Steps.{nothing}
 use denote.Triple.Entry.{alive}
 use denote.Triple.Walked.{Stays, walk_of}
 use Rattle.std.proofs.raw_atomic.Walks.{proved_at, leaves}
+use Rattle.arc_owners.proofs.Endings.{spends, spent}
 use Rattle.arc_memory.specs.contracts.piece.header_bytes as f
 use Rattle.arc_memory.proofs.piece.header_bytes.Statement.{statement}
 use Rattle.arc_memory.proofs.piece.header_bytes.Code as code
 
 pub header_bytes_spec : {M : Type 1} → statement M
 header_bytes_spec 𝓤 𝓛 𝓜 𝓡 wired X L =
-    let H = 𝓛.H in let 𝓣 = tables 𝓤 H 𝓜 𝓡 𝓡.env in let En = f.ended X in
+    let En = f.ended X in
     let c = f.clauses X 𝓛 𝓜.mem 𝓡.returns in
-    let inst = layouts (a_type ∷ []) (X, tt) in let fn = inst_fn inst code.function in
-    let hs : Stays En.signature.params En.kept = tt in let s : ℕ = capped (size (layout X)) in
-    proved_at 𝓛 En hs c 𝓜 𝓡 tt (f.Key.name inst) fn (code.unfolded 𝓤 H 𝓜 𝓡 wired (X, tt)) (λ y are.
-    let Post : Val → SProp 𝓤 = (walk_of 𝓛 En hs c).post y in
+    let s : ℕ = capped (size (layout X)) in
+    spends 𝓛 En c 𝓜 𝓡 tt _ _
+    (code.unfolded 𝓤 𝓛.H 𝓜 𝓡 wired (X, tt)) (λ y are.
     qed 𝓛 ((raw (alive 𝓛 En.signature y.0.0 y.0.1) ⊛ ‵ (owns (types_at En.signature.params y.0.0)
     y.0.3 y.0.4)) ∷ raw ((c y.0.0 y.0.3).requires y.1) ∷ []) ∵ keep ! (0 ∷ []) $ split ! $
     keep ! (0 ∷ []) $
-    enter ! 𝓣.C 𝓣.Λ fn [] Post $ alloc_all ! (λ l. pass_all ! refl tt $
+    enter ! _ _ _ _ _ $ alloc_all ! (λ l. pass_all ! refl tt $
     sets ! (of_opd ! (size_word !)) refl (tt, record { fits = capped_fits (size (layout X)) }) $
     returns ! (look_at ! 0 refl) $ free_all ! refl $
-    use0 𝓛 (raw (fact 𝓤 (s ≡ s))) (fact_i 𝓤 (s ≡ s) (emp 𝓤) refl) $
     flt_i ! s (2 ^ 64) (capped_fits (size (layout X))) $ feq_i ! (List Val) (vint w64 s ∷ [])
-    (vint w64 s ∷ []) refl $ fjoin ! $ nothing ! $ move ! (3 ∷ 0 ∷ 1 ∷ 2 ∷ []) $
-    by ! (leaves 𝓛 En hs c y (vint w64 s) s tt tt)))
+    (vint w64 s ∷ []) refl $ fjoin ! $ keep ! (1 ∷ 0 ∷ []) $
+    by ! (spent 𝓛 En c y (vint w64 s) s tt (fact_i 𝓤 _ (emp 𝓤) refl))))

@@ -29,6 +29,7 @@ use Rattle.std.specs.Vec.{with_items}
 use Rattle.std_alloc.proofs.VecSteps.El.{El, R, Vr, el_d, el_x, vec_val, vec_typed}
 use Rattle.std_alloc.proofs.VecSteps.Opens.{vec_had, vec_made}
 use Rattle.logbook.proofs.Fields.{token as marker, token_told, ends}
+use Rattle.arc_owners.proofs.Endings.{spends, enters, spent}
 use Rattle.arc_owners.proofs.Markers.{told}
 use Rattle.arc_memory.specs.Memory.{places_own}
 use Rattle.arc_memory.specs.contracts.places.Places as Places
@@ -39,7 +40,6 @@ use Rattle.arc_memory.proofs.emptied.Emptied.filled.Code as code
 
 pub filled_spec : {M : Type 1} → statement M
 filled_spec 𝓤 𝓛 𝓜 𝓡 wired T A L LA g d da allocator glued =
-    let H = 𝓛.H in let 𝓣 = tables 𝓤 H 𝓜 𝓡 𝓡.env in
     let E : El = record {
       row = T;
       laws = L;
@@ -53,19 +53,10 @@ filled_spec 𝓤 𝓛 𝓜 𝓡 wired T A L LA g d da allocator glued =
     } in
     let En = f.ended T A g d da in let c = f.clauses T A g d da 𝓛 𝓜.mem 𝓡.returns in
     let Pl : RattleType = Places.the_row (R E) in
-    let inst = bounded (a_type ∷ a_type ∷ []) (T, (A, tt)) (dcons d (dcons da dnil)) in
-    let fn = inst_fn inst code.function in
-    let hs : Stays En.signature.params En.kept =
-    (stay_dropped (plain (λ _. Row E)) no, (stay_dropped (plain (λ _. Pl)) no, tt)) in
-    proved_at 𝓛 En hs c 𝓜 𝓡 (
-      Goes-blank 𝓛 2 (plain (λ _. Row E)) no (λ κs x w. tt),
-      (Goes-blank 𝓛 2 (plain (λ _. Pl)) no (λ κs x w. tt), tt),
-    ) (f.Key.name inst) fn
-    (code.unfolded 𝓤 H 𝓜 𝓡 wired (T, (A, tt)) d da) (λ y are.
+    spends 𝓛 En c 𝓜 𝓡 (λ κs x w. tt, (λ κs x w. tt, tt)) _ _
+    (code.unfolded 𝓤 𝓛.H 𝓜 𝓡 wired (T, (A, tt)) d da) (λ y are.
     let κs = y.0.0 in let qs = y.0.1 in let e : (Row E).Denot = y.0.3.0 in
     let own : Pl.Denot = y.0.3.1.0 in let vss = y.0.4 in
-    let Post : Val → SProp 𝓤 = (walk_of 𝓛 En hs c).post y in
-    let Run : List Val → SProp 𝓤 = λ ws. WpFn 𝓤 H 𝓣.C 𝓣.Λ fn ws Post in
     let xs : List (el_x E) = own.items in let Fits : Type 0 = (own.base ≡ e.base)
     × (own.whole ≡ e.count) × (own.start ≡ 0) × (own.count ≡ e.count) in
     qed 𝓛 ((‵ (fsep (flft κs.0 qs.0) (fsep (flft κs.1.0 qs.1.0) ftrue)) ⊛ ‵
@@ -93,17 +84,13 @@ filled_spec 𝓤 𝓛 𝓜 𝓡 wired T A L LA g d da allocator glued =
     let e₀ : vss.0 ≡ one E u ∷ [] = whole_is
     ∙ ap (λ (us : List Val). vstruct (of_list (us ++ [])) ∷ []) is in
     let e₁ : vss.1.0 ≡ marker ∷ [] = token_told (R E) vss.1.0 are.1.0.0 in
-    suffices ! (Run (one E u ∷ marker ∷ []))
-    (subst (λ (us : List Val). ent 𝓤 (Run (one E u ∷ marker ∷ [])) (Run us))
-    (sym (λ j. e₀ j ++ (e₁ j ++ []))) (id⊢ 𝓤 (Run (one E u ∷ marker ∷ [])))) $
-    enter ! 𝓣.C 𝓣.Λ fn (one E u ∷ marker ∷ []) Post $
+    enters ! _ _ _ _ (one E u ∷ marker ∷ []) (λ j. e₀ j ++ (e₁ j ++ [])) $
     alloc_all ! (λ l. pass_all ! refl (
       as_fields (layout (Vr E) ∷ []) (u ∷ []) (typed, tt),
       ((tt, (tt, tt)), tt),
     ) $
     sets ! (of_opd ! (get_in ! (fld ! refl (stop !)) (sub ! 0 refl (whole !)))) refl typed $
     sets ! (of_opd ! (get ! refl)) refl typed $
-    nothing ! $ nothing ! $ fjoin ! $ nothing ! $ fjoin ! $
-    returns ! (look_at ! 0 refl) $ free_all ! refl $ keep ! (4 ∷ 0 ∷ 1 ∷ []) $
-    by ! (ends 𝓛 En hs c y u now (tt, (tt, tt)) (tt, (tt, tt))
+    returns ! (look_at ! 0 refl) $ free_all ! refl $ keep ! (3 ∷ 0 ∷ []) $
+    by ! (spent 𝓛 En c y u now (tt, (tt, tt))
     (told 𝓤 items (fact_i 𝓤 _ (emp 𝓤) same) 𝓛)))))))))))

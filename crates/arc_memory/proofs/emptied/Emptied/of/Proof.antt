@@ -29,6 +29,7 @@ use Rattle.std.proofs.raw_atomic.Walks.{proved_at}
 use Rattle.std_alloc.proofs.VecSteps.El.{El, R, P, Vr, el_d, vec_val, vec_typed}
 use Rattle.std_alloc.proofs.VecSteps.Opens.{vec_had}
 use Rattle.logbook.proofs.Fields.{token as marker, Token, token_made, ends}
+use Rattle.arc_owners.proofs.Endings.{spends, enters, both_spent}
 use Rattle.arc_owners.proofs.Markers.{told}
 use Rattle.arc_memory.specs.Memory.{extent_of, place_at, side_by_side}
 use Rattle.arc_memory.specs.contracts.emptied.Emptied as Emptied
@@ -41,7 +42,6 @@ use Rattle.arc_memory.proofs.emptied.Emptied.of.Code as code
 
 pub of_spec : {M : Type 1} → statement M
 of_spec 𝓤 𝓛 𝓜 𝓡 wired T A L LA g d da allocator glued =
-    let H = 𝓛.H in let 𝓣 = tables 𝓤 H 𝓜 𝓡 𝓡.env in
     let E : El = record {
       row = T;
       laws = L;
@@ -54,14 +54,9 @@ of_spec 𝓤 𝓛 𝓜 𝓡 wired T A L LA g d da allocator glued =
       };
     } in
     let En = f.ended T A g d da in let c = f.clauses T A g d da 𝓛 𝓜.mem 𝓡.returns in
-    let inst = bounded (a_type ∷ a_type ∷ []) (T, (A, tt)) (dcons d (dcons da dnil)) in
-    let fn = inst_fn inst code.function in
-    let hs : Stays En.signature.params En.kept = (stay_dropped (plain (λ _. Vr E)) no, tt) in
-    proved_at 𝓛 En hs c 𝓜 𝓡 (Goes-blank 𝓛 2 (plain (λ _. Vr E)) no (λ κs x w. tt), tt)
-    (f.Key.name inst) fn (code.unfolded 𝓤 H 𝓜 𝓡 wired (T, (A, tt)) d da) (λ y are.
+    spends 𝓛 En c 𝓜 𝓡 (λ κs x w. tt, tt) _ _
+    (code.unfolded 𝓤 𝓛.H 𝓜 𝓡 wired (T, (A, tt)) d da) (λ y are.
     let κs = y.0.0 in let qs = y.0.1 in let was : el_d E = y.0.3.0 in let vss = y.0.4 in
-    let Post : Val → SProp 𝓤 = (walk_of 𝓛 En hs c).post y in
-    let Run : List Val → SProp 𝓤 = λ ws. WpFn 𝓤 H 𝓣.C 𝓣.Λ fn ws Post in
     let xs = was.items in let n = length xs in
     qed 𝓛 ((‵ (fsep (flft κs.0 qs.0) (fsep (flft κs.1.0 qs.1.0) ftrue)) ⊛ ‵
     (owns (types_at En.signature.params κs) y.0.3 vss)) ∷ raw ((c κs y.0.3).requires y.1) ∷ [])
@@ -72,9 +67,7 @@ of_spec 𝓤 𝓛 𝓜 𝓡 wired T A L LA g d da allocator glued =
     let typed = vec_typed E hv b o was.len was.cap fa fl fc in
     let first : place_at (R E) was.ptr 0 ≡ block_ptr b o = ap (λ (p : Ptr). place_at (R E) p 0) at_b
     ∙ first_place E b o in
-    suffices ! (Run (u ∷ [])) (subst (λ (us : List Val). ent 𝓤 (Run (u ∷ [])) (Run (us ++ [])))
-    (sym is) (id⊢ 𝓤 (Run (u ∷ [])))) $
-    enter ! 𝓣.C 𝓣.Λ fn (u ∷ []) Post $ alloc_all ! (λ l. pass_all ! refl (typed, tt) $
+    enters ! _ _ _ _ (u ∷ []) (λ j. is j ++ []) $ alloc_all ! (λ l. pass_all ! refl (typed, tt) $
     use1 𝓛 (‵ (side_by_side (R E) (block_ptr b o) was.cap xs) ⊛ ‵ (right E was b o))
     (block_apart E 𝓛 (token E.al was.alloc) b o was.len was.cap xs was.ok.0 was.ok.1) $
     split ! $
@@ -105,14 +98,7 @@ of_spec 𝓤 𝓛 𝓜 𝓡 wired T A L LA g d da allocator glued =
       inside = (omega arith, omega (arith, was.ok.0, was.ok.1), was.small);
     }
     in
-    let w : Val = vstruct (vcons (one E u) (vcons marker vnil)) in
-    let Rs : List RattleType = Row E ∷ Places.the_row (R E) ∷ [] in
-    nothing ! $ move ! (2 ∷ 0 ∷ []) $ fjoin ! $ move ! (1 ∷ 0 ∷ []) $ fjoin ! $
-    feq_i ! (List Val) (w ∷ []) (w ∷ []) refl $ fjoin ! $
-    fpack ! (Valss Rs)
-    (λ uss. fsep (feq (List Val) (w ∷ []) (vstruct (of_list (uss.0 ++ (uss.1.0 ++ []))) ∷ []))
-    (owns Rs (e, (now, tt)) uss)) (one E u ∷ [], (marker ∷ [], tt)) $
-    nothing ! $ nothing ! $ fjoin ! $
-    returns ! (look_at ! 0 refl) $ free_all ! refl $ keep ! (3 ∷ 0 ∷ 1 ∷ []) $
-    by ! (ends 𝓛 En hs c y w (e, now) ((tt, (tt, (tt, (tt, tt)))), tt) (tt, tt)
+    returns ! (look_at ! 0 refl) $ free_all ! refl $ keep ! (0 ∷ 1 ∷ 3 ∷ []) $
+    by ! (both_spent 𝓛 En c y (Row E) (Places.the_row (R E)) e now (one E u) marker (e, now)
+    ((tt, (tt, (tt, (tt, tt)))), tt) refl
     (told 𝓤 refl (told 𝓤 refl (fact_i 𝓤 _ (emp 𝓤) (refl, refl, refl, refl)) 𝓛) 𝓛)))))

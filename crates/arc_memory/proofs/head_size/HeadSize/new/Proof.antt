@@ -18,6 +18,8 @@ use denote.Triple.Entry.{alive}
 use denote.Triple.Walked.{Stays, walk_of}
 use Rattle.std.proofs.raw_atomic.Walks.{proved_at}
 use Rattle.logbook.proofs.Fields.{token, Token, token_made, ends}
+use Rattle.arc_owners.proofs.Endings.{spends, one_made, spent}
+use Rattle.arc_owners.proofs.Markers.{marked}
 use Rattle.arc_memory.specs.Pieces.{head_size}
 use Rattle.arc_memory.specs.contracts.head_size.HeadSize as HeadSize
 use Rattle.arc_memory.specs.contracts.head_size.HeadSize.new as f
@@ -26,22 +28,16 @@ use Rattle.arc_memory.proofs.head_size.HeadSize.new.Code as code
 
 pub new_spec : {M : Type 1} → statement M
 new_spec 𝓤 𝓛 𝓜 𝓡 wired X L =
-    let H = 𝓛.H in let 𝓣 = tables 𝓤 H 𝓜 𝓡 𝓡.env in let En = f.ended X in
+    let En = f.ended X in
     let c = f.clauses X 𝓛 𝓜.mem 𝓡.returns in
-    let inst = layouts (a_type ∷ []) (X, tt) in let fn = inst_fn inst code.function in
-    let hs : Stays En.signature.params En.kept = tt in
     let X' : RattleType = param 0 X in let Row : RattleType = HeadSize.the_row X' in
-    proved_at 𝓛 En hs c 𝓜 𝓡 tt (f.Key.name inst) fn (code.unfolded 𝓤 H 𝓜 𝓡 wired (X, tt)) (λ y are.
-    let Post : Val → SProp 𝓤 = (walk_of 𝓛 En hs c).post y in
+    spends 𝓛 En c 𝓜 𝓡 tt _ _
+    (code.unfolded 𝓤 𝓛.H 𝓜 𝓡 wired (X, tt)) (λ y are.
     qed 𝓛 ((raw (alive 𝓛 En.signature y.0.0 y.0.1) ⊛ ‵ (owns (types_at En.signature.params y.0.0)
     y.0.3 y.0.4)) ∷ raw ((c y.0.0 y.0.3).requires y.1) ∷ []) ∵ keep ! (0 ∷ []) $ split ! $
     keep ! (0 ∷ []) $
-    enter ! 𝓣.C 𝓣.Λ fn [] Post $ alloc_all ! (λ l. pass_all ! refl tt $
-    sets ! (agg ! (no_more !)) refl (tt, tt) $ sets ! (agg ! (and_then ! (get ! refl) (no_more !)))
-    refl (tt, (tt, tt)) $
-    returns ! (look_at ! 0 refl) $ free_all ! refl $
+    enter ! _ _ _ _ _ $ alloc_all ! (λ l. pass_all ! refl tt $
+    one_made ! (refl, (tt, tt), refl, refl, (tt, (tt, tt))) (look_at ! 0 refl) (free_all ! refl) $
     let now : Row.Denot = record { marker = record {}; size = head_size X' } in
-    feq_i ! (ℕ × ℕ) (head_size X') (head_size X') refl $
-    use0 𝓛 (‵ ((Token X').own_val (record {}, tt) (token ∷ []))) (token_made X' 𝓛) $ fjoin ! $
-    nothing ! $ keep ! (2 ∷ 0 ∷ 1 ∷ []) $
-    by ! (ends 𝓛 En hs c y token now tt tt (fact_i 𝓤 _ (emp 𝓤) refl))))
+    feq_i ! (ℕ × ℕ) (head_size X') (head_size X') refl $ marked X' ! $ keep ! (1 ∷ 0 ∷ []) $
+    by ! (spent 𝓛 En c y token now tt (fact_i 𝓤 _ (emp 𝓤) refl))))

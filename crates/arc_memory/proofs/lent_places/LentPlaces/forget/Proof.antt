@@ -20,6 +20,7 @@ use Rattle.core.proofs.alloc.Calls.{Goes-blank}
 use Rattle.std.proofs.raw_atomic.Walks.{proved_at}
 use Rattle.std_alloc.proofs.VecSteps.El.{El, R, no_al}
 use Rattle.logbook.proofs.Fields.{token, token_told, ends}
+use Rattle.arc_owners.proofs.Endings.{spends, enters, spent}
 use Rattle.arc_memory.specs.contracts.lent_places.LentPlaces as LentPlaces
 use Rattle.arc_memory.specs.contracts.lent_places.LentPlaces.forget as f
 use Rattle.arc_memory.proofs.lent_places.LentPlaces.forget.Statement.{statement}
@@ -27,27 +28,19 @@ use Rattle.arc_memory.proofs.lent_places.LentPlaces.forget.Code as code
 
 pub forget_spec : {M : Type 1} → statement M
 forget_spec 𝓤 𝓛 𝓜 𝓡 wired T L =
-    let H = 𝓛.H in let 𝓣 = tables 𝓤 H 𝓜 𝓡 𝓡.env in
     let E : El = record { row = T; laws = L; al = no_al } in
     let En = f.ended T in let c = f.clauses T 𝓛 𝓜.mem 𝓡.returns in
-    let inst = layouts (a_type ∷ []) (T, tt) in let fn = inst_fn inst code.function in
     let Lt : RattleType = LentPlaces.the_row (R E) in
-    let hs : Stays En.signature.params En.kept = (stay_dropped (plain (λ _. Lt)) no, tt) in
-    proved_at 𝓛 En hs c 𝓜 𝓡 (Goes-blank 𝓛 1 (plain (λ _. Lt)) no (λ κs x w. tt), tt)
-    (f.Key.name inst) fn (code.unfolded 𝓤 H 𝓜 𝓡 wired (T, tt)) (λ y are.
+    spends 𝓛 En c 𝓜 𝓡 (λ κs x w. tt, tt) _ _
+    (code.unfolded 𝓤 𝓛.H 𝓜 𝓡 wired (T, tt)) (λ y are.
     let κs = y.0.0 in let qs = y.0.1 in let vss = y.0.4 in
-    let Post : Val → SProp 𝓤 = (walk_of 𝓛 En hs c).post y in
-    let Run : List Val → SProp 𝓤 = λ ws. WpFn 𝓤 H 𝓣.C 𝓣.Λ fn ws Post in
     qed 𝓛 ((‵ (fsep (flft κs.0 qs.0) ftrue)
     ⊛ ‵ (owns (types_at En.signature.params κs) y.0.3 vss))
     ∷ raw ((c κs y.0.3).requires y.1) ∷ []) ∵
     keep ! (0 ∷ []) $ split ! $ keep ! (0 ∷ []) $
     let e₀ : vss.0 ≡ token ∷ [] = token_told (R E) vss.0 are.0.0 in
     let ws : List Val = token ∷ [] in
-    suffices ! (Run ws) (subst (λ (us : List Val). ent 𝓤 (Run ws) (Run us))
-    (sym (λ j. e₀ j ++ [])) (id⊢ 𝓤 (Run ws))) $
-    enter ! 𝓣.C 𝓣.Λ fn ws Post $ alloc_all ! (λ l. pass_all ! refl ((tt, (tt, tt)), tt) $
+    enters ! _ _ _ _ ws (λ j. e₀ j ++ []) $ alloc_all ! (λ l. pass_all ! refl ((tt, (tt, tt)), tt) $
     sets ! (of_opd ! (unit_lit !)) refl (tt, tt) $
-    feq_i ! (List Val) (vunit ∷ []) (vunit ∷ []) refl $ nothing ! $ nothing ! $ fjoin ! $
-    returns ! (look_at ! 0 refl) $ free_all ! refl $ keep ! (2 ∷ 0 ∷ 1 ∷ []) $
-    by ! (ends 𝓛 En hs c y vunit tt (tt, tt) (tt, tt) (id⊢ 𝓤 (emp 𝓤)))))
+    feq_i ! (List Val) (vunit ∷ []) (vunit ∷ []) refl $ returns ! (look_at ! 0 refl) $ free_all ! refl $ keep ! (1 ∷ 0 ∷ []) $
+    by ! (spent 𝓛 En c y vunit tt (tt, tt) (id⊢ 𝓤 (emp 𝓤)))))

@@ -34,6 +34,7 @@ use Rattle.core.proofs.alloc.Calls.{Goes-blank}
 use Rattle.std.proofs.raw_atomic.Walks.{proved_at}
 use Rattle.std_alloc.proofs.VecSteps.El.{El, R, el_x, sz, no_al}
 use Rattle.logbook.proofs.Fields.{token, Token, token_told, ends}
+use Rattle.arc_owners.proofs.Endings.{Walk, spends, enters}
 use Rattle.arc_owners.proofs.Markers.{marked}
 use Rattle.arc_memory.specs.LentMemory.{LentMemory, contents, borrowed, frozen, names_from}
 use Rattle.arc_memory.proofs.Borrowed.{Borrows}
@@ -48,31 +49,19 @@ use Rattle.arc_memory.proofs.lent_places.LentPlaces.freeze.Code as code
 
 pub freeze_spec : {M : Type 1} → statement M
 freeze_spec 𝓤 𝓛 𝓜 𝓡 wired T L =
-    let H = 𝓛.H in let 𝓣 = tables 𝓤 H 𝓜 𝓡 𝓡.env in
     let E : El = record { row = T; laws = L; al = no_al } in let s = sz E in
     let En = f.ended T in let c = f.clauses T 𝓛 𝓜.mem 𝓡.returns in
-    let inst = layouts (a_type ∷ []) (T, tt) in let fn = inst_fn inst code.function in
     let Tok : RattleType = LifetimeToken.the_row in
     let Lt : RattleType = LentPlaces.the_row (R E) in
     let Fr : RattleType = FrozenPlaces.the_row (R E) in
-    let hs : Stays En.signature.params En.kept = (
-      stay_dropped (plain (λ _. Lt)) no,
-      (stay_dropped (RefOf (0 ∷ []) tt (plain (λ _. Tok)) (λ _. tt)) yes, tt),
-    ) in
-    proved_at 𝓛 En hs c 𝓜 𝓡 (
-      Goes-blank 𝓛 2 (plain (λ _. Lt)) no (λ κs x w. tt),
-      (
-        Goes-dropped 𝓛 2 (RefOf (0 ∷ []) tt (plain (λ _. Tok)) (λ _. tt)) yes (λ κs x w. refl),
-        tt,
-      ),
-    ) (f.Key.name inst) fn (code.unfolded 𝓤 H 𝓜 𝓡 wired (T, tt)) (λ y are.
+    spends 𝓛 En c 𝓜 𝓡 (λ κs x w. tt, (λ κs x w. tt, tt)) _ _
+    (code.unfolded 𝓤 𝓛.H 𝓜 𝓡 wired (T, tt)) (λ y are.
     let κs = y.0.0 in let qs = y.0.1 in let me : Lt.Denot = y.0.3.0 in
     let by_token : Tok.Denot = y.0.3.1.0.now in let b₁ = y.0.3.1.0.ref_ptr.0 in
     let o₁ = y.0.3.1.0.ref_ptr.1 in let vss = y.0.4 in
     let m : LentMemory = me.memory in let a : ℕ = m.lifetime in let α : Lft = a ∷ [] in
     let κ : Lft = κs.0 in let τ : Lft = κs.1.0 in let p : Share = qs.1.0 in
-    let xs : List (el_x E) = me.items in let Post : Val → SProp 𝓤 = (walk_of 𝓛 En hs c).post y in
-    let Run : List Val → SProp 𝓤 = λ ws. WpFn 𝓤 H 𝓣.C 𝓣.Λ fn ws Post in
+    let xs : List (el_x E) = me.items in let Post : Val → SProp 𝓤 = (Walk 𝓛 En c).post y in
     let Full : Type 0 = length xs ≡ me.count in let Lasting : Type 0 = by_token.lifetime ≡ a in
     qed 𝓛 ((‵ (fsep (flft κ qs.0) (fsep (flft τ p) ftrue)) ⊛ ‵
     (owns (types_at En.signature.params κs) y.0.3 vss)) ∷ (raw (fact 𝓤 (τ ⊑ T.lives)) ⊛ raw
@@ -95,9 +84,7 @@ freeze_spec 𝓤 𝓛 𝓜 𝓡 wired T L =
     rewrite ! 2 (λ (n : ℕ). ‵ (Borrows E 𝓛 b a gs (contents n xs) from)) (sym full) refl $
     let e₀ : vss.0 ≡ token ∷ [] = token_told (R E) vss.0 are.0.0 in
     let ws : List Val = token ∷ vptr b₁ o₁ ∷ [] in
-    suffices ! (Run ws) (subst (λ (us : List Val). ent 𝓤 (Run ws) (Run us))
-    (sym (λ j. e₀ j ++ (e₁ j ++ []))) (id⊢ 𝓤 (Run ws))) $
-    enter ! 𝓣.C 𝓣.Λ fn ws Post $
+    enters ! _ _ _ _ ws (λ j. e₀ j ++ (e₁ j ++ [])) $
     alloc_all ! (λ l. pass_all ! refl ((tt, (tt, tt)), ((tt, tt), tt)) $
     move ! (0 ∷ 5 ∷ []) $ shr_bor-open ! tt (tokens_halve 𝓛 α) (λ q.
     -- [the open borrow of the share; the share; no more parameters; the borrows; the token of T; no
@@ -118,8 +105,7 @@ freeze_spec 𝓤 𝓛 𝓜 𝓡 wired T L =
     -- [the range; the token of the borrow; the token of T; no more parameters; no more tokens]
     sets ! (agg ! (no_more !)) refl (tt, tt) $ sets ! (agg ! (and_then ! (get ! refl) (no_more !)))
     refl (tt, (tt, tt)) $
-    move ! (2 ∷ 3 ∷ []) $ fjoin ! $ move ! (2 ∷ 0 ∷ []) $ fjoin ! $ nothing ! $ nothing ! $
-    fjoin ! $ nothing ! $ fjoin ! $
-    returns ! (look_at ! 0 refl) $ free_all ! refl $ keep ! (1 ∷ 0 ∷ 2 ∷ []) $
-    by ! (ends 𝓛 En hs c y token range (tt, (tt, tt)) (tt, (tt, tt))
+    move ! (2 ∷ 3 ∷ []) $ fjoin ! $ move ! (2 ∷ 0 ∷ []) $ fjoin ! $
+    returns ! (look_at ! 0 refl) $ free_all ! refl $ keep ! (0 ∷ 1 ∷ []) $
+    by ! (spent 𝓛 En c y token range (tt, (tt, tt))
     (fact_i 𝓤 _ (emp 𝓤) (refl, refl, refl)))))))))))

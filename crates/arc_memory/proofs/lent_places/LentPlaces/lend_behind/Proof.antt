@@ -30,6 +30,7 @@ use Rattle.core.proofs.alloc.Calls.{Goes-blank}
 use Rattle.std.proofs.raw_atomic.Walks.{proved_at}
 use Rattle.std_alloc.proofs.VecSteps.El.{El, R, el_x, sz, no_al}
 use Rattle.logbook.proofs.Fields.{token, token_told, ends}
+use Rattle.arc_owners.proofs.Endings.{spends, enters, two_made, both_spent}
 use Rattle.arc_owners.proofs.Markers.{marked, told}
 use Rattle.arc_memory.specs.Allocations.{IsPart}
 use Rattle.arc_memory.specs.LentMemory.{LentMemory, Held, contents, borrowed, returning}
@@ -48,37 +49,18 @@ use Rattle.arc_memory.proofs.lent_places.LentPlaces.lend_behind.Code as code
 
 pub lend_behind_spec : {M : Type 1} → statement M
 lend_behind_spec 𝓤 𝓛 𝓜 𝓡 wired T L =
-    let H = 𝓛.H in let 𝓣 = tables 𝓤 H 𝓜 𝓡 𝓡.env in
     let E : El = record { row = T; laws = L; al = no_al } in let s = sz E in
     let En = f.ended T in let c = f.clauses T 𝓛 𝓜.mem 𝓡.returns in
-    let inst = layouts (a_type ∷ []) (T, tt) in let fn = inst_fn inst code.function in
     let Pl : RattleType = Row E in let Tok : RattleType = LifetimeToken.the_row in
     let Lt : RattleType = LentPlaces.the_row (R E) in
     let In : RattleType = PlacesInheritance.the_row (R E) in
-    let hs : Stays En.signature.params En.kept = (
-      stay_dropped (plain (λ _. Pl)) no,
-      (
-        stay_dropped (plain (λ _. Pl)) no,
-        (stay_dropped (RefOf (0 ∷ []) tt (plain (λ _. Tok)) (λ _. tt)) yes, tt),
-      ),
-    ) in
-    proved_at 𝓛 En hs c 𝓜 𝓡 (
-      Goes-blank 𝓛 2 (plain (λ _. Pl)) no (λ κs x w. tt),
-      (
-        Goes-blank 𝓛 2 (plain (λ _. Pl)) no (λ κs x w. tt),
-        (
-          Goes-dropped 𝓛 2 (RefOf (0 ∷ []) tt (plain (λ _. Tok)) (λ _. tt)) yes (λ κs x w. refl),
-          tt,
-        ),
-      ),
-    ) (f.Key.name inst) fn (code.unfolded 𝓤 H 𝓜 𝓡 wired (T, tt)) (λ y are.
+    spends 𝓛 En c 𝓜 𝓡 (λ κs x w. tt, (λ κs x w. tt, (λ κs x w. tt, tt))) _ _
+    (code.unfolded 𝓤 𝓛.H 𝓜 𝓡 wired (T, tt)) (λ y are.
     let κs = y.0.0 in let qs = y.0.1 in let vss = y.0.4 in let bare : Pl.Denot = y.0.3.0 in
     let was : Pl.Denot = y.0.3.1.0 in let by_token = y.0.3.1.1.0.now in
     let b₁ = y.0.3.1.1.0.ref_ptr.0 in let o₁ = y.0.3.1.1.0.ref_ptr.1 in
     let a : ℕ = by_token.lifetime in let n : ℕ = bare.count in let xs : List (el_x E) = was.items in
     let us = contents n bare.items in let ys = contents was.count xs in
-    let Post : Val → SProp 𝓤 = (walk_of 𝓛 En hs c).post y in
-    let Run : List Val → SProp 𝓤 = λ ws. WpFn 𝓤 H 𝓣.C 𝓣.Λ fn ws Post in
     let Next : Type 0 = IsPart bare was × (was.start ≡ bare.start + n) in
     let Empty : Type 0 = bare.items ≡ [] in
     qed 𝓛 ((‵ (fsep (flft κs.0 qs.0) (fsep (flft κs.1.0 qs.1.0) ftrue)) ⊛ ‵
@@ -102,12 +84,8 @@ lend_behind_spec 𝓤 𝓛 𝓜 𝓡 wired T L =
     move ! (1 ∷ 0 ∷ []) $
     use2 𝓛 (‵ (spots E 𝓛 b (us ++ ys) from))
     (spots_glue E 𝓛 b n from mid us ys (length-contents n bare.items) refl) $
-    let e₀ : vss.0 ≡ token ∷ [] = token_told (R E) vss.0 are.0.0 in
-    let e₁ : vss.1.0 ≡ token ∷ [] = token_told (R E) vss.1.0 are.1.0.0 in
-    let ws : List Val = token ∷ token ∷ vptr b₁ o₁ ∷ [] in
-    suffices ! (Run ws) (subst (λ (ks : List Val). ent 𝓤 (Run ws) (Run ks))
-    (sym (λ j. e₀ j ++ (e₁ j ++ (e₂ j ++ [])))) (id⊢ 𝓤 (Run ws))) $
-    enter ! 𝓣.C 𝓣.Λ fn ws Post $
+    enters ! _ _ _ _ (token ∷ token ∷ vptr b₁ o₁ ∷ [])
+    (λ j. token_told (R E) vss.0 are.0.0 j ++ (token_told (R E) vss.1.0 are.1.0.0 j ++ (e₂ j ++ []))) $
     alloc_all ! (λ l. pass_all ! refl ((tt, (tt, tt)), ((tt, (tt, tt)), ((tt, tt), tt))) $
     use1 𝓛 (later (‵ (fex (List GName) (Lent E 𝓛 b a (us ++ ys) from))))
     (lends E 𝓛 b a (us ++ ys) from) $ await ! tt $ fpick ! (λ gs. fsplit3 ! $ feq_l ! (λ e.
@@ -166,20 +144,10 @@ lend_behind_spec 𝓤 𝓛 𝓜 𝓡 wired T L =
     marked (R E) ! $ move ! (1 ∷ []) $
     there_in E ! m first (returning (R E) a (drop_from first names)) b o at_m small $
     marked (R E) ! $
-    sets ! (agg ! (no_more !)) refl (tt, tt) $ sets ! (agg ! (and_then ! (get ! refl) (no_more !)))
-    refl (tt, (tt, tt)) $ sets ! (agg ! (no_more !)) refl (tt, tt) $
-    sets ! (agg ! (and_then ! (get ! refl) (no_more !))) refl (tt, (tt, tt)) $
-    sets ! (agg ! (and_then ! (get ! refl) (and_then ! (get ! refl) (no_more !)))) refl
-    (tt, ((tt, tt), ((tt, tt), tt))) $
-    let w : Val = vstruct (vcons token (vcons token vnil)) in
-    let Rs : List RattleType = Lt ∷ In ∷ [] in
-    nothing ! $ move ! (1 ∷ 0 ∷ []) $ fjoin ! $ move ! (1 ∷ 0 ∷ []) $ fjoin ! $
-    feq_i ! (List Val) (w ∷ []) (w ∷ []) refl $ fjoin ! $
-    fpack ! (Valss Rs)
-    (λ uss. fsep (feq (List Val) (w ∷ []) (vstruct (of_list (uss.0 ++ (uss.1.0 ++ []))) ∷ []))
-    (owns Rs (part, (back, tt)) uss)) (token ∷ [], (token ∷ [], tt)) $
-    nothing ! $ nothing ! $ fjoin ! $ nothing ! $ fjoin ! $ nothing ! $ fjoin ! $
-    returns ! (look_at ! 0 refl) $ free_all ! refl $ keep ! (2 ∷ 0 ∷ 1 ∷ []) $
-    by ! (ends 𝓛 En hs c y w (part, back) (tt, (tt, (tt, tt))) (tt, (tt, (tt, tt)))
+    two_made ! (refl, (tt, tt), refl, refl, (tt, (tt, tt)))
+    (refl, (tt, tt), refl, refl, (tt, (tt, tt)))
+    (refl, refl, refl, (tt, ((tt, tt), ((tt, tt), tt)))) (look_at ! 0 refl) (free_all ! refl) $
+    keep ! (1 ∷ 0 ∷ 2 ∷ []) $
+    by ! (both_spent 𝓛 En c y Lt In part back token token (part, back) (tt, (tt, (tt, tt))) refl
     (told 𝓤 refl (told 𝓤 (refl, refl)
     (told 𝓤 (refl, refl, refl) (fact_i 𝓤 _ (emp 𝓤) (refl, refl, refl)) 𝓛) 𝓛) 𝓛))))))))))

@@ -27,6 +27,7 @@ use Rattle.core.proofs.alloc.Calls.{Goes-blank}
 use Rattle.std.proofs.raw_atomic.Walks.{proved_at}
 use Rattle.std_alloc.proofs.VecSteps.El.{El, R, el_x, sz, no_al}
 use Rattle.logbook.proofs.Fields.{token, token_told, ends}
+use Rattle.arc_owners.proofs.Endings.{spends, enters, two_made, both_spent}
 use Rattle.arc_owners.proofs.Markers.{marked, told}
 use Rattle.arc_memory.specs.LentMemory.{LentMemory, contents, borrowed, opened, names_from}
 use Rattle.arc_memory.proofs.Borrowed.{Opened, opens_all}
@@ -44,26 +45,17 @@ use Rattle.arc_memory.proofs.lent_places.LentPlaces.open.Code as code
 
 pub open_spec : {M : Type 1} → statement M
 open_spec 𝓤 𝓛 𝓜 𝓡 wired T L =
-    let H = 𝓛.H in let 𝓣 = tables 𝓤 H 𝓜 𝓡 𝓡.env in
     let E : El = record { row = T; laws = L; al = no_al } in let s = sz E in
     let En = f.ended T in let c = f.clauses T 𝓛 𝓜.mem 𝓡.returns in
-    let inst = layouts (a_type ∷ []) (T, tt) in let fn = inst_fn inst code.function in
     let Pl : RattleType = Row E in let Tok : RattleType = LifetimeToken.the_row in
     let Lt : RattleType = LentPlaces.the_row (R E) in
     let Op : RattleType = OpenPlaces.the_row (R E) in
-    let hs : Stays En.signature.params En.kept =
-    (stay_dropped (plain (λ _. Lt)) no, (stay_dropped (plain (λ _. Tok)) yes, tt)) in
-    proved_at 𝓛 En hs c 𝓜 𝓡 (
-      Goes-blank 𝓛 1 (plain (λ _. Lt)) no (λ κs x w. tt),
-      (Goes-blank 𝓛 1 (plain (λ _. Tok)) yes (λ κs x w. tt), tt),
-    ) (f.Key.name inst) fn
-    (code.unfolded 𝓤 H 𝓜 𝓡 wired (T, tt)) (λ y are.
+    spends 𝓛 En c 𝓜 𝓡 (λ κs x w. tt, (λ κs x w. tt, tt)) _ _
+    (code.unfolded 𝓤 𝓛.H 𝓜 𝓡 wired (T, tt)) (λ y are.
     let κs = y.0.0 in let qs = y.0.1 in let me : Lt.Denot = y.0.3.0 in
     let stake : Tok.Denot = y.0.3.1.0 in let vss = y.0.4 in let m : LentMemory = me.memory in
     let a : ℕ = m.lifetime in let q = stake.share in
     let xs : List (el_x E) = me.items in let ys = contents me.count xs in
-    let Post : Val → SProp 𝓤 = (walk_of 𝓛 En hs c).post y in
-    let Run : List Val → SProp 𝓤 = λ ws. WpFn 𝓤 H 𝓣.C 𝓣.Λ fn ws Post in
     let Asked : Type 0 = stake.lifetime ≡ a in
     qed 𝓛 ((‵ (fsep (flft κs.0 qs.0) ftrue) ⊛ ‵ (owns (types_at En.signature.params κs) y.0.3
     vss)) ∷ (raw (fact 𝓤 (κs.0 ⊑ T.lives)) ⊛ raw (fact 𝓤 Asked)) ∷ []) ∵
@@ -74,12 +66,8 @@ open_spec 𝓤 𝓛 𝓜 𝓡 wired T L =
     -- [the borrows; the share; no more parameters; the tokens]
     let gs : List GName = drop_from me.start m.names in let from : ℕ = o + me.start * s in
     let low : me.start + me.count ≤ m.whole = omega (arith, me.inside.0, me.inside.1) in
-    let e₀ : vss.0 ≡ token ∷ [] = token_told (R E) vss.0 are.0.0 in
-    let e₁ : vss.1.0 ≡ token ∷ [] = token_told unit vss.1.0 are.1.0.0 in
-    let ws : List Val = token ∷ token ∷ [] in
-    suffices ! (Run ws) (subst (λ (us : List Val). ent 𝓤 (Run ws) (Run us))
-    (sym (λ j. e₀ j ++ (e₁ j ++ []))) (id⊢ 𝓤 (Run ws))) $
-    enter ! 𝓣.C 𝓣.Λ fn ws Post $
+    enters ! _ _ _ _ (token ∷ token ∷ [])
+    (λ j. token_told (R E) vss.0 are.0.0 j ++ (token_told unit vss.1.0 are.1.0.0 j ++ [])) $
     alloc_all ! (λ l. pass_all ! refl ((tt, (tt, tt)), ((tt, (tt, tt)), tt)) $
     use2 𝓛 (later (‵ (spots E 𝓛 b ys from) ⊛ ‵ (Opened E 𝓛 b a q gs (length ys) from)))
     (opens_all E 𝓛 b a q gs ys from) $ await ! tt $ split ! $
@@ -105,20 +93,10 @@ open_spec 𝓤 𝓛 𝓜 𝓡 wired T L =
     places_in E ! places b o at_b small $ move ! (1 ∷ []) $
     rewrite ! 0 (λ (n : ℕ). ‵ (Opened E 𝓛 b a q gs n from)) (length-contents me.count xs) refl $
     there_in E ! m me.start (opened (R E) a q gs me.count) b o at_b small $ marked (R E) ! $
-    sets ! (agg ! (no_more !)) refl (tt, tt) $ sets ! (agg ! (and_then ! (get ! refl) (no_more !)))
-    refl (tt, (tt, tt)) $ sets ! (agg ! (no_more !)) refl (tt, tt) $
-    sets ! (agg ! (and_then ! (get ! refl) (no_more !))) refl (tt, (tt, tt)) $
-    sets ! (agg ! (and_then ! (get ! refl) (and_then ! (get ! refl) (no_more !)))) refl
-    (tt, ((tt, tt), ((tt, tt), tt))) $
-    let w : Val = vstruct (vcons token (vcons token vnil)) in
-    let Rs : List RattleType = Pl ∷ Op ∷ [] in
-    nothing ! $ move ! (1 ∷ 0 ∷ []) $ fjoin ! $ move ! (1 ∷ 0 ∷ []) $ fjoin ! $
-    feq_i ! (List Val) (w ∷ []) (w ∷ []) refl $ fjoin ! $
-    fpack ! (Valss Rs)
-    (λ uss. fsep (feq (List Val) (w ∷ []) (vstruct (of_list (uss.0 ++ (uss.1.0 ++ []))) ∷ []))
-    (owns Rs (places, (rest, tt)) uss)) (token ∷ [], (token ∷ [], tt)) $
-    nothing ! $ nothing ! $ fjoin ! $ nothing ! $ fjoin ! $
-    returns ! (look_at ! 0 refl) $ free_all ! refl $ keep ! (3 ∷ 0 ∷ 1 ∷ []) $
-    by ! (ends 𝓛 En hs c y w (places, rest) (tt, (tt, tt)) (tt, (tt, tt))
+    two_made ! (refl, (tt, tt), refl, refl, (tt, (tt, tt)))
+    (refl, (tt, tt), refl, refl, (tt, (tt, tt)))
+    (refl, refl, refl, (tt, ((tt, tt), ((tt, tt), tt)))) (look_at ! 0 refl) (free_all ! refl) $
+    keep ! (1 ∷ 0 ∷ 3 ∷ []) $
+    by ! (both_spent 𝓛 En c y Pl Op places rest token token (places, rest) (tt, (tt, tt)) refl
     (told 𝓤 ((refl, refl), refl)
     (told 𝓤 (refl, refl, refl) (fact_i 𝓤 _ (emp 𝓤) (refl, refl, refl)) 𝓛) 𝓛))))))

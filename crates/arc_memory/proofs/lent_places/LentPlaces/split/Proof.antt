@@ -28,6 +28,7 @@ use Rattle.core.proofs.alloc.Calls.{Goes-blank}
 use Rattle.std.proofs.raw_atomic.Walks.{proved_at}
 use Rattle.std_alloc.proofs.VecSteps.El.{El, R, el_x, sz, no_al}
 use Rattle.logbook.proofs.Fields.{token, token_told, ends}
+use Rattle.arc_owners.proofs.Endings.{spends, enters, two_made, both_spent}
 use Rattle.arc_owners.proofs.Markers.{marked, told}
 use Rattle.arc_memory.specs.LentMemory.{LentMemory, Held, contents, borrowed, names_from}
 use Rattle.arc_memory.proofs.Borrowed.{Borrows, borrowed_cut}
@@ -41,24 +42,15 @@ use Rattle.arc_memory.proofs.lent_places.LentPlaces.split.Code as code
 
 pub split_spec : {M : Type 1} → statement M
 split_spec 𝓤 𝓛 𝓜 𝓡 wired T L =
-    let H = 𝓛.H in let 𝓣 = tables 𝓤 H 𝓜 𝓡 𝓡.env in
     let E : El = record { row = T; laws = L; al = no_al } in let s = sz E in
     let En = f.ended T in let c = f.clauses T 𝓛 𝓜.mem 𝓡.returns in
-    let inst = layouts (a_type ∷ []) (T, tt) in let fn = inst_fn inst code.function in
     let Lt : RattleType = LentPlaces.the_row (R E) in
-    let hs : Stays En.signature.params En.kept =
-    (stay_dropped (plain (λ _. Lt)) no, (stay_dropped (plain (λ _. usize)) yes, tt)) in
-    proved_at 𝓛 En hs c 𝓜 𝓡 (
-      Goes-blank 𝓛 1 (plain (λ _. Lt)) no (λ κs x w. tt),
-      (Goes-dropped 𝓛 1 (plain (λ _. usize)) yes (λ κs x w. refl), tt),
-    ) (f.Key.name inst) fn
-    (code.unfolded 𝓤 H 𝓜 𝓡 wired (T, tt)) (λ y are.
+    spends 𝓛 En c 𝓜 𝓡 (λ κs x w. tt, (λ κs x w. tt, tt)) _ _
+    (code.unfolded 𝓤 𝓛.H 𝓜 𝓡 wired (T, tt)) (λ y are.
     let κs = y.0.0 in let qs = y.0.1 in let was : Lt.Denot = y.0.3.0 in let at : ℕ = y.0.3.1.0 in
     let vss = y.0.4 in let m : LentMemory = was.memory in let a : ℕ = m.lifetime in
     let xs : List (el_x E) = was.items in let ys = contents was.count xs in
     let n : ℕ = was.count - at in
-    let Post : Val → SProp 𝓤 = (walk_of 𝓛 En hs c).post y in
-    let Run : List Val → SProp 𝓤 = λ ws. WpFn 𝓤 H 𝓣.C 𝓣.Λ fn ws Post in
     qed 𝓛 ((‵ (fsep (flft κs.0 qs.0) ftrue) ⊛ ‵ (owns (types_at En.signature.params κs) y.0.3
     vss)) ∷ (raw (fact 𝓤 (κs.0 ⊑ T.lives)) ⊛ raw (fact 𝓤 (at ≤ was.count))) ∷ []) ∵
     move ! (1 ∷ []) $ split ! $ drop ! $ heard ! (at ≤ was.count) (λ asked. split ! $
@@ -102,26 +94,13 @@ split_spec 𝓤 𝓛 𝓜 𝓡 wired T L =
     marked (R E) ! $ move ! (1 ∷ []) $
     there_in E ! m (was.start + at) (borrowed (R E) a (drop_from (was.start + at) m.names)
     (contents n (drop_from at xs))) b o at_b small $ marked (R E) ! $
-    let e₀ : vss.0 ≡ token ∷ [] = token_told (R E) vss.0 are.0.0 in
-    let ws : List Val = token ∷ vint w64 at ∷ [] in
-    suffices ! (Run ws) (subst (λ (us : List Val). ent 𝓤 (Run ws) (Run us))
-    (sym (λ j. e₀ j ++ (e₁ j ++ []))) (id⊢ 𝓤 (Run ws))) $
-    enter ! 𝓣.C 𝓣.Λ fn ws Post $
+    enters ! _ _ _ _ (token ∷ vint w64 at ∷ [])
+    (λ j. token_told (R E) vss.0 are.0.0 j ++ (e₁ j ++ [])) $
     alloc_all ! (λ l. pass_all ! refl ((tt, (tt, tt)), ((tt, record { fits = fits }), tt)) $
-    sets ! (agg ! (no_more !)) refl (tt, tt) $ sets ! (agg ! (and_then ! (get ! refl) (no_more !)))
-    refl (tt, (tt, tt)) $ sets ! (agg ! (no_more !)) refl (tt, tt) $
-    sets ! (agg ! (and_then ! (get ! refl) (no_more !))) refl (tt, (tt, tt)) $
-    sets ! (agg ! (and_then ! (get ! refl) (and_then ! (get ! refl) (no_more !)))) refl
-    (tt, ((tt, tt), ((tt, tt), tt))) $
-    let w : Val = vstruct (vcons token (vcons token vnil)) in
-    let Rs : List RattleType = Lt ∷ Lt ∷ [] in
-    nothing ! $ move ! (1 ∷ 0 ∷ []) $ fjoin ! $ move ! (1 ∷ 0 ∷ []) $ fjoin ! $
-    feq_i ! (List Val) (w ∷ []) (w ∷ []) refl $ fjoin ! $
-    fpack ! (Valss Rs)
-    (λ uss. fsep (feq (List Val) (w ∷ []) (vstruct (of_list (uss.0 ++ (uss.1.0 ++ []))) ∷ []))
-    (owns Rs (front, (back, tt)) uss)) (token ∷ [], (token ∷ [], tt)) $
-    nothing ! $ nothing ! $ fjoin ! $ nothing ! $ fjoin ! $
-    returns ! (look_at ! 0 refl) $ free_all ! refl $ keep ! (3 ∷ 0 ∷ 1 ∷ []) $
-    by ! (ends 𝓛 En hs c y w (front, back) (tt, (tt, tt)) (tt, (tt, tt))
+    two_made ! (refl, (tt, tt), refl, refl, (tt, (tt, tt)))
+    (refl, (tt, tt), refl, refl, (tt, (tt, tt)))
+    (refl, refl, refl, (tt, ((tt, tt), ((tt, tt), tt)))) (look_at ! 0 refl) (free_all ! refl) $
+    keep ! (1 ∷ 0 ∷ 3 ∷ []) $
+    by ! (both_spent 𝓛 En c y Lt Lt front back token token (front, back) (tt, (tt, tt)) refl
     (told 𝓤 (refl, refl) (told 𝓤 (refl, refl, refl) (fact_i 𝓤 _ (emp 𝓤) (refl, refl, refl)) 𝓛)
     𝓛))))))))

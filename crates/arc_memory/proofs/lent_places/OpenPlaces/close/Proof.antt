@@ -29,6 +29,7 @@ use Rattle.core.proofs.alloc.Calls.{Goes-blank}
 use Rattle.std.proofs.raw_atomic.Walks.{proved_at}
 use Rattle.std_alloc.proofs.VecSteps.El.{El, R, el_x, sz, no_al}
 use Rattle.logbook.proofs.Fields.{token, token_told, ends}
+use Rattle.arc_owners.proofs.Endings.{spends, enters, two_made, both_spent}
 use Rattle.arc_owners.proofs.Markers.{marked, told}
 use Rattle.arc_memory.specs.LentMemory.{LentMemory, contents, borrowed, opened, names_from}
 use Rattle.arc_memory.proofs.Borrowed.{Borrows, Opened, closes_all}
@@ -46,26 +47,17 @@ use Rattle.arc_memory.proofs.lent_places.OpenPlaces.close.Code as code
 
 pub close_spec : {M : Type 1} → statement M
 close_spec 𝓤 𝓛 𝓜 𝓡 wired T L =
-    let H = 𝓛.H in let 𝓣 = tables 𝓤 H 𝓜 𝓡 𝓡.env in
     let E : El = record { row = T; laws = L; al = no_al } in let s = sz E in
     let En = f.ended T in let c = f.clauses T 𝓛 𝓜.mem 𝓡.returns in
-    let inst = layouts (a_type ∷ []) (T, tt) in let fn = inst_fn inst code.function in
     let Pl : RattleType = Row E in let Tok : RattleType = LifetimeToken.the_row in
     let Lt : RattleType = LentPlaces.the_row (R E) in
     let Op : RattleType = OpenPlaces.the_row (R E) in
-    let hs : Stays En.signature.params En.kept =
-    (stay_dropped (plain (λ _. Op)) no, (stay_dropped (plain (λ _. Pl)) no, tt)) in
-    proved_at 𝓛 En hs c 𝓜 𝓡 (
-      Goes-blank 𝓛 1 (plain (λ _. Op)) no (λ κs x w. tt),
-      (Goes-blank 𝓛 1 (plain (λ _. Pl)) no (λ κs x w. tt), tt),
-    ) (f.Key.name inst) fn
-    (code.unfolded 𝓤 H 𝓜 𝓡 wired (T, tt)) (λ y are.
+    spends 𝓛 En c 𝓜 𝓡 (λ κs x w. tt, (λ κs x w. tt, tt)) _ _
+    (code.unfolded 𝓤 𝓛.H 𝓜 𝓡 wired (T, tt)) (λ y are.
     let κs = y.0.0 in let qs = y.0.1 in let me : Op.Denot = y.0.3.0 in
     let new : Pl.Denot = y.0.3.1.0 in let vss = y.0.4 in let m : LentMemory = me.memory in
     let a : ℕ = m.lifetime in let q = me.share in
     let xs : List (el_x E) = new.items in let ys = contents me.count xs in
-    let Post : Val → SProp 𝓤 = (walk_of 𝓛 En hs c).post y in
-    let Run : List Val → SProp 𝓤 = λ ws. WpFn 𝓤 H 𝓣.C 𝓣.Λ fn ws Post in
     let Within : Type 0 = (new.base ≡ m.base) × (new.whole ≡ m.whole) in
     let Same : Type 0 = (new.start ≡ me.start) × (new.count ≡ me.count) in
     qed 𝓛 ((‵ (fsep (flft κs.0 qs.0) ftrue) ⊛ ‵ (owns (types_at En.signature.params κs) y.0.3
@@ -85,12 +77,8 @@ close_spec 𝓤 𝓛 𝓜 𝓡 wired T L =
     rewrite ! 0 (λ (n : ℕ). ‵ (Opened E 𝓛 b a q gs n from)) (sym (length-contents me.count xs))
     refl $ move ! (1 ∷ []) $
     use1 𝓛 (‵ (spots E 𝓛 b ys from)) (spots_of E 𝓛 b me.count from xs fewer) $
-    let e₀ : vss.0 ≡ token ∷ [] = token_told (R E) vss.0 are.0.0 in
-    let e₁ : vss.1.0 ≡ token ∷ [] = token_told (R E) vss.1.0 are.1.0.0 in
-    let ws : List Val = token ∷ token ∷ [] in
-    suffices ! (Run ws) (subst (λ (us : List Val). ent 𝓤 (Run ws) (Run us))
-    (sym (λ j. e₀ j ++ (e₁ j ++ []))) (id⊢ 𝓤 (Run ws))) $
-    enter ! 𝓣.C 𝓣.Λ fn ws Post $
+    enters ! _ _ _ _ (token ∷ token ∷ [])
+    (λ j. token_told (R E) vss.0 are.0.0 j ++ (token_told (R E) vss.1.0 are.1.0.0 j ++ [])) $
     alloc_all ! (λ l. pass_all ! refl ((tt, (tt, tt)), ((tt, (tt, tt)), tt)) $
     use2 𝓛 (later (‵ (Borrows E 𝓛 b a gs ys from) ⊛ ‵ (flft (a ∷ []) q)))
     (closes_all E 𝓛 b a q gs ys from) $ await ! tt $ split ! $
@@ -105,19 +93,9 @@ close_spec 𝓤 𝓛 𝓜 𝓡 wired T L =
     let stake : Tok.Denot = record { marker = record {}; lifetime = a; share = q } in
     there_in E ! m me.start (borrowed (R E) a gs ys) b o at_b small $ marked (R E) ! $
     move ! (1 ∷ []) $ marked unit ! $
-    sets ! (agg ! (no_more !)) refl (tt, tt) $ sets ! (agg ! (and_then ! (get ! refl) (no_more !)))
-    refl (tt, (tt, tt)) $ sets ! (agg ! (no_more !)) refl (tt, tt) $
-    sets ! (agg ! (and_then ! (get ! refl) (no_more !))) refl (tt, (tt, tt)) $
-    sets ! (agg ! (and_then ! (get ! refl) (and_then ! (get ! refl) (no_more !)))) refl
-    (tt, ((tt, tt), ((tt, tt), tt))) $
-    let w : Val = vstruct (vcons token (vcons token vnil)) in
-    let Rs : List RattleType = Lt ∷ Tok ∷ [] in
-    nothing ! $ move ! (1 ∷ 0 ∷ []) $ fjoin ! $ move ! (1 ∷ 0 ∷ []) $ fjoin ! $
-    feq_i ! (List Val) (w ∷ []) (w ∷ []) refl $ fjoin ! $
-    fpack ! (Valss Rs)
-    (λ uss. fsep (feq (List Val) (w ∷ []) (vstruct (of_list (uss.0 ++ (uss.1.0 ++ []))) ∷ []))
-    (owns Rs (part, (stake, tt)) uss)) (token ∷ [], (token ∷ [], tt)) $
-    nothing ! $ nothing ! $ fjoin ! $ nothing ! $ fjoin ! $
-    returns ! (look_at ! 0 refl) $ free_all ! refl $ keep ! (3 ∷ 0 ∷ 1 ∷ []) $
-    by ! (ends 𝓛 En hs c y w (part, stake) (tt, (tt, tt)) (tt, (tt, tt))
+    two_made ! (refl, (tt, tt), refl, refl, (tt, (tt, tt)))
+    (refl, (tt, tt), refl, refl, (tt, (tt, tt)))
+    (refl, refl, refl, (tt, ((tt, tt), ((tt, tt), tt)))) (look_at ! 0 refl) (free_all ! refl) $
+    keep ! (1 ∷ 0 ∷ 3 ∷ []) $
+    by ! (both_spent 𝓛 En c y Lt Tok part stake token token (part, stake) (tt, (tt, tt)) refl
     (told 𝓤 (refl, refl, refl, refl) (fact_i 𝓤 _ (emp 𝓤) (refl, refl)) 𝓛))))))))

@@ -28,6 +28,7 @@ use Rattle.core.proofs.alloc.Calls.{Goes-blank}
 use Rattle.std.proofs.raw_atomic.Walks.{proved_at}
 use Rattle.std_alloc.proofs.VecSteps.El.{El, R, el_x, sz, no_al}
 use Rattle.logbook.proofs.Fields.{token, token_told, ends}
+use Rattle.arc_owners.proofs.Endings.{spends, enters}
 use Rattle.arc_owners.proofs.Markers.{told}
 use Rattle.arc_memory.specs.LentMemory.{LentMemory, contents, says, borrowed, returning, names_from}
 use Rattle.arc_memory.proofs.Borrowed.{said, kept}
@@ -44,31 +45,17 @@ use Rattle.arc_memory.proofs.lent_places.PlacesInheritance.regain.Code as code
 
 pub regain_spec : {M : Type 1} → statement M
 regain_spec 𝓤 𝓛 𝓜 𝓡 wired T L =
-    let H = 𝓛.H in let 𝓣 = tables 𝓤 H 𝓜 𝓡 𝓡.env in
     let E : El = record { row = T; laws = L; al = no_al } in let s = sz E in
     let En = f.ended T in let c = f.clauses T 𝓛 𝓜.mem 𝓡.returns in
-    let inst = layouts (a_type ∷ []) (T, tt) in let fn = inst_fn inst code.function in
     let Pl : RattleType = Row E in let Dead : RattleType = EndedLifetime.the_row in
     let Lt : RattleType = LentPlaces.the_row (R E) in
     let In : RattleType = PlacesInheritance.the_row (R E) in
-    let hs : Stays En.signature.params En.kept = (
-      stay_dropped (plain (λ _. In)) no,
-      (stay_dropped (plain (λ _. Dead)) yes, (stay_dropped (plain (λ _. Lt)) no, tt)),
-    ) in
-    proved_at 𝓛 En hs c 𝓜 𝓡 (
-      Goes-blank 𝓛 1 (plain (λ _. In)) no (λ κs x w. tt),
-      (
-        Goes-blank 𝓛 1 (plain (λ _. Dead)) yes (λ κs x w. tt),
-        (Goes-blank 𝓛 1 (plain (λ _. Lt)) no (λ κs x w. tt), tt),
-      ),
-    ) (f.Key.name inst) fn
-    (code.unfolded 𝓤 H 𝓜 𝓡 wired (T, tt)) (λ y are.
+    spends 𝓛 En c 𝓜 𝓡 (λ κs x w. tt, (λ κs x w. tt, (λ κs x w. tt, tt))) _ _
+    (code.unfolded 𝓤 𝓛.H 𝓜 𝓡 wired (T, tt)) (λ y are.
     let κs = y.0.0 in let qs = y.0.1 in let vss = y.0.4 in let me : In.Denot = y.0.3.0 in
     let ended : Dead.Denot = y.0.3.1.0 in let part : Lt.Denot = y.0.3.1.1.0 in
     let m : LentMemory = me.memory in let xs : List (el_x E) = part.items in
     let ys = contents part.count xs in
-    let Post : Val → SProp 𝓤 = (walk_of 𝓛 En hs c).post y in
-    let Run : List Val → SProp 𝓤 = λ ws. WpFn 𝓤 H 𝓣.C 𝓣.Λ fn ws Post in
     let Over : Type 0 = ended.lifetime ≡ m.lifetime in let Within : Type 0 = (part.memory ≡ m)
     × (me.start ≤ part.start) in
     qed 𝓛 ((‵ (fsep (flft κs.0 qs.0) ftrue) ⊛ ‵ (owns (types_at En.signature.params κs) y.0.3
@@ -109,9 +96,7 @@ regain_spec 𝓤 𝓛 𝓜 𝓡 wired T L =
     let e₁ : vss.1.0 ≡ token ∷ [] = token_told unit vss.1.0 are.1.0.0 in
     let e₂ : vss.1.1.0 ≡ token ∷ [] = token_told (R E) vss.1.1.0 are.1.1.0.0 in
     let ws : List Val = token ∷ token ∷ token ∷ [] in
-    suffices ! (Run ws) (subst (λ (us : List Val). ent 𝓤 (Run ws) (Run us))
-    (sym (λ j. e₀ j ++ (e₁ j ++ (e₂ j ++ [])))) (id⊢ 𝓤 (Run ws))) $
-    enter ! 𝓣.C 𝓣.Λ fn ws Post $
+    enters ! _ _ _ _ ws (λ j. e₀ j ++ (e₁ j ++ (e₂ j ++ []))) $
     alloc_all ! (λ l. pass_all ! refl ((tt, (tt, tt)), ((tt, (tt, tt)), ((tt, (tt, tt)), tt))) $
     use3 𝓛 (later (‵ (Before E 𝓛 b o me.start part.start part.count n xs) ⊛ ‵
     (Own E 𝓛 b o me.start part.start part.count n xs) ⊛ ‵
@@ -129,12 +114,11 @@ regain_spec 𝓤 𝓛 𝓜 𝓡 wired T L =
     sets ! (agg ! (and_then ! (get ! refl)
     (and_then ! (get ! refl) (and_then ! (get ! refl) (no_more !))))) refl
     (tt, ((tt, tt), ((tt, tt), ((tt, tt), tt)))) $
-    nothing ! $ nothing ! $ fjoin ! $ nothing ! $ fjoin ! $ nothing ! $ fjoin ! $
-    returns ! (look_at ! 0 refl) $ free_all ! refl $ keep ! (2 ∷ 0 ∷ 1 ∷ []) $
+    returns ! (look_at ! 0 refl) $ free_all ! refl $ keep ! (1 ∷ 0 ∷ []) $
     let sum : part.start + part.count + n ≡ me.start + me.count = omega (arith, all, many, reach) in
-    by ! (ends 𝓛 En hs c y (w E m me.start part.start part.count n xs own.1 fits part.inside.2
+    by ! (spent 𝓛 En c y (w E m me.start part.start part.count n xs own.1 fits part.inside.2
     me.inside.2) (runs E m me.start part.start part.count n xs own.1 fits part.inside.2
-    me.inside.2) (tt, (tt, (tt, tt))) (tt, (tt, (tt, tt)))
+    me.inside.2) (tt, (tt, (tt, tt)))
     (told 𝓤 ((refl, refl), (refl, refl), (refl, refl))
     (told 𝓤 (refl, refl, refl) (told 𝓤 (refl, refl, refl) (fact_i 𝓤 _ (emp 𝓤) (refl, sum, refl))
     𝓛) 𝓛) 𝓛))))))))

@@ -27,6 +27,7 @@ use Rattle.core.proofs.alloc.Calls.{Goes-blank}
 use Rattle.std.proofs.raw_atomic.Walks.{proved_at}
 use Rattle.std_alloc.proofs.VecSteps.El.{El, R, sz, no_al}
 use Rattle.logbook.proofs.Fields.{token, token_told, ends}
+use Rattle.arc_owners.proofs.Endings.{spends, enters, spent}
 use Rattle.arc_owners.proofs.Markers.{told}
 use Rattle.arc_memory.specs.LentMemory.{LentMemory, returning, names_from}
 use Rattle.arc_memory.proofs.Cuts.{Side}
@@ -41,24 +42,15 @@ use Rattle.arc_memory.proofs.lent_places.PlacesInheritance.regain_empty.Code as 
 
 pub regain_empty_spec : {M : Type 1} → statement M
 regain_empty_spec 𝓤 𝓛 𝓜 𝓡 wired T L =
-    let H = 𝓛.H in let 𝓣 = tables 𝓤 H 𝓜 𝓡 𝓡.env in
     let E : El = record { row = T; laws = L; al = no_al } in let s = sz E in
     let En = f.ended T in let c = f.clauses T 𝓛 𝓜.mem 𝓡.returns in
-    let inst = layouts (a_type ∷ []) (T, tt) in let fn = inst_fn inst code.function in
     let Pl : RattleType = Row E in let Dead : RattleType = EndedLifetime.the_row in
     let In : RattleType = PlacesInheritance.the_row (R E) in
-    let hs : Stays En.signature.params En.kept =
-    (stay_dropped (plain (λ _. In)) no, (stay_dropped (plain (λ _. Dead)) yes, tt)) in
-    proved_at 𝓛 En hs c 𝓜 𝓡 (
-      Goes-blank 𝓛 1 (plain (λ _. In)) no (λ κs x w. tt),
-      (Goes-blank 𝓛 1 (plain (λ _. Dead)) yes (λ κs x w. tt), tt),
-    ) (f.Key.name inst) fn
-    (code.unfolded 𝓤 H 𝓜 𝓡 wired (T, tt)) (λ y are.
+    spends 𝓛 En c 𝓜 𝓡 (λ κs x w. tt, (λ κs x w. tt, tt)) _ _
+    (code.unfolded 𝓤 𝓛.H 𝓜 𝓡 wired (T, tt)) (λ y are.
     let κs = y.0.0 in let qs = y.0.1 in let vss = y.0.4 in
     let me : In.Denot = y.0.3.0 in let ended : Dead.Denot = y.0.3.1.0 in
     let m : LentMemory = me.memory in let gs : List GName = drop_from me.start m.names in
-    let Post : Val → SProp 𝓤 = (walk_of 𝓛 En hs c).post y in
-    let Run : List Val → SProp 𝓤 = λ ws. WpFn 𝓤 H 𝓣.C 𝓣.Λ fn ws Post in
     let Over : Type 0 = ended.lifetime ≡ m.lifetime in
     qed 𝓛 ((‵ (fsep (flft κs.0 qs.0) ftrue)
     ⊛ ‵ (owns (types_at En.signature.params κs) y.0.3 vss))
@@ -85,9 +77,7 @@ regain_empty_spec 𝓤 𝓛 𝓜 𝓡 wired T L =
     let e₀ : vss.0 ≡ token ∷ [] = token_told (R E) vss.0 are.0.0 in
     let e₁ : vss.1.0 ≡ token ∷ [] = token_told unit vss.1.0 are.1.0.0 in
     let ws : List Val = token ∷ token ∷ [] in
-    suffices ! (Run ws) (subst (λ (us : List Val). ent 𝓤 (Run ws) (Run us))
-    (sym (λ j. e₀ j ++ (e₁ j ++ []))) (id⊢ 𝓤 (Run ws))) $
-    enter ! 𝓣.C 𝓣.Λ fn ws Post $ alloc_all ! (λ l.
+    enters ! _ _ _ _ ws (λ j. e₀ j ++ (e₁ j ++ [])) $ alloc_all ! (λ l.
     pass_all ! refl ((tt, (tt, tt)), ((tt, (tt, tt)), tt)) $
     use2 𝓛 (later (‵ (Side E 𝓛 b from me.count [])))
     (comes_back_empty E 𝓛 b from me.count m.lifetime gs many) $ await ! tt $
@@ -95,7 +85,6 @@ regain_empty_spec 𝓤 𝓛 𝓜 𝓡 wired T L =
     -- [the places; the tokens]
     sets ! (agg ! (no_more !)) refl (tt, tt) $
     sets ! (agg ! (and_then ! (get ! refl) (no_more !))) refl (tt, (tt, tt)) $
-    nothing ! $ nothing ! $ fjoin ! $ nothing ! $ fjoin ! $
-    returns ! (look_at ! 0 refl) $ free_all ! refl $ keep ! (2 ∷ 0 ∷ 1 ∷ []) $
-    by ! (ends 𝓛 En hs c y token bare (tt, (tt, tt)) (tt, (tt, tt))
+    returns ! (look_at ! 0 refl) $ free_all ! refl $ keep ! (1 ∷ 0 ∷ []) $
+    by ! (spent 𝓛 En c y token bare (tt, (tt, tt))
     (told 𝓤 (refl, refl) (fact_i 𝓤 _ (emp 𝓤) (refl, refl, refl)) 𝓛))))))

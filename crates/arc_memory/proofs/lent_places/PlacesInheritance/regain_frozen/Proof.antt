@@ -32,6 +32,7 @@ use Rattle.core.proofs.alloc.Calls.{Goes-blank}
 use Rattle.std.proofs.raw_atomic.Walks.{proved_at}
 use Rattle.std_alloc.proofs.VecSteps.El.{El, R, el_x, sz, no_al}
 use Rattle.logbook.proofs.Fields.{token, Token, token_told, ends}
+use Rattle.arc_owners.proofs.Endings.{spends, enters}
 use Rattle.arc_owners.proofs.Markers.{told}
 use Rattle.arc_memory.specs.LentMemory.{LentMemory, contents, settles, each_name, frozen}
 use Rattle.arc_memory.specs.LentMemory.{frozen_owns, returning, names_from}
@@ -48,37 +49,18 @@ use Rattle.arc_memory.proofs.lent_places.PlacesInheritance.regain_frozen.Code as
 
 pub regain_frozen_spec : {M : Type 1} → statement M
 regain_frozen_spec 𝓤 𝓛 𝓜 𝓡 wired T L =
-    let H = 𝓛.H in let 𝓣 = tables 𝓤 H 𝓜 𝓡 𝓡.env in
     let E : El = record { row = T; laws = L; al = no_al } in let s = sz E in
     let En = f.ended T in let c = f.clauses T 𝓛 𝓜.mem 𝓡.returns in
-    let inst = layouts (a_type ∷ []) (T, tt) in let fn = inst_fn inst code.function in
     let Pl : RattleType = Row E in let Dead : RattleType = EndedLifetime.the_row in
     let Fr : RattleType = FrozenPlaces.the_row (R E) in
     let In : RattleType = PlacesInheritance.the_row (R E) in
-    let hs : Stays En.signature.params En.kept = (
-      stay_dropped (plain (λ _. In)) no,
-      (
-        stay_dropped (plain (λ _. Dead)) yes,
-        (stay_dropped (RefOf (0 ∷ []) tt (plain (λ _. Fr)) (λ _. tt)) yes, tt),
-      ),
-    ) in
-    proved_at 𝓛 En hs c 𝓜 𝓡 (
-      Goes-blank 𝓛 2 (plain (λ _. In)) no (λ κs x w. tt),
-      (
-        Goes-blank 𝓛 2 (plain (λ _. Dead)) yes (λ κs x w. tt),
-        (
-          Goes-dropped 𝓛 2 (RefOf (0 ∷ []) tt (plain (λ _. Fr)) (λ _. tt)) yes (λ κs x w. refl),
-          tt,
-        ),
-      ),
-    ) (f.Key.name inst) fn (code.unfolded 𝓤 H 𝓜 𝓡 wired (T, tt)) (λ y are.
+    spends 𝓛 En c 𝓜 𝓡 (λ κs x w. tt, (λ κs x w. tt, (λ κs x w. tt, tt))) _ _
+    (code.unfolded 𝓤 𝓛.H 𝓜 𝓡 wired (T, tt)) (λ y are.
     let κs = y.0.0 in let qs = y.0.1 in let vss = y.0.4 in let me : In.Denot = y.0.3.0 in
     let ended : Dead.Denot = y.0.3.1.0 in let range : Fr.Denot = y.0.3.1.1.0.now in
     let b₁ = y.0.3.1.1.0.ref_ptr.0 in let o₁ = y.0.3.1.1.0.ref_ptr.1 in
     let m : LentMemory = me.memory in let xs : List (el_x E) = range.items in
     let count : ℕ = length xs in let ys = contents count xs in
-    let Post : Val → SProp 𝓤 = (walk_of 𝓛 En hs c).post y in
-    let Run : List Val → SProp 𝓤 = λ ws. WpFn 𝓤 H 𝓣.C 𝓣.Λ fn ws Post in
     let Over : Type 0 = ended.lifetime ≡ m.lifetime in let Within : Type 0 = (range.memory ≡ m)
     × (me.start ≤ range.start) in
     qed 𝓛 ((‵ (fsep (flft κs.0 qs.0) (fsep (flft κs.1.0 qs.1.0) ftrue)) ⊛ ‵
@@ -128,9 +110,7 @@ regain_frozen_spec 𝓤 𝓛 𝓜 𝓡 wired T L =
     let e₀ : vss.0 ≡ token ∷ [] = token_told (R E) vss.0 are.0.0 in
     let e₁ : vss.1.0 ≡ token ∷ [] = token_told unit vss.1.0 are.1.0.0 in
     let ws : List Val = token ∷ token ∷ vptr b₁ o₁ ∷ [] in
-    suffices ! (Run ws) (subst (λ (us : List Val). ent 𝓤 (Run ws) (Run us))
-    (sym (λ j. e₀ j ++ (e₁ j ++ (e₂ j ++ [])))) (id⊢ 𝓤 (Run ws))) $
-    enter ! 𝓣.C 𝓣.Λ fn ws Post $
+    enters ! _ _ _ _ ws (λ j. e₀ j ++ (e₁ j ++ (e₂ j ++ []))) $
     alloc_all ! (λ l. pass_all ! refl ((tt, (tt, tt)), ((tt, (tt, tt)), ((tt, tt), tt))) $
     use3 𝓛 (later (‵ (Before E 𝓛 b o me.start range.start count n xs) ⊛ ‵
     (Own E 𝓛 b o me.start range.start count n xs) ⊛ ‵ (Behind E 𝓛 b o me.start range.start count
@@ -148,11 +128,10 @@ regain_frozen_spec 𝓤 𝓛 𝓜 𝓡 wired T L =
     sets ! (agg ! (and_then ! (get ! refl)
     (and_then ! (get ! refl) (and_then ! (get ! refl) (no_more !))))) refl
     (tt, ((tt, tt), ((tt, tt), ((tt, tt), tt)))) $
-    nothing ! $ nothing ! $ fjoin ! $ nothing ! $ fjoin ! $ nothing ! $ fjoin ! $
-    returns ! (look_at ! 0 refl) $ free_all ! refl $ keep ! (2 ∷ 0 ∷ 1 ∷ []) $
+    returns ! (look_at ! 0 refl) $ free_all ! refl $ keep ! (1 ∷ 0 ∷ []) $
     let sum : range.start + count + n ≡ me.start + me.count = omega (arith, all, many, reach) in
-    by ! (ends 𝓛 En hs c y (w E m me.start range.start count n xs own.1 fits (omega arith)
+    by ! (spent 𝓛 En c y (w E m me.start range.start count n xs own.1 fits (omega arith)
     me.inside.2) (runs E m me.start range.start count n xs own.1 fits (omega arith) me.inside.2)
-    (tt, (tt, (tt, tt))) (tt, (tt, (tt, tt))) (told 𝓤 ((refl, refl), (refl, refl), (refl, refl))
+    (tt, (tt, (tt, tt))) (told 𝓤 ((refl, refl), (refl, refl), (refl, refl))
     (told 𝓤 (refl, refl, refl) (told 𝓤 (refl, refl, refl) (fact_i 𝓤 _ (emp 𝓤) (refl, sum, refl))
     𝓛) 𝓛) 𝓛)))))))))

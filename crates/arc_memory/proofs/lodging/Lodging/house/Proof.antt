@@ -45,6 +45,7 @@ use Rattle.std_alloc.proofs.OfLodged.{lodging}
 use Rattle.std_alloc.proofs.VecSteps.El.{El, R, Vr, el_d, el_x, sz, vec_typed}
 use Rattle.std_alloc.proofs.VecSteps.Opens.{vec_had, vec_made}
 use Rattle.logbook.proofs.Fields.{token, Token, token_told, token_made, ends}
+use Rattle.arc_owners.proofs.Endings.{Walk, spends, enters, spent}
 use Rattle.arc_owners.proofs.Markers.{told}
 use Rattle.arc_memory.specs.Memory.{place_at}
 use Rattle.arc_memory.specs.contracts.lodging.Lodging as Lodging
@@ -65,23 +66,12 @@ house_spec 𝓤 𝓛 𝓜 𝓡 wired T L =
     let Pl : RattleType = Row E in
     let stays = stay_dropped (plain (λ _. usize)) yes in
     let goes = Goes-dropped 𝓛 1 (plain (λ _. usize)) yes (λ κs x w. refl) in
-    let hs : Stays En.signature.params En.kept = (
-      stay_dropped (plain (λ _. Pl)) no,
-      (
-        stay_dropped (plain (λ _. RawPtr)) yes,
-        (stays, (stays, (stays, tt))),
-      ),
-    ) in
-    proved_at 𝓛 En hs c 𝓜 𝓡 (
-      Goes-blank 𝓛 1 (plain (λ _. Pl)) no (λ κs x w. tt),
-      (Goes-dropped 𝓛 1 (plain (λ _. RawPtr)) yes (λ κs x w. refl), (goes, (goes, (goes, tt)))),
-    )
-    (f.Key.name inst) fn (code.unfolded 𝓤 H 𝓜 𝓡 wired (T, tt)) (λ y are.
+    spends 𝓛 En c 𝓜 𝓡 (λ κs x w. tt, (λ κs x w. tt, tt)) _ _
+    (code.unfolded 𝓤 𝓛.H 𝓜 𝓡 wired (T, tt)) (λ y are.
     let κs = y.0.0 in let qs = y.0.1 in let was : Pl.Denot = y.0.3.0 in
     let base : Ptr = y.0.3.1.0 in let start : ℕ = y.0.3.1.1.0 in let n : ℕ = y.0.3.1.1.1.0 in
     let m : ℕ = y.0.3.1.1.1.1.0 in let vss = y.0.4 in let xs : List (el_x E) = was.items in
-    let Post : Val → SProp 𝓤 = (walk_of 𝓛 En hs c).post y in
-    let Run : List Val → SProp 𝓤 = λ ws. WpFn 𝓤 H 𝓣.C 𝓣.Λ fn ws Post in
+    let Post : Val → SProp 𝓤 = (Walk 𝓛 En c).post y in
     let alive = ‵ (flft κs.0 qs.0) ⊛ ‵ ftrue in
     let Place : Type 0 = (base ≡ was.base) × (start ≡ was.start) in
     let Sizes : Type 0 = (n ≡ length xs) × (m ≡ was.count) in
@@ -135,9 +125,7 @@ house_spec 𝓤 𝓛 𝓜 𝓡 wired T L =
     let here : vss.1.0 ≡ vptr b o ∷ [] = e₁ ∙ ap (λ (q : Ptr). ptr_val q ∷ []) (placed.0 ∙ at_b)
     in
     let ws : List Val = token ∷ vptr b o ∷ vint w64 start ∷ vint w64 n ∷ vint w64 m ∷ [] in
-    suffices ! (Run ws) (subst (λ (us : List Val). ent 𝓤 (Run ws) (Run us))
-    (sym (λ j. e₀ j ++ (here j ++ (e₂ j ++ (e₃ j ++ (e₄ j ++ [])))))) (id⊢ 𝓤 (Run ws))) $
-    enter ! 𝓣.C 𝓣.Λ fn ws Post $
+    enters ! _ _ _ _ ws (λ j. e₀ j ++ (here j ++ (e₂ j ++ (e₃ j ++ (e₄ j ++ []))))) $
     alloc_all ! (λ l. pass_all ! refl (
       (tt, (tt, tt)),
       (
@@ -197,11 +185,8 @@ house_spec 𝓤 𝓛 𝓜 𝓡 wired T L =
     fpack ! (Valss Rs)
     (λ uss. fsep (feq (List Val) (w ∷ []) (vstruct (of_list (uss.0 ++ (uss.1.0 ++ []))) ∷ []))
     (owns Rs (r, (under, tt)) uss)) (u ∷ [], (token ∷ [], tt)) $
-    nothing ! $ nothing ! $ fjoin ! $ nothing ! $ fjoin ! $ nothing ! $ fjoin ! $ nothing ! $
-    fjoin ! $ nothing ! $ fjoin ! $
-    returns ! (look_at ! 0 refl) $ free_all ! refl $ keep ! (2 ∷ 0 ∷ 1 ∷ []) $
-    by ! (ends 𝓛 En hs c y w (r, under) (tt, (tt, (tt, (tt, (tt, tt)))))
-    (tt, (tt, (tt, (tt, (tt, tt)))))
+    returns ! (look_at ! 0 refl) $ free_all ! refl $ keep ! (1 ∷ 0 ∷ []) $
+    by ! (spent 𝓛 En c y w (r, under) (tt, (tt, (tt, (tt, (tt, tt)))))
     (told 𝓤 (made.0, made.1)
     (told 𝓤 (made.3, made.2 ∙ sizes.1) (fact_i 𝓤 _ (emp 𝓤) (refl, refl, refl, refl)) 𝓛)
     𝓛)))))))))))))))))))

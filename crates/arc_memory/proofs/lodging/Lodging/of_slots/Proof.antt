@@ -41,6 +41,7 @@ use Rattle.std_alloc.proofs.vec.Blocks.{all}
 use Rattle.std_alloc.proofs.vec.Spares.{Row as Slots, parts_typed, Row-seen, Into, at_into}
 use Rattle.std_alloc.proofs.vec.Spares.{Into-goes, Into-gives}
 use Rattle.logbook.proofs.Fields.{token, Token, token_told, token_made, ends}
+use Rattle.arc_owners.proofs.Endings.{Walk, spends, enters}
 use Rattle.arc_owners.proofs.Markers.{told}
 use Rattle.arc_memory.specs.Memory.{place_at, side_by_side}
 use Rattle.arc_memory.specs.contracts.lodging.Lodging as Lodging
@@ -58,24 +59,13 @@ of_slots_spec 𝓤 𝓛 𝓜 𝓡 wired T L =
     let Ld : RattleType = Lodging.the_row X in let Pl : RattleType = Row E in
     let En = f.ended T in let c = f.clauses T 𝓛 𝓜.mem 𝓡.returns in
     let inst = layouts (a_type ∷ []) (T, tt) in let fn = inst_fn inst code.function in
-    let hs : Stays En.signature.params En.kept = (
-      stay_dropped (plain (λ _. Ld)) no,
-      (stay_dropped (plain (λ _. Ss)) no, (stay_dropped (plain (λ _. usize)) yes, tt)),
-    ) in
-    proved_at 𝓛 En hs c 𝓜 𝓡 (
-      Goes-blank 𝓛 1 (plain (λ _. Ld)) no (λ κs x w. tt),
-      (
-        Goes-blank 𝓛 1 (plain (λ _. Ss)) no (λ κs x w. tt),
-        (Goes-dropped 𝓛 1 (plain (λ _. usize)) yes (λ κs x w. refl), tt),
-      ),
-    ) (f.Key.name inst) fn
-    (code.unfolded 𝓤 H 𝓜 𝓡 wired (T, tt)) (λ y are.
+    spends 𝓛 En c 𝓜 𝓡 (λ κs x w. tt, (λ κs x w. tt, (λ κs x w. tt, tt))) _ _
+    (code.unfolded 𝓤 𝓛.H 𝓜 𝓡 wired (T, tt)) (λ y are.
     let κs = y.0.0 in let qs = y.0.1 in let me : Ld.Denot = y.0.3.0 in
     let r : Ss.Denot = y.0.3.1.0 in let n : ℕ = y.0.3.1.1.0 in let vss = y.0.4 in
     let k : ℕ = slots_len r in let zs : List (el_x E) = slots_items r in
     let xs : List (el_x E) = take n zs in let fs : List Bool = slots_filled r in
-    let Post : Val → SProp 𝓤 = (walk_of 𝓛 En hs c).post y in
-    let Run : List Val → SProp 𝓤 = λ ws. WpFn 𝓤 H 𝓣.C 𝓣.Λ fn ws Post in
+    let Post : Val → SProp 𝓤 = (Walk 𝓛 En c).post y in
     let alive = ‵ (flft κs.0 qs.0) ⊛ ‵ ftrue in
     let Lies : Type 0 = (slots_ptr r ≡ me.place) × (k ≡ me.count) in let Full : Type 0 = (n ≤ k)
     × Filled fs 0 n in
@@ -92,9 +82,7 @@ of_slots_spec 𝓤 𝓛 𝓜 𝓡 wired T L =
     let ws : List Val = token ∷ row_val b o k ∷ vint w64 n ∷ [] in
     let words : WT (row_val b o k) = (tt, (record { fits = fk }, tt)) in
     let lx : k ≡ length zs = (slots_counts r).0 in let lf : k ≡ length fs = (slots_counts r).1 in
-    suffices ! (Run ws) (subst (λ (us : List Val). ent 𝓤 (Run ws) (Run us))
-    (sym (λ j. e₀ j ++ (e j ++ (e₂ j ++ [])))) (id⊢ 𝓤 (Run ws))) $
-    enter ! 𝓣.C 𝓣.Λ fn ws Post $
+    enters ! _ _ _ _ ws (λ j. e₀ j ++ (e j ++ (e₂ j ++ []))) $
     alloc_all ! (λ l. pass_all ! refl
     ((tt, (tt, tt)), ((tt, words), ((tt, record { fits = fn' }), tt))) $
     let Ev = env fn.locals l in let z = at_into E 𝓛 𝓜.mem 𝓡.returns κs.0 qs.0 r b o in
@@ -137,7 +125,6 @@ of_slots_spec 𝓤 𝓛 𝓜 𝓡 wired T L =
       );
     } in
     move ! (1 ∷ 0 ∷ []) $ nothing ! $ move ! (1 ∷ 0 ∷ []) $ join ! $
-    nothing ! $ nothing ! $ fjoin ! $ nothing ! $ fjoin ! $ nothing ! $ fjoin ! $
-    returns ! (look_at ! 0 refl) $ free_all ! refl $ keep ! (1 ∷ 0 ∷ 2 ∷ []) $
-    by ! (ends 𝓛 En hs c y token now (tt, (tt, (tt, tt))) (tt, (tt, (tt, tt)))
+    returns ! (look_at ! 0 refl) $ free_all ! refl $ keep ! (0 ∷ 1 ∷ []) $
+    by ! (spent 𝓛 En c y token now (tt, (tt, (tt, tt)))
     (told 𝓤 refl (fact_i 𝓤 _ (emp 𝓤) (refl, refl, refl, refl)) 𝓛))))))))))))))

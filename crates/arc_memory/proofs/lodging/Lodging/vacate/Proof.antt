@@ -41,6 +41,7 @@ use Rattle.std_alloc.proofs.OfLodged.{lodging}
 use Rattle.std_alloc.proofs.VecSteps.El.{El, R, el_d, el_x, vec_val, vec_typed}
 use Rattle.std_alloc.proofs.VecSteps.Opens.{vec_had, vec_made}
 use Rattle.logbook.proofs.Fields.{token, Token, token_told, token_made, ends}
+use Rattle.arc_owners.proofs.Endings.{spends, enters, spent}
 use Rattle.arc_owners.proofs.Markers.{told}
 use Rattle.arc_memory.specs.Memory.{place_at, side_by_side}
 use Rattle.arc_memory.specs.contracts.lodging.Lodging as Lodging
@@ -52,22 +53,14 @@ use Rattle.arc_memory.proofs.lodging.Lodging.vacate.Code as code
 
 pub vacate_spec : {M : Type 1} → statement M
 vacate_spec 𝓤 𝓛 𝓜 𝓡 wired T L =
-    let H = 𝓛.H in let 𝓣 = tables 𝓤 H 𝓜 𝓡 𝓡.env in let E : El = lodging T L in
+    let E : El = lodging T L in
     let X : RattleType = R E in let Vl : RattleType = V.the_row X Lodged.the_row ghosts in
     let Ld : RattleType = Lodging.the_row X in let Pl : RattleType = Row E in
     let En = f.ended T in let c = f.clauses T 𝓛 𝓜.mem 𝓡.returns in
-    let inst = layouts (a_type ∷ []) (T, tt) in let fn = inst_fn inst code.function in
-    let hs : Stays En.signature.params En.kept =
-    (stay_dropped (plain (λ _. Ld)) no, (stay_dropped (plain (λ _. Vl)) no, tt)) in
-    proved_at 𝓛 En hs c 𝓜 𝓡 (
-      Goes-blank 𝓛 1 (plain (λ _. Ld)) no (λ κs x w. tt),
-      (Goes-blank 𝓛 1 (plain (λ _. Vl)) no (λ κs x w. tt), tt),
-    ) (f.Key.name inst) fn
-    (code.unfolded 𝓤 H 𝓜 𝓡 wired (T, tt)) (λ y are.
+    spends 𝓛 En c 𝓜 𝓡 (λ κs x w. tt, (λ κs x w. tt, tt)) _ _
+    (code.unfolded 𝓤 𝓛.H 𝓜 𝓡 wired (T, tt)) (λ y are.
     let κs = y.0.0 in let qs = y.0.1 in let me : Ld.Denot = y.0.3.0 in let v : el_d E = y.0.3.1.0 in
     let vss = y.0.4 in let xs : List (el_x E) = v.items in
-    let Post : Val → SProp 𝓤 = (walk_of 𝓛 En hs c).post y in
-    let Run : List Val → SProp 𝓤 = λ ws. WpFn 𝓤 H 𝓣.C 𝓣.Λ fn ws Post in
     let alive = ‵ (flft κs.0 qs.0) ⊛ ‵ ftrue in
     let Lies : Type 0 = (v.ptr ≡ me.place) × (v.cap ≡ me.count) in
     qed 𝓛 ((alive ⊛ ‵ (owns (types_at En.signature.params κs) y.0.3 vss)) ∷ (raw
@@ -86,9 +79,7 @@ vacate_spec 𝓤 𝓛 𝓜 𝓡 wired T L =
     join ! $ join ! $ use1 𝓛 (raw (G.pre z)) (id⊢ 𝓤 _) $
     let e₀ : vss.0 ≡ token ∷ [] = token_told X vss.0 are.0.0 in
     let ws : List Val = token ∷ u ∷ [] in
-    suffices ! (Run ws) (subst (λ (us : List Val). ent 𝓤 (Run ws) (Run us))
-    (sym (λ j. e₀ j ++ (is j ++ []))) (id⊢ 𝓤 (Run ws))) $
-    enter ! 𝓣.C 𝓣.Λ fn ws Post $ alloc_all ! (λ l. pass_all ! refl ((tt, (tt, tt)), (typed, tt)) $
+    enters ! _ _ _ _ ws (λ j. e₀ j ++ (is j ++ [])) $ alloc_all ! (λ l. pass_all ! refl ((tt, (tt, tt)), (typed, tt)) $
     sets ! (of_opd ! (get_in ! (fld ! refl (stop !)) (sub ! 0 refl (whole !)))) refl (tt, tt) $
     sets ! (of_opd ! (get ! refl)) refl typed $
     calls_at ! (fm 𝓛 𝓜 𝓡) G
@@ -123,7 +114,6 @@ vacate_spec 𝓤 𝓛 𝓜 𝓡 wired T L =
       inside =
           (me.inside.0, omega (arith, v.ok.0, v.ok.1, lies.1), me.inside.1);
     } in
-    nothing ! $ nothing ! $ fjoin ! $ nothing ! $ fjoin ! $
-    returns ! (look_at ! 0 refl) $ free_all ! refl $ keep ! (3 ∷ 0 ∷ 1 ∷ []) $
-    by ! (ends 𝓛 En hs c y token now (tt, (tt, tt)) (tt, (tt, tt))
+    returns ! (look_at ! 0 refl) $ free_all ! refl $ keep ! (2 ∷ 0 ∷ []) $
+    by ! (spent 𝓛 En c y token now (tt, (tt, tt))
     (told 𝓤 refl (fact_i 𝓤 _ (emp 𝓤) (refl, refl, refl, refl)) 𝓛))))))))))))))

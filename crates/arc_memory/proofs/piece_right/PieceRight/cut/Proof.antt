@@ -35,6 +35,7 @@ use Rattle.core.proofs.alloc.Shapes.{after}
 use Rattle.std.proofs.raw_atomic.Walks.{proved_at}
 use Rattle.std_alloc.proofs.VecSteps.El.{El, R}
 use Rattle.logbook.proofs.Fields.{token, Token, token_made, ends}
+use Rattle.arc_owners.proofs.Endings.{Walk, spends, enters}
 use Rattle.arc_owners.proofs.Markers.{told}
 use Rattle.arc_owners.specs.contracts.memory.header_room.HeaderRoom as Room
 use Rattle.arc_memory.specs.Memory.{side_by_side}
@@ -67,22 +68,11 @@ cut_spec 𝓤 𝓛 𝓜 𝓡 wired T A X LT LA LX g d da met md =
     let X' : RattleType = param 2 X in let Both : RattleType = Tuple (T' ∷ A' ∷ []) in
     let Left : RattleType = Right.the_row T' A' g in let Rm : RattleType = Room.the_row X' in
     let Pl : RattleType = Places.the_row T' in let Row : RattleType = Block.the_row A' g in
-    let hs : Stays En.signature.params En.kept = (
-      stay_dropped (plain (λ _. Row)) no,
-      (stay_dropped (plain (λ _. usize)) yes, (stay_dropped (plain (λ _. usize)) yes, tt)),
-    ) in
-    proved_at 𝓛 En hs c 𝓜 𝓡 (
-      Goes-blank 𝓛 3 (plain (λ _. Row)) no (λ κs x w. tt),
-      (
-        Goes-dropped 𝓛 3 (plain (λ _. usize)) yes (λ κs x w. refl),
-        (Goes-dropped 𝓛 3 (plain (λ _. usize)) yes (λ κs x w. refl), tt),
-      ),
-    ) (f.Key.name inst) fn
-    (code.unfolded 𝓤 H 𝓜 𝓡 wired (T, (A, (X, tt))) d da) (λ y are.
+    spends 𝓛 En c 𝓜 𝓡 (λ κs x w. tt, (λ κs x w. tt, (λ κs x w. tt, tt))) _ _
+    (code.unfolded 𝓤 𝓛.H 𝓜 𝓡 wired (T, (A, (X, tt))) d da) (λ y are.
     let κs = y.0.0 in let qs = y.0.1 in let x : Row.Denot = y.0.3.0 in let n : ℕ = y.0.3.1.0 in
     let m : ℕ = y.0.3.1.1.0 in let vss = y.0.4 in
-    let Post : Val → SProp 𝓤 = (walk_of 𝓛 En hs c).post y in
-    let Run : List Val → SProp 𝓤 = λ ws. WpFn 𝓤 H 𝓣.C 𝓣.Λ fn ws Post in
+    let Post : Val → SProp 𝓤 = (Walk 𝓛 En c).post y in
     let holds : Ty → Ptr → Fml = g.dealloc_token x.alloc in let σ : Ty = layout X' in
     let head : ℕ × ℕ = head_size X' in
     let Whole : Type 0 = x.bytes ≡ piece_bytes T' head m in
@@ -110,9 +100,7 @@ cut_spec 𝓤 𝓛 𝓜 𝓡 wired T A X LT LA LX g d da met md =
     let ws : List Val = block_val p ∷ vint w64 n ∷ vint w64 m ∷ [] in
     let e₀ : vss.0 ≡ block_val p ∷ [] = block_told A' x.ptr vss.0 are.0.0
     ∙ ap (λ (r : Ptr). block_val r ∷ []) at_b in
-    suffices ! (Run ws) (subst (λ (us : List Val). ent 𝓤 (Run ws) (Run us))
-    (sym (λ j. e₀ j ++ (are.1.0.0 j ++ (are.1.1.0.0 j ++ [])))) (id⊢ 𝓤 (Run ws))) $
-    enter ! 𝓣.C 𝓣.Λ fn ws Post $
+    enters ! _ _ _ _ ws (λ j. e₀ j ++ (are.1.0.0 j ++ (are.1.1.0.0 j ++ []))) $
     alloc_all ! (λ l. pass_all ! refl
     ((tt, (tt, (tt, tt))), ((tt, record { fits = f₁ }), ((tt, record { fits = f₂ }), tt))) $
     let Ev = env fn.locals l in
@@ -168,9 +156,8 @@ cut_spec 𝓤 𝓛 𝓜 𝓡 wired T A X LT LA LX g d da met md =
     (vstruct (of_list (uss.0 ++ (uss.1.0 ++ (uss.1.1.0 ++ (uss.1.1.1.0 ++ []))))) ∷ []))
     (owns Rs (room, (left, (own, (q, tt)))) uss))
     (room_val p ∷ [], (token ∷ [], (token ∷ [], (vptr b (n + o) ∷ [], tt)))) $
-    nothing ! $ nothing ! $ fjoin ! $ nothing ! $ fjoin ! $ nothing ! $ fjoin ! $
-    returns ! (look_at ! 0 refl) $ free_all ! refl $ keep ! (2 ∷ 0 ∷ 1 ∷ []) $
+    returns ! (look_at ! 0 refl) $ free_all ! refl $ keep ! (1 ∷ 0 ∷ []) $
     let base : block_ptr b at ≡ q = ap (block_ptr b) (sym there) in
-    by ! (ends 𝓛 En hs c y w (room, left, own, q) (tt, (tt, (tt, tt))) (tt, (tt, (tt, tt)))
+    by ! (spent 𝓛 En c y w (room, left, own, q) (tt, (tt, (tt, tt)))
     (told 𝓤 refl (told 𝓤 (refl, refl, refl)
     (told 𝓤 (base, refl, refl, refl, refl) (fact_i 𝓤 _ (emp 𝓤) (sym base)) 𝓛) 𝓛) 𝓛))))))))

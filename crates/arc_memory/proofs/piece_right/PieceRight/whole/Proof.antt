@@ -29,6 +29,7 @@ use Rattle.core.proofs.alloc.Calls.{Goes-blank}
 use Rattle.std.proofs.raw_atomic.Walks.{proved_at}
 use Rattle.std_alloc.proofs.VecSteps.El.{El, R}
 use Rattle.logbook.proofs.Fields.{token, token_told, ends}
+use Rattle.arc_owners.proofs.Endings.{spends, enters, spent}
 use Rattle.arc_owners.proofs.Markers.{told}
 use Rattle.arc_owners.specs.contracts.memory.header_room.HeaderRoom as Room
 use Rattle.arc_memory.specs.Memory.{places_own, side_by_side}
@@ -49,10 +50,8 @@ use Rattle.arc_memory.proofs.piece_right.PieceRight.whole.Code as code
 
 pub whole_spec : {M : Type 1} → statement M
 whole_spec 𝓤 𝓛 𝓜 𝓡 wired T A X LT LA LX g d da met md =
-    let H = 𝓛.H in let 𝓣 = tables 𝓤 H 𝓜 𝓡 𝓡.env in let En = f.ended T A X g d da in
+    let En = f.ended T A X g d da in
     let c = f.clauses T A X g d da 𝓛 𝓜.mem 𝓡.returns in
-    let inst = bounded (a_type ∷ a_type ∷ a_type ∷ []) (T, (A, (X, tt))) (dcons d (dcons da dnil))
-    in let fn = inst_fn inst code.function in
     let E : El = record {
       row = T;
       laws = LT;
@@ -64,29 +63,11 @@ whole_spec 𝓤 𝓛 𝓜 𝓡 wired T A X LT LA LX g d da met md =
     let Left : RattleType = Right.the_row T' A' g in let Rm : RattleType = Room.the_row X' in
     let Hd : RattleType = HeadSize.the_row X' in let Pl : RattleType = Places.the_row T' in
     let Row : RattleType = Block.the_row A' g in
-    let hs : Stays En.signature.params En.kept = (
-      stay_dropped (plain (λ _. Left)) no,
-      (
-        stay_dropped (plain (λ _. Rm)) no,
-        (stay_dropped (plain (λ _. Hd)) no, (stay_dropped (plain (λ _. Pl)) no, tt)),
-      ),
-    ) in
-    proved_at 𝓛 En hs c 𝓜 𝓡 (
-      Goes-blank 𝓛 3 (plain (λ _. Left)) no (λ κs x w. tt),
-      (
-        Goes-blank 𝓛 3 (plain (λ _. Rm)) no (λ κs x w. tt),
-        (
-          Goes-blank 𝓛 3 (plain (λ _. Hd)) no (λ κs x w. tt),
-          (Goes-blank 𝓛 3 (plain (λ _. Pl)) no (λ κs x w. tt), tt),
-        ),
-      ),
-    ) (f.Key.name inst) fn
-    (code.unfolded 𝓤 H 𝓜 𝓡 wired (T, (A, (X, tt))) d da) (λ y are.
+    spends 𝓛 En c 𝓜 𝓡 (λ κs x w. tt, (λ κs x w. tt, (λ κs x w. tt, (λ κs x w. tt, tt)))) _ _
+    (code.unfolded 𝓤 𝓛.H 𝓜 𝓡 wired (T, (A, (X, tt))) d da) (λ y are.
     let κs = y.0.0 in let qs = y.0.1 in let left : Left.Denot = y.0.3.0 in
     let room : Rm.Denot = y.0.3.1.0 in let hd : Hd.Denot = y.0.3.1.1.0 in
     let own : Pl.Denot = y.0.3.1.1.1.0 in let vss = y.0.4 in
-    let Post : Val → SProp 𝓤 = (walk_of 𝓛 En hs c).post y in
-    let Run : List Val → SProp 𝓤 = λ ws. WpFn 𝓤 H 𝓣.C 𝓣.Λ fn ws Post in
     let holds : Ty → Ptr → Fml = g.dealloc_token left.alloc in let n : ℕ = left.count in
     let σ : Ty = layout X' in
     let Met : Type 0 = (room.at ≡ left.place) × (hd.size ≡ left.head) in
@@ -128,9 +109,7 @@ whole_spec 𝓤 𝓛 𝓜 𝓡 wired T A X LT LA LX g d da met md =
     let e₂ : vss.1.1.0 ≡ token ∷ [] = token_told X' vss.1.1.0 are.1.1.0.0 in
     let e₃ : vss.1.1.1.0 ≡ token ∷ [] = token_told T' vss.1.1.1.0 are.1.1.1.0.0 in
     let ws : List Val = token ∷ room_val p ∷ token ∷ token ∷ [] in
-    suffices ! (Run ws) (subst (λ (us : List Val). ent 𝓤 (Run ws) (Run us))
-    (sym (λ j. e₀ j ++ (e₁ j ++ (e₂ j ++ (e₃ j ++ []))))) (id⊢ 𝓤 (Run ws))) $
-    enter ! 𝓣.C 𝓣.Λ fn ws Post $
+    enters ! _ _ _ _ ws (λ j. e₀ j ++ (e₁ j ++ (e₂ j ++ (e₃ j ++ [])))) $
     alloc_all ! (λ l. pass_all ! refl
     ((tt, (tt, tt)), ((tt, (tt, tt)), ((tt, (tt, tt)), ((tt, (tt, tt)), tt)))) $
     sets ! (of_opd ! (get_in ! (fld ! refl (stop !)) (sub ! 0 refl (whole !)))) refl (tt, tt) $
@@ -148,8 +127,6 @@ whole_spec 𝓤 𝓛 𝓜 𝓡 wired T A X LT LA LX g d da met md =
     let w : Val = block_val p in
     use0 𝓛 (‵ (block_own A' p (w ∷ []))) (block_made A' p 𝓛) $ fjoin ! $
     use1 𝓛 (‵ (Row.own_val now (w ∷ []))) (id⊢ 𝓤 _) $
-    nothing ! $ nothing ! $ fjoin ! $ nothing ! $ fjoin ! $ nothing ! $ fjoin ! $ nothing ! $
-    fjoin ! $
-    returns ! (look_at ! 0 refl) $ free_all ! refl $ keep ! (2 ∷ 0 ∷ 1 ∷ []) $
-    by ! (ends 𝓛 En hs c y w now (tt, (tt, (tt, (tt, tt)))) (tt, (tt, (tt, (tt, tt))))
+    returns ! (look_at ! 0 refl) $ free_all ! refl $ keep ! (1 ∷ 0 ∷ []) $
+    by ! (spent 𝓛 En c y w now (tt, (tt, (tt, (tt, tt))))
     (told 𝓤 (refl, refl) (fact_i 𝓤 _ (emp 𝓤) head) 𝓛)))))))))

@@ -41,6 +41,7 @@ use Rattle.std_alloc.proofs.vec.Blocks.{all, flags, vec_flags, vec_laid}
 use Rattle.std_alloc.proofs.vec.Spares.{Row as Slots, row_Typed, From, at_from, Made, from_goes}
 use Rattle.std_alloc.proofs.vec.Spares.{from_gives}
 use Rattle.logbook.proofs.Fields.{token, Token, token_told, token_made, ends}
+use Rattle.arc_owners.proofs.Endings.{Walk, spends, enters, both_spent}
 use Rattle.arc_owners.proofs.Markers.{told}
 use Rattle.arc_memory.specs.Memory.{place_at}
 use Rattle.arc_memory.specs.contracts.lodging.Lodging as Lodging
@@ -59,25 +60,11 @@ into_slots_spec 𝓤 𝓛 𝓜 𝓡 wired T L =
     let En = f.ended T in let c = f.clauses T 𝓛 𝓜.mem 𝓡.returns in
     let inst = layouts (a_type ∷ []) (T, tt) in let fn = inst_fn inst code.function in
     let Pl : RattleType = Row E in
-    let hs : Stays En.signature.params En.kept = (
-      stay_dropped (plain (λ _. Pl)) no,
-      (
-        stay_dropped (plain (λ _. RawPtr)) yes,
-        (stay_dropped (plain (λ _. usize)) yes, tt),
-      ),
-    ) in
-    proved_at 𝓛 En hs c 𝓜 𝓡 (
-      Goes-blank 𝓛 1 (plain (λ _. Pl)) no (λ κs x w. tt),
-      (
-        Goes-dropped 𝓛 1 (plain (λ _. RawPtr)) yes (λ κs x w. refl),
-        (Goes-dropped 𝓛 1 (plain (λ _. usize)) yes (λ κs x w. refl), tt),
-      ),
-    ) (f.Key.name inst) fn
-    (code.unfolded 𝓤 H 𝓜 𝓡 wired (T, tt)) (λ y are.
+    spends 𝓛 En c 𝓜 𝓡 (λ κs x w. tt, (λ κs x w. tt, (λ κs x w. tt, tt))) _ _
+    (code.unfolded 𝓤 𝓛.H 𝓜 𝓡 wired (T, tt)) (λ y are.
     let κs = y.0.0 in let qs = y.0.1 in let was : Pl.Denot = y.0.3.0 in let at : Ptr = y.0.3.1.0 in
     let n : ℕ = y.0.3.1.1.0 in let vss = y.0.4 in
-    let Post : Val → SProp 𝓤 = (walk_of 𝓛 En hs c).post y in
-    let Run : List Val → SProp 𝓤 = λ ws. WpFn 𝓤 H 𝓣.C 𝓣.Λ fn ws Post in
+    let Post : Val → SProp 𝓤 = (Walk 𝓛 En c).post y in
     let alive = ‵ (flft κs.0 qs.0) ⊛ ‵ ftrue in
     let Place : Type 0 = (at ≡ place_at X was.base was.start) × (n ≡ was.count) in
     let xs : List (el_x E) = was.items in let m = length xs in
@@ -105,9 +92,7 @@ into_slots_spec 𝓤 𝓛 𝓜 𝓡 wired T L =
     let e₀ : vss.0 ≡ token ∷ [] = token_told X vss.0 are.0.0 in
     let here : vss.1.0 ≡ vptr b there ∷ [] = e₁ ∙ ap (λ (q : Ptr). ptr_val q ∷ []) at_p in
     let ws : List Val = token ∷ vptr b there ∷ vint w64 n ∷ [] in
-    suffices ! (Run ws) (subst (λ (us : List Val). ent 𝓤 (Run ws) (Run us))
-    (sym (λ j. e₀ j ++ (here j ++ (e₂ j ++ [])))) (id⊢ 𝓤 (Run ws))) $
-    enter ! 𝓣.C 𝓣.Λ fn ws Post $
+    enters ! _ _ _ _ ws (λ j. e₀ j ++ (here j ++ (e₂ j ++ []))) $
     alloc_all ! (λ l. pass_all ! refl
     ((tt, (tt, tt)), ((tt, tt), ((tt, record { fits = f₂ }), tt))) $ let Ev = env fn.locals l in
     let z = at_from E 𝓛 𝓜.mem 𝓡.returns κs.0 qs.0 b there n zs fs in
@@ -146,17 +131,10 @@ into_slots_spec 𝓤 𝓛 𝓜 𝓡 wired T L =
     feq_i ! Ptr p (place_at X was.base was.start) (sym at_p ∙ placed.0) $
     flt_i ! (was.whole * type_size X) (2 ^ 63) small $ fjoin ! $
     use0 𝓛 (‵ ((Token X).own_val (record {}, tt) (token ∷ []))) (token_made X 𝓛) $ fjoin ! $
-    let w : Val = vstruct (vcons (row_val b there n) (vcons token vnil)) in
-    let Rs : List RattleType = Ss ∷ Ld ∷ [] in
-    nothing ! $ move ! (1 ∷ 0 ∷ []) $ fjoin ! $ move ! (1 ∷ 0 ∷ []) $ fjoin ! $
-    feq_i ! (List Val) (w ∷ []) (w ∷ []) refl $ fjoin ! $
-    fpack ! (Valss Rs)
-    (λ uss. fsep (feq (List Val) (w ∷ []) (vstruct (of_list (uss.0 ++ (uss.1.0 ++ []))) ∷ []))
-    (owns Rs (r, (under, tt)) uss)) (row_val b there n ∷ [], (token ∷ [], tt)) $
-    move ! (1 ∷ 0 ∷ []) $ nothing ! $ move ! (1 ∷ 0 ∷ []) $ join ! $
-    nothing ! $ nothing ! $ fjoin ! $ nothing ! $ fjoin ! $ nothing ! $ fjoin ! $
-    returns ! (look_at ! 0 refl) $ free_all ! refl $ keep ! (1 ∷ 0 ∷ 2 ∷ []) $
-    by ! (ends 𝓛 En hs c y w (r, under) (tt, (tt, (tt, tt))) (tt, (tt, (tt, tt)))
+    move ! (2 ∷ []) $ nothing ! $ move ! (1 ∷ 0 ∷ []) $ join ! $
+    returns ! (look_at ! 0 refl) $ free_all ! refl $ keep ! (2 ∷ 1 ∷ 0 ∷ []) $
+    by ! (both_spent 𝓛 En c y Ss Ld r under (row_val b there n) token (r, under)
+    (tt, (tt, (tt, tt))) refl
     (told 𝓤 (made.0, made.1 ∙ placed.1)
     (told 𝓤 (
       ap (take m) made.2 ∙ laid.3,

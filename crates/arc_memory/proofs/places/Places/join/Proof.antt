@@ -26,6 +26,7 @@ use Rattle.core.proofs.alloc.Calls.{Goes-blank}
 use Rattle.std.proofs.raw_atomic.Walks.{proved_at}
 use Rattle.std_alloc.proofs.VecSteps.El.{El, R, sz, no_al}
 use Rattle.logbook.proofs.Fields.{token, token_told, ends}
+use Rattle.arc_owners.proofs.Endings.{spends, enters, one_moved, spent}
 use Rattle.arc_owners.proofs.Markers.{told}
 use Rattle.arc_memory.specs.Allocations.{IsPart}
 use Rattle.arc_memory.proofs.Cuts.{Side, glued_on, further}
@@ -36,22 +37,13 @@ use Rattle.arc_memory.proofs.places.Places.join.Code as code
 
 pub join_spec : {M : Type 1} → statement M
 join_spec 𝓤 𝓛 𝓜 𝓡 wired T L =
-    let H = 𝓛.H in let 𝓣 = tables 𝓤 H 𝓜 𝓡 𝓡.env in
     let E : El = record { row = T; laws = L; al = no_al } in let s = sz E in
     let En = f.ended T in let c = f.clauses T 𝓛 𝓜.mem 𝓡.returns in
-    let inst = layouts (a_type ∷ []) (T, tt) in let fn = inst_fn inst code.function in
     let Pl : RattleType = Row E in
-    let hs : Stays En.signature.params En.kept =
-    (stay_dropped (plain (λ _. Pl)) no, (stay_dropped (plain (λ _. Pl)) no, tt)) in
-    proved_at 𝓛 En hs c 𝓜 𝓡 (
-      Goes-blank 𝓛 1 (plain (λ _. Pl)) no (λ κs x w. tt),
-      (Goes-blank 𝓛 1 (plain (λ _. Pl)) no (λ κs x w. tt), tt),
-    ) (f.Key.name inst) fn
-    (code.unfolded 𝓤 H 𝓜 𝓡 wired (T, tt)) (λ y are.
+    spends 𝓛 En c 𝓜 𝓡 (λ κs x w. tt, (λ κs x w. tt, tt)) _ _
+    (code.unfolded 𝓤 𝓛.H 𝓜 𝓡 wired (T, tt)) (λ y are.
     let κs = y.0.0 in let qs = y.0.1 in let me : Pl.Denot = y.0.3.0 in
     let back : Pl.Denot = y.0.3.1.0 in let vss = y.0.4 in
-    let Post : Val → SProp 𝓤 = (walk_of 𝓛 En hs c).post y in
-    let Run : List Val → SProp 𝓤 = λ ws. WpFn 𝓤 H 𝓣.C 𝓣.Λ fn ws Post in
     let Next : Type 0 = (back.base ≡ me.base) × (back.whole ≡ me.whole)
     × (back.start ≡ me.start + me.count) in let Full : Type 0 = (length me.items ≡ me.count)
     ⊎ (back.items ≡ []) in
@@ -87,16 +79,10 @@ join_spec 𝓤 𝓛 𝓜 𝓡 wired T L =
           (omega (arith, back.inside.0, next.0.1, next.1), fewer, me.inside.2);
     } in
     places_in E ! now b o at_b small $
-    let e₀ : vss.0 ≡ token ∷ [] = token_told (R E) vss.0 are.0.0 in
-    let e₁ : vss.1.0 ≡ token ∷ [] = token_told (R E) vss.1.0 are.1.0.0 in
-    let ws : List Val = token ∷ token ∷ [] in
-    suffices ! (Run ws) (subst (λ (us : List Val). ent 𝓤 (Run ws) (Run us))
-    (sym (λ j. e₀ j ++ (e₁ j ++ []))) (id⊢ 𝓤 (Run ws))) $
-    enter ! 𝓣.C 𝓣.Λ fn ws Post $
+    enters ! _ _ _ _ (token ∷ token ∷ [])
+    (λ j. token_told (R E) vss.0 are.0.0 j ++ (token_told (R E) vss.1.0 are.1.0.0 j ++ [])) $
     alloc_all ! (λ l. pass_all ! refl ((tt, (tt, tt)), ((tt, (tt, tt)), tt)) $
-    sets ! (of_opd ! (get_in ! (fld ! refl (stop !)) (sub ! 0 refl (whole !)))) refl (tt, tt) $
-    sets ! (agg ! (and_then ! (get ! refl) (no_more !))) refl (tt, (tt, tt)) $
-    nothing ! $ nothing ! $ fjoin ! $ nothing ! $ fjoin ! $
-    returns ! (look_at ! 0 refl) $ free_all ! refl $ keep ! (3 ∷ 0 ∷ 1 ∷ []) $
-    by ! (ends 𝓛 En hs c y token now (tt, (tt, tt)) (tt, (tt, tt))
+    one_moved ! (get_in ! (fld ! refl (stop !)) (sub ! 0 refl (whole !)))
+    (refl, (tt, tt), refl, refl, (tt, (tt, tt))) (look_at ! 0 refl) (free_all ! refl) $
+    keep ! (2 ∷ 0 ∷ []) $ by ! (spent 𝓛 En c y token now (tt, (tt, tt))
     (told 𝓤 ((refl, refl), refl) (fact_i 𝓤 _ (emp 𝓤) (refl, refl)) 𝓛))))))))

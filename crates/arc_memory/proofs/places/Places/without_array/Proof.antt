@@ -38,6 +38,7 @@ use Rattle.std.proofs.raw_atomic.Walks.{proved_at}
 use Rattle.std_alloc.proofs.VecSteps.El.{El, R, el_x, elτ, sz, no_al}
 use Rattle.std_alloc.proofs.VecSteps.Rows as rows
 use Rattle.logbook.proofs.Fields.{token, token_told, ends}
+use Rattle.arc_owners.proofs.Endings.{Walk, spends, enters, spent}
 use Rattle.arc_owners.proofs.Markers.{told}
 use Rattle.arc_memory.specs.Memory.{place_at}
 use Rattle.arc_memory.proofs.Cuts.{Side, items, bare, opened, shut}
@@ -57,17 +58,11 @@ without_array_spec 𝓤 𝓛 𝓜 𝓡 wired T N L fN =
     let En = f.ended T n in let c = f.clauses T n 𝓛 𝓜.mem 𝓡.returns in
     let inst = layouts (a_type ∷ a_number ∷ []) (T, (n, tt)) in
     let fn = inst_fn inst code.function in
-    let hs : Stays En.signature.params En.kept =
-    (stay_dropped (plain (λ _. Pl)) no, (stay_dropped (plain (λ _. RawPtr)) yes, tt)) in
-    proved_at 𝓛 En hs c 𝓜 𝓡 (
-      Goes-blank 𝓛 2 (plain (λ _. Pl)) no (λ κs x w. tt),
-      (Goes-dropped 𝓛 2 (plain (λ _. RawPtr)) yes (λ κs x w. refl), tt),
-    ) (f.Key.name inst) fn
-    (code.unfolded 𝓤 H 𝓜 𝓡 wired (T, (n, tt))) (λ y are.
+    spends 𝓛 En c 𝓜 𝓡 (λ κs x w. tt, (λ κs x w. tt, tt)) _ _
+    (code.unfolded 𝓤 𝓛.H 𝓜 𝓡 wired (T, (n, tt))) (λ y are.
     let κs = y.0.0 in let qs = y.0.1 in let was : Pl.Denot = y.0.3.0 in let at : Ptr = y.0.3.1.0 in
     let xs : List (el_x E) = was.items in let vss = y.0.4 in
-    let Post : Val → SProp 𝓤 = (walk_of 𝓛 En hs c).post y in
-    let Run : List Val → SProp 𝓤 = λ ws. WpFn 𝓤 H 𝓣.C 𝓣.Λ fn ws Post in
+    let Post : Val → SProp 𝓤 = (Walk 𝓛 En c).post y in
     let Place : Type 0 = (at ≡ place_at (R E) was.base was.start) × (was.count ≡ N) in
     let Full : Type 0 = length xs ≡ N in let Small : Type 0 = N * s < 2 ^ 63 in
     qed 𝓛 ((‵ (fsep (flft κs.0 qs.0) (fsep (flft κs.1.0 qs.1.0) ftrue)) ⊛ ‵
@@ -96,9 +91,7 @@ without_array_spec 𝓤 𝓛 𝓜 𝓡 wired T N L fN =
     let e₀ : vss.0 ≡ token ∷ [] = token_told (R E) vss.0 are.0.0 in
     let here : vss.1.0 ≡ vptr b there ∷ [] = e₁ ∙ ap (λ (q : Ptr). ptr_val q ∷ []) at_p in
     let ws : List Val = token ∷ vptr b there ∷ [] in
-    suffices ! (Run ws) (subst (λ (us : List Val). ent 𝓤 (Run ws) (Run us))
-    (sym (λ j. e₀ j ++ (here j ++ []))) (id⊢ 𝓤 (Run ws))) $
-    enter ! 𝓣.C 𝓣.Λ fn ws Post $
+    enters ! _ _ _ _ ws (λ j. e₀ j ++ (here j ++ [])) $
     alloc_all ! (λ l. pass_all ! refl ((tt, (tt, tt)), ((tt, tt), tt)) $
     let Ev = env fn.locals l in
     sets ! (of_opd ! (get_in ! (fld ! refl (stop !)) (sub ! 0 refl (whole !)))) refl (tt, tt) $
@@ -134,7 +127,6 @@ without_array_spec 𝓤 𝓛 𝓜 𝓡 wired T N L fN =
     fpack ! (Valss Rs)
     (λ uss. fsep (feq (List Val) (w ∷ []) (vstruct (of_list (uss.0 ++ (uss.1.0 ++ []))) ∷ []))
     (owns Rs (xs, (now, tt)) uss)) (v ∷ [], (token ∷ [], tt)) $
-    nothing ! $ nothing ! $ fjoin ! $ nothing ! $ fjoin ! $
-    returns ! (look_at ! 0 refl) $ free_all ! refl $ keep ! (3 ∷ 0 ∷ 1 ∷ []) $
-    by ! (ends 𝓛 En hs c y w (xs, now) (tt, (tt, tt)) (tt, (tt, tt))
+    returns ! (look_at ! 0 refl) $ free_all ! refl $ keep ! (2 ∷ 0 ∷ []) $
+    by ! (spent 𝓛 En c y w (xs, now) (tt, (tt, tt))
     (told 𝓤 (refl, refl) (fact_i 𝓤 _ (emp 𝓤) (refl, refl, refl, refl)) 𝓛))))))))))

@@ -22,6 +22,7 @@ use denote.Triple.Walked.{Stays, stay_dropped, walk_of}
 use Rattle.core.proofs.alloc.Calls.{Goes-blank}
 use Rattle.std.proofs.raw_atomic.Walks.{proved_at}
 use Rattle.logbook.proofs.Fields.{token, token_told, ends}
+use Rattle.arc_owners.proofs.memory.Endings.{spends, enters, one_moved, spent}
 use Rattle.arc_owners.proofs.count.Markers.{marked}
 use Rattle.arc_owners.specs.contracts.lifetime.LifetimeToken as LifetimeToken
 use Rattle.arc_owners.specs.contracts.lifetime.LifetimeToken.end as f
@@ -30,28 +31,22 @@ use Rattle.arc_owners.proofs.lifetime.LifetimeToken.end.Code as code
 
 pub end_spec : {M : Type 1} → statement M
 end_spec 𝓤 𝓛 𝓜 𝓡 wired =
-    let H = 𝓛.H in let 𝓣 = tables 𝓤 H 𝓜 𝓡 𝓡.env in let fn = code.function in let En = f.ended in
+    let En = f.ended in
     let c = f.clauses 𝓛 𝓜.mem 𝓡.returns in let Tok : RattleType = LifetimeToken.the_row in
-    let hs : Stays En.signature.params En.kept = (stay_dropped (plain (λ _. Tok)) yes, tt) in
-    proved_at 𝓛 En hs c 𝓜 𝓡 (Goes-blank 𝓛 0 (plain (λ _. Tok)) yes (λ κs x w. tt), tt) f.Key.name fn
-    (code.unfolded 𝓤 H 𝓜 𝓡 wired) (λ y are.
+    spends 𝓛 En c 𝓜 𝓡 (λ κs x w. tt, tt) _ _
+    (code.unfolded 𝓤 𝓛.H 𝓜 𝓡 wired) (λ y are.
     let κs = y.0.0 in let was : Tok.Denot = y.0.3.0 in let vss = y.0.4 in
-    let Post : Val → SProp 𝓤 = (walk_of 𝓛 En hs c).post y in
-    let Run : List Val → SProp 𝓤 = λ ws. WpFn 𝓤 H 𝓣.C 𝓣.Λ fn ws Post in
     let Asked : Type 0 = was.share ≡ full_share in
     qed 𝓛 ((‵ ftrue ⊛ ‵ (owns (types_at En.signature.params κs) y.0.3 vss)) ∷ raw
     (fact 𝓤 Asked) ∷ []) ∵
     move ! (1 ∷ []) $ heard ! Asked (λ asked. split ! $ move ! (1 ∷ []) $ fsplit ! $ fsplit ! $
     drop ! $ rewrite ! 0 (λ (q : Share). ‵ (flft (was.lifetime ∷ []) q)) asked refl $
     -- [the token; no more parameters; nothing]
-    let e₀ : vss.0 ≡ token ∷ [] = token_told unit vss.0 are.0.0 in let ws : List Val = token ∷ [] in
-    suffices ! (Run ws) (subst (λ (us : List Val). ent 𝓤 (Run ws) (Run us)) (sym (λ j. e₀ j ++ []))
-    (id⊢ 𝓤 (Run ws))) $
-    enter ! 𝓣.C 𝓣.Λ fn ws Post $ alloc_all ! (λ l. pass_all ! refl ((tt, (tt, tt)), tt) $
+    enters ! _ _ _ _ (token ∷ []) (λ j. token_told unit vss.0 are.0.0 j ++ []) $
+    alloc_all ! (λ l. pass_all ! refl ((tt, (tt, tt)), tt) $
     lft_end ! tt $ marked unit ! $
-    sets ! (of_opd ! (get_in ! (fld ! refl (stop !)) (sub ! 0 refl (whole !)))) refl (tt, tt) $
-    sets ! (agg ! (and_then ! (get ! refl) (no_more !))) refl (tt, (tt, tt)) $
-    nothing ! $ nothing ! $ fjoin ! $ returns ! (look_at ! 0 refl) $ free_all ! refl $
-    keep ! (3 ∷ 0 ∷ 1 ∷ []) $
-    by ! (ends 𝓛 En hs c y token (record { marker = record {}; lifetime = was.lifetime }) (tt, tt)
-    (tt, tt) (fact_i 𝓤 _ (emp 𝓤) refl)))))
+    one_moved ! (get_in ! (fld ! refl (stop !)) (sub ! 0 refl (whole !)))
+    (refl, (tt, tt), refl, refl, (tt, (tt, tt))) (look_at ! 0 refl) (free_all ! refl) $
+    keep ! (2 ∷ 0 ∷ []) $
+    by ! (spent 𝓛 En c y token (record { marker = record {}; lifetime = was.lifetime }) (tt, tt)
+    (fact_i 𝓤 _ (emp 𝓤) refl)))))

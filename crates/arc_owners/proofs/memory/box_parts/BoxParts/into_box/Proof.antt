@@ -34,6 +34,7 @@ use Rattle.std_alloc.proofs.BoxSteps.Form.{Bx, D, B, word, box_typed}
 use Rattle.std_alloc.proofs.BoxSteps.Steps.{box_out, box_in}
 use Rattle.std_alloc.specs.contracts.boxed.Box.from_raw as callee
 use Rattle.std_alloc.proofs.boxed.Box.from_raw.Met.{met}
+use Rattle.arc_owners.proofs.memory.Endings.{Walk, spends, enters, spent}
 use Rattle.arc_owners.proofs.memory.Boxes.{Row, boxed, as_box}
 use Rattle.arc_owners.specs.contracts.memory.box_parts.BoxParts.into_box as f
 use Rattle.arc_owners.proofs.memory.box_parts.BoxParts.into_box.Statement.{statement}
@@ -56,12 +57,10 @@ into_box_spec 𝓤 𝓛 𝓜 𝓡 wired T A L LA g d dt da allocator glue glued 
     let En = f.ended T A g d dt da in let c = f.clauses T A g d dt da 𝓛 𝓜.mem 𝓡.returns in
     let inst = bounded (a_type ∷ a_type ∷ []) (T, (A, tt)) (dcons d (dcons dt (dcons da dnil))) in
     let fn = inst_fn inst code.function in
-    let hs : Stays En.signature.params En.kept = (stay_dropped (plain (λ _. Row E)) no, tt) in
-    proved_at 𝓛 En hs c 𝓜 𝓡 (Goes-blank 𝓛 2 (plain (λ _. Row E)) no (λ κs x w. tt), tt)
-    (f.Key.name inst) fn (code.unfolded 𝓤 H 𝓜 𝓡 wired (T, (A, tt)) d dt da) (λ y are.
+    spends 𝓛 En c 𝓜 𝓡 (λ κs x w. tt, tt) _ _
+    (code.unfolded 𝓤 𝓛.H 𝓜 𝓡 wired (T, (A, tt)) d dt da) (λ y are.
     let κs = y.0.0 in let qs = y.0.1 in let was : (Row E).Denot = y.0.3.0 in
-    let Post : Val → SProp 𝓤 = (walk_of 𝓛 En hs c).post y in
-    let Run : List Val → SProp 𝓤 = λ ws. WpFn 𝓤 H 𝓣.C 𝓣.Λ fn ws Post in
+    let Post : Val → SProp 𝓤 = (Walk 𝓛 En c).post y in
     let alive = ‵ (flft κs.0 qs.0) ⊛ ‵ (flft κs.1.0 qs.1.0) ⊛ ‵ ftrue in
     qed 𝓛 ((alive ⊛ ‵ (owns (types_at En.signature.params κs) y.0.3 y.0.4)) ∷ raw
     ((c κs y.0.3).requires y.1) ∷ []) ∵ split ! $ move ! (1 ∷ []) $ fsplit ! $
@@ -80,9 +79,7 @@ into_box_spec 𝓤 𝓛 𝓜 𝓡 wired T A L LA g d dt da allocator glue glued 
     feq_i ! (List Val) (vptr b o ∷ []) (vptr b o ∷ []) refl $ fjoin ! $ move ! (2 ∷ 0 ∷ []) $
     fjoin ! $ move ! (3 ∷ 0 ∷ 1 ∷ []) $ join ! $ join ! $
     use1 𝓛 (raw (G.pre z)) (id⊢ 𝓤 _) $
-    suffices ! (Run (v ∷ [])) (subst (λ (us : List Val). ent 𝓤 (Run (v ∷ [])) (Run (us ++ [])))
-    (sym is) (id⊢ 𝓤 (Run (v ∷ [])))) $
-    enter ! 𝓣.C 𝓣.Λ fn (v ∷ []) Post $ alloc_all ! (λ l. pass_all ! refl (typed, tt) $
+    enters ! _ _ _ _ (v ∷ []) (λ j. is j ++ []) $ alloc_all ! (λ l. pass_all ! refl (typed, tt) $
     let Ev = env fn.locals l in
     sets ! (of_opd ! (get_in ! (fld ! refl (stop !)) (sub ! 0 refl (whole !)))) refl (tt, tt) $
     sets ! (of_opd ! (get_in ! (fld ! refl (stop !)) (sub ! 1 refl (whole !)))) refl fits $
@@ -98,15 +95,13 @@ into_box_spec 𝓤 𝓛 𝓜 𝓡 wired T A L LA g d dt da allocator glue glued 
     pick ! (λ ws. split3 ! $ move ! (3 ∷ 1 ∷ []) $ split ! $ move ! (2 ∷ []) $
     heard ! (r.value ≡ was.value) (λ same_value. move ! (3 ∷ []) $
     heard ! (r.alloc ≡ was.alloc) (λ same_alloc.
-    use0 𝓛 (raw (fact 𝓤 ((r.value ≡ was.value) × (r.alloc ≡ was.alloc))))
-    (fact_i 𝓤 ((r.value ≡ was.value) × (r.alloc ≡ was.alloc)) (emp 𝓤)
-    (same_value, same_alloc)) $ move ! (2 ∷ 1 ∷ 0 ∷ []) $
-    -- [the box; the tokens; its value]
+    move ! (1 ∷ 0 ∷ []) $
+    -- [the box; the tokens]
     box_out E ! r (u ∷ []) (λ b₂ o₂ h₂ at_b₂ is₂ fits₂. box_in E ! r b₂ o₂ r.value at_b₂ refl $
     rewrite ! 0 (λ (us : List Val). ‵ ((B E).own_val r us)) (sym is₂) refl $
     let typed₂ : Good (layout (B E)) u = subst (Good (layout (B E))) (sym (ap only is₂))
     (box_typed E h₂ b₂ o₂ fits₂) in
     lands_last ! refl typed₂ $ exec ! 𝓣.C 𝓣.Λ Ev (after 3 fn.body) (at_ret Ev Post) $
-    sets ! (of_opd ! (get ! refl)) refl typed₂ $ nothing ! $ nothing ! $ fjoin ! $
-    returns ! (look_at ! 0 refl) $ free_all ! refl $ keep ! (2 ∷ 0 ∷ 1 ∷ 3 ∷ []) $
-    by ! (leaves 𝓛 En hs c y u r ((tt, (tt, tt)), tt) (tt, tt)))))))))))
+    sets ! (of_opd ! (get ! refl)) refl typed₂ $
+    returns ! (look_at ! 0 refl) $ free_all ! refl $ keep ! (1 ∷ 0 ∷ []) $
+    by ! (spent 𝓛 En c y u r ((tt, (tt, tt)), tt) (fact_i 𝓤 _ (emp 𝓤) (same_value, same_alloc))))))))))))

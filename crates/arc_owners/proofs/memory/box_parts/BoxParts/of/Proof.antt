@@ -31,6 +31,7 @@ use Rattle.std_alloc.proofs.BoxSteps.Form.{Bx, D, R, B, word, box_typed}
 use Rattle.std_alloc.proofs.BoxSteps.Steps.{box_out, box_in}
 use Rattle.std_alloc.specs.contracts.boxed.Box.into_raw_with_allocator as callee
 use Rattle.std_alloc.proofs.boxed.Box.into_raw_with_allocator.Met.{met}
+use Rattle.arc_owners.proofs.memory.Endings.{spends, enters, spent}
 use Rattle.arc_owners.proofs.memory.Boxes.{Row, Pair, as_bare, pair_as_box}
 use Rattle.arc_owners.specs.contracts.memory.box_parts.BoxParts.of as f
 use Rattle.arc_owners.proofs.memory.box_parts.BoxParts.of.Statement.{statement}
@@ -38,7 +39,6 @@ use Rattle.arc_owners.proofs.memory.box_parts.BoxParts.of.Code as code
 
 pub of_spec : {M : Type 1} → statement M
 of_spec 𝓤 𝓛 𝓜 𝓡 wired T A L LA g d dt da allocator glue glued =
-    let H = 𝓛.H in let 𝓣 = tables 𝓤 H 𝓜 𝓡 𝓡.env in
     let E : Bx = record {
       row = T;
       laws = L;
@@ -51,14 +51,9 @@ of_spec 𝓤 𝓛 𝓜 𝓡 wired T A L LA g d dt da allocator glue glued =
       };
     } in
     let En = f.ended T A g d dt da in let c = f.clauses T A g d dt da 𝓛 𝓜.mem 𝓡.returns in
-    let inst = bounded (a_type ∷ a_type ∷ []) (T, (A, tt)) (dcons d (dcons dt (dcons da dnil))) in
-    let fn = inst_fn inst code.function in
-    let hs : Stays En.signature.params En.kept = (stay_dropped (plain (λ _. B E)) no, tt) in
-    proved_at 𝓛 En hs c 𝓜 𝓡 (Goes-blank 𝓛 2 (plain (λ _. B E)) no (λ κs x w. tt), tt)
-    (f.Key.name inst) fn (code.unfolded 𝓤 H 𝓜 𝓡 wired (T, (A, tt)) d dt da) (λ y are.
+    spends 𝓛 En c 𝓜 𝓡 (λ κs x w. tt, tt) _ _
+    (code.unfolded 𝓤 𝓛.H 𝓜 𝓡 wired (T, (A, tt)) d dt da) (λ y are.
     let κs = y.0.0 in let qs = y.0.1 in let was : D E = y.0.3.0 in
-    let Post : Val → SProp 𝓤 = (walk_of 𝓛 En hs c).post y in
-    let Run : List Val → SProp 𝓤 = λ ws. WpFn 𝓤 H 𝓣.C 𝓣.Λ fn ws Post in
     let alive = ‵ (flft κs.0 qs.0) ⊛ ‵ (flft κs.1.0 qs.1.0) ⊛ ‵ ftrue in
     qed 𝓛 ((alive ⊛ ‵ (owns (types_at En.signature.params κs) y.0.3 y.0.4)) ∷ raw
     ((c κs y.0.3).requires y.1) ∷ []) ∵ split ! $ move ! (1 ∷ []) $ fsplit ! $
@@ -69,9 +64,7 @@ of_spec 𝓤 𝓛 𝓜 𝓡 wired T A L LA g d dt da allocator glue glued =
     (callee.spec T A g d da dt 𝓛 𝓜.mem 𝓡.returns) in
     let z : G.Ghost = ((κs, qs, tt, (was, tt), (v ∷ [], tt)), tt) in
     fjoin ! $ move ! (1 ∷ 0 ∷ []) $ join ! $ join ! $ use1 𝓛 (raw (G.pre z)) (id⊢ 𝓤 _) $
-    suffices ! (Run (v ∷ [])) (subst (λ (us : List Val). ent 𝓤 (Run (v ∷ [])) (Run (us ++ [])))
-    (sym is) (id⊢ 𝓤 (Run (v ∷ [])))) $
-    enter ! 𝓣.C 𝓣.Λ fn (v ∷ []) Post $ alloc_all ! (λ l. pass_all ! refl (typed, tt) $
+    enters ! _ _ _ _ (v ∷ []) (λ j. is j ++ []) $ alloc_all ! (λ l. pass_all ! refl (typed, tt) $
     sets ! (of_opd ! (get ! refl)) refl typed $
     calls_at ! (fm 𝓛 𝓜 𝓡) G
     (met 𝓤 𝓛 𝓜 𝓡 (code.calls-std_alloc::boxed::Box::into_raw_with_allocator 𝓡.env wired) T A L
@@ -99,8 +92,5 @@ of_spec 𝓤 𝓛 𝓜 𝓡 wired T A L LA g d dt da allocator glue glued =
     sets ! (of_opd ! (get_in ! (fld ! refl (stop !)) (sub ! 1 refl (whole !)))) refl fits₂ $
     sets ! (of_opd ! (get ! refl)) refl fits₂ $
     sets ! (agg ! (and_then ! (get ! refl) (and_then ! (get ! refl) (no_more !)))) refl typed₂ $
-    use0 𝓛 (raw (fact 𝓤 ((was.value ≡ was.value) × (r.1 ≡ was.alloc))))
-    (fact_i 𝓤 ((was.value ≡ was.value) × (r.1 ≡ was.alloc)) (emp 𝓤) (refl, same)) $ nothing ! $
-    nothing ! $ fjoin ! $
-    returns ! (look_at ! 0 refl) $ free_all ! refl $ keep ! (3 ∷ 0 ∷ 2 ∷ 1 ∷ []) $
-    by ! (leaves 𝓛 En hs c y w now ((tt, (tt, tt)), tt) (tt, tt))))))))))
+    returns ! (look_at ! 0 refl) $ free_all ! refl $ keep ! (1 ∷ 0 ∷ []) $
+    by ! (spent 𝓛 En c y w now ((tt, (tt, tt)), tt) (fact_i 𝓤 _ (emp 𝓤) (refl, same)))))))))))

@@ -24,6 +24,7 @@ use Rattle.core.proofs.alloc.Calls.{Goes-blank}
 use Rattle.std.proofs.raw_atomic.Walks.{proved_at, leaves}
 use Rattle.std_alloc.proofs.BoxSteps.Form.{Bx, P, B, word as box_word, box_typed}
 use Rattle.std_alloc.proofs.BoxSteps.Steps.{box_out}
+use Rattle.arc_owners.proofs.memory.Endings.{spends, enters, both_spent}
 use Rattle.arc_owners.proofs.memory.Boxes.{Row as Bare, boxed, as_box}
 use Rattle.arc_owners.proofs.memory.BoxPlaces.{Row, word, place_in}
 use Rattle.arc_owners.specs.contracts.memory.box_place.BoxPlace.of as f
@@ -32,7 +33,6 @@ use Rattle.arc_owners.proofs.memory.box_place.BoxPlace.of.Code as code
 
 pub of_spec : {M : Type 1} → statement M
 of_spec 𝓤 𝓛 𝓜 𝓡 wired T A L LA g d da allocator glued =
-    let H = 𝓛.H in let 𝓣 = tables 𝓤 H 𝓜 𝓡 𝓡.env in
     let E : Bx = record {
       row = T;
       laws = L;
@@ -45,14 +45,9 @@ of_spec 𝓤 𝓛 𝓜 𝓡 wired T A L LA g d da allocator glued =
       };
     } in
     let En = f.ended T A g d da in let c = f.clauses T A g d da 𝓛 𝓜.mem 𝓡.returns in
-    let inst = bounded (a_type ∷ a_type ∷ []) (T, (A, tt)) (dcons d (dcons da dnil)) in
-    let fn = inst_fn inst code.function in
-    let hs : Stays En.signature.params En.kept = (stay_dropped (plain (λ _. Bare E)) no, tt) in
-    proved_at 𝓛 En hs c 𝓜 𝓡 (Goes-blank 𝓛 2 (plain (λ _. Bare E)) no (λ κs x w. tt), tt)
-    (f.Key.name inst) fn (code.unfolded 𝓤 H 𝓜 𝓡 wired (T, (A, tt)) d da) (λ y are.
+    spends 𝓛 En c 𝓜 𝓡 (λ κs x w. tt, tt) _ _
+    (code.unfolded 𝓤 𝓛.H 𝓜 𝓡 wired (T, (A, tt)) d da) (λ y are.
     let κs = y.0.0 in let qs = y.0.1 in let was : (Bare E).Denot = y.0.3.0 in let vss = y.0.4 in
-    let Post : Val → SProp 𝓤 = (walk_of 𝓛 En hs c).post y in
-    let Run : List Val → SProp 𝓤 = λ ws. WpFn 𝓤 H 𝓣.C 𝓣.Λ fn ws Post in
     qed 𝓛 ((‵ (fsep (flft κs.0 qs.0) (fsep (flft κs.1.0 qs.1.0) ftrue)) ⊛ ‵
     (owns (types_at En.signature.params κs) y.0.3 vss)) ∷ raw ((c κs y.0.3).requires y.1) ∷ [])
     ∵ keep ! (0 ∷ []) $ split ! $ move ! (1 ∷ []) $ fsplit ! $
@@ -66,9 +61,7 @@ of_spec 𝓤 𝓛 𝓜 𝓡 wired T A L LA g d da allocator glued =
       value = was.value;
       alloc = was.alloc;
     } in
-    suffices ! (Run (v ∷ [])) (subst (λ (us : List Val). ent 𝓤 (Run (v ∷ [])) (Run (us ++ [])))
-    (sym is) (id⊢ 𝓤 (Run (v ∷ [])))) $
-    enter ! 𝓣.C 𝓣.Λ fn (v ∷ []) Post $ alloc_all ! (λ l. pass_all ! refl (typed, tt) $
+    enters ! _ _ _ _ (v ∷ []) (λ j. is j ++ []) $ alloc_all ! (λ l. pass_all ! refl (typed, tt) $
     place_in E ! now b o was.value at_b refl $
     sets ! (of_opd ! (get_in ! (fld ! refl (stop !)) (sub ! 0 refl (whole !)))) refl (tt, tt) $
     sets ! (of_opd ! (get_in ! (fld ! refl (stop !)) (sub ! 1 refl (whole !)))) refl fits $
@@ -78,16 +71,6 @@ of_spec 𝓤 𝓛 𝓜 𝓡 wired T A L LA g d da allocator glued =
     sets ! (of_opd ! (get ! refl)) refl fits $
     sets ! (agg ! (and_then ! (get ! refl) (and_then ! (get ! refl) (no_more !)))) refl
     (typed.0, ((tt, (tt, tt)), (typed.1.1.0, tt))) $
-    let w : Val = word E (block_ptr b o) in let u : Val = vstruct (vcons w (vcons h vnil)) in
-    let Rs : List RattleType = Row E ∷ P E ∷ [] in
-    nothing ! $ move ! (2 ∷ 0 ∷ []) $ fjoin ! $ move ! (1 ∷ 0 ∷ []) $ fjoin ! $
-    feq_i ! (List Val) (u ∷ []) (u ∷ []) refl $ fjoin ! $
-    fpack ! (Valss Rs)
-    (λ uss. fsep (feq (List Val) (u ∷ []) (vstruct (of_list (uss.0 ++ (uss.1.0 ++ []))) ∷ []))
-    (owns Rs (now, (was.alloc, tt)) uss)) (w ∷ [], (h ∷ [], tt)) $
-    let Told : Type 0 = (was.value ≡ was.value) × (was.alloc ≡ was.alloc) × (was.at ≡ was.at)
-    × (was.alloc ≡ was.alloc) in
-    use0 𝓛 (raw (fact 𝓤 Told)) (fact_i 𝓤 Told (emp 𝓤) (refl, refl, refl, refl)) $ nothing ! $
-    nothing ! $ fjoin ! $
-    returns ! (look_at ! 0 refl) $ free_all ! refl $ keep ! (4 ∷ 0 ∷ 2 ∷ 1 ∷ []) $
-    by ! (leaves 𝓛 En hs c y u (now, was.alloc) ((tt, (tt, tt)), tt) (tt, tt)))))
+    returns ! (look_at ! 0 refl) $ free_all ! refl $ keep ! (0 ∷ 1 ∷ 3 ∷ []) $
+    by ! (both_spent 𝓛 En c y (Row E) (P E) now was.alloc (word E (block_ptr b o)) h
+    (now, was.alloc) ((tt, (tt, tt)), tt) refl (fact_i 𝓤 _ (emp 𝓤) (refl, refl, refl, refl))))))

@@ -25,6 +25,7 @@ use Rattle.core.proofs.alloc.Calls.{Goes-blank, handle_tells}
 use Rattle.std.proofs.raw_atomic.Walks.{proved_at, leaves}
 use Rattle.std_alloc.proofs.BoxSteps.Form.{Bx, P, word as box_word, box_typed}
 use Rattle.std_alloc.proofs.BoxSteps.Steps.{box_in}
+use Rattle.arc_owners.proofs.memory.Endings.{spends, enters, spent}
 use Rattle.arc_owners.proofs.memory.Boxes.{Row as Bare, boxed, as_bare}
 use Rattle.arc_owners.proofs.memory.BoxPlaces.{Row, word, frees, place_out}
 use Rattle.arc_owners.specs.contracts.memory.box_place.BoxPlace.with as f
@@ -33,7 +34,6 @@ use Rattle.arc_owners.proofs.memory.box_place.BoxPlace.with.Code as code
 
 pub with_spec : {M : Type 1} → statement M
 with_spec 𝓤 𝓛 𝓜 𝓡 wired T A L LA g d da allocator glued =
-    let H = 𝓛.H in let 𝓣 = tables 𝓤 H 𝓜 𝓡 𝓡.env in
     let E : Bx = record {
       row = T;
       laws = L;
@@ -46,19 +46,10 @@ with_spec 𝓤 𝓛 𝓜 𝓡 wired T A L LA g d da allocator glued =
       };
     } in
     let En = f.ended T A g d da in let c = f.clauses T A g d da 𝓛 𝓜.mem 𝓡.returns in
-    let inst = bounded (a_type ∷ a_type ∷ []) (T, (A, tt)) (dcons d (dcons da dnil)) in
-    let fn = inst_fn inst code.function in
-    let hs : Stays En.signature.params En.kept =
-    (stay_dropped (plain (λ _. Row E)) no, (stay_dropped (plain (λ _. P E)) no, tt)) in
-    proved_at 𝓛 En hs c 𝓜 𝓡 (
-      Goes-blank 𝓛 2 (plain (λ _. Row E)) no (λ κs x w. tt),
-      (Goes-blank 𝓛 2 (plain (λ _. P E)) no (λ κs x w. tt), tt),
-    ) (f.Key.name inst) fn
-    (code.unfolded 𝓤 H 𝓜 𝓡 wired (T, (A, tt)) d da) (λ y are.
+    spends 𝓛 En c 𝓜 𝓡 (λ κs x w. tt, (λ κs x w. tt, tt)) _ _
+    (code.unfolded 𝓤 𝓛.H 𝓜 𝓡 wired (T, (A, tt)) d da) (λ y are.
     let κs = y.0.0 in let qs = y.0.1 in let me : (Row E).Denot = y.0.3.0 in
     let al : A.Denot = y.0.3.1.0 in let vss = y.0.4 in
-    let Post : Val → SProp 𝓤 = (walk_of 𝓛 En hs c).post y in
-    let Run : List Val → SProp 𝓤 = λ ws. WpFn 𝓤 H 𝓣.C 𝓣.Λ fn ws Post in
     qed 𝓛 ((‵ (fsep (flft κs.0 qs.0) (fsep (flft κs.1.0 qs.1.0) ftrue)) ⊛ ‵
     (owns (types_at En.signature.params κs) y.0.3 vss)) ∷ raw (fact 𝓤 (κs.0 ⊑ T.lives)) ∷ raw
     (fact 𝓤 (κs.1.0 ⊑ A.lives)) ∷ raw (fact 𝓤 (al ≡ me.alloc)) ∷ []) ∵
@@ -68,9 +59,7 @@ with_spec 𝓤 𝓛 𝓜 𝓡 wired T A L LA g d da allocator glued =
     -- [the allocator; no more parameters; what lies there; the right to free it; the tokens]
     let p : Val = word E (block_ptr b o) in let v : Val = box_word E h b o in
     let now : (Bare E).Denot = record { at = me.at; alloc = al; value = me.value } in
-    suffices ! (Run (p ∷ h ∷ [])) (subst (λ (us : List Val). ent 𝓤 (Run (p ∷ h ∷ [])) (Run us))
-    (sym (λ i. is i ++ (ea i ++ []))) (id⊢ 𝓤 (Run (p ∷ h ∷ [])))) $
-    enter ! 𝓣.C 𝓣.Λ fn (p ∷ h ∷ []) Post $
+    enters ! _ _ _ _ (p ∷ h ∷ []) (λ i. is i ++ (ea i ++ [])) $
     alloc_all ! (λ l. pass_all ! refl ((tt, (tt, (tt, tt))), (fits, tt)) $
     rewrite ! 3 (λ (k : A.Denot). ‵ (frees E (record me { alloc = k }) b o)) (sym same) refl $
     move ! (2 ∷ 3 ∷ 0 ∷ []) $ box_in E ! (boxed E now) b o me.value at_b refl $
@@ -79,8 +68,5 @@ with_spec 𝓤 𝓛 𝓜 𝓡 wired T A L LA g d da allocator glued =
     sets ! (of_opd ! (get ! refl)) refl fits $
     sets ! (agg ! (and_then ! (get ! refl) (and_then ! (get ! refl) (no_more !)))) refl
     (box_typed E h b o fits) $
-    let Told : Type 0 = (me.value ≡ me.value) × (me.at ≡ me.at) × (al ≡ al) in
-    use0 𝓛 (raw (fact 𝓤 Told)) (fact_i 𝓤 Told (emp 𝓤) (refl, refl, refl)) $ nothing ! $ nothing ! $
-    fjoin ! $ nothing ! $ fjoin ! $
-    returns ! (look_at ! 0 refl) $ free_all ! refl $ keep ! (4 ∷ 0 ∷ 2 ∷ 1 ∷ []) $
-    by ! (leaves 𝓛 En hs c y v now (tt, (tt, tt)) (tt, (tt, tt))))))))
+    returns ! (look_at ! 0 refl) $ free_all ! refl $ keep ! (2 ∷ 0 ∷ []) $
+    by ! (spent 𝓛 En c y v now (tt, (tt, tt)) (fact_i 𝓤 _ (emp 𝓤) (refl, refl, refl))))))))

@@ -30,6 +30,7 @@ use Rattle.std_alloc.proofs.OfLodged.{lodged_al, handle_made}
 use Rattle.std_alloc.proofs.BoxSteps.Form.{Bx, X, R, word as box_word, handle, box_typed}
 use Rattle.std_alloc.proofs.BoxSteps.Steps.{el_in, el_tells, box_in}
 use Rattle.logbook.proofs.Fields.{ends}
+use Rattle.arc_owners.proofs.memory.Endings.{Walk, spends, spent}
 use Rattle.arc_owners.proofs.memory.Boxes.{Row as Bare, boxed, as_bare}
 use Rattle.arc_owners.proofs.memory.HeaderRooms.{Row, word, room_out}
 use Rattle.arc_owners.specs.contracts.memory.header_room.HeaderRoom.hold as f
@@ -42,15 +43,11 @@ hold_spec 𝓤 𝓛 𝓜 𝓡 wired T L =
     let E : Bx = record { row = T; laws = L; al = lodged_al } in
     let En = f.ended T in let c = f.clauses T 𝓛 𝓜.mem 𝓡.returns in
     let inst = layouts (a_type ∷ []) (T, tt) in let fn = inst_fn inst code.function in
-    let hs : Stays En.signature.params En.kept =
-    (stay_dropped (plain (λ _. Row E)) no, (stay_dropped (plain (λ _. R E)) no, tt)) in
-    proved_at 𝓛 En hs c 𝓜 𝓡 (
-      Goes-blank 𝓛 1 (plain (λ _. Row E)) no (λ κs x w. tt),
-      (Goes-blank 𝓛 1 (plain (λ _. R E)) no (λ κs x w. tt), tt),
-    ) (f.Key.name inst) fn (code.unfolded 𝓤 H 𝓜 𝓡 wired (T, tt)) (λ y are.
+    spends 𝓛 En c 𝓜 𝓡 (λ κs x w. tt, (λ κs x w. tt, tt)) _ _
+    (code.unfolded 𝓤 𝓛.H 𝓜 𝓡 wired (T, tt)) (λ y are.
     let κs = y.0.0 in let qs = y.0.1 in let room : (Row E).Denot = y.0.3.0 in
     let x : X E = y.0.3.1.0 in let vss = y.0.4 in
-    let Post : Val → SProp 𝓤 = (walk_of 𝓛 En hs c).post y in
+    let Post : Val → SProp 𝓤 = (Walk 𝓛 En c).post y in
     let Run : List Val → SProp 𝓤 = λ ws. WpFn 𝓤 H 𝓣.C 𝓣.Λ fn ws Post in
     qed 𝓛 ((‵ (fsep (flft κs.0 qs.0) ftrue) ⊛ ‵ (owns (types_at En.signature.params κs) y.0.3 vss))
     ∷ raw ((c κs y.0.3).requires y.1) ∷ []) ∵ keep ! (0 ∷ []) $ split ! $ move ! (1 ∷ []) $
@@ -76,7 +73,6 @@ hold_spec 𝓤 𝓛 𝓜 𝓡 wired T L =
     let now : (Bare E).Denot = record { at = room.at; alloc = record {}; value = x } in
     box_in E ! (boxed E now) b o x at_b refl $
     use1 𝓛 (‵ ((Bare E).own_val now (u ∷ []))) (as_bare E 𝓛 now (u ∷ [])) $
-    nothing ! $ nothing ! $ fjoin ! $ nothing ! $ fjoin ! $
-    returns ! (look_at ! 0 refl) $ free_all ! refl $ keep ! (3 ∷ 0 ∷ 1 ∷ []) $
-    by ! (ends 𝓛 En hs c y u now (tt, (tt, tt)) (tt, (tt, tt))
+    returns ! (look_at ! 0 refl) $ free_all ! refl $ keep ! (2 ∷ 0 ∷ []) $
+    by ! (spent 𝓛 En c y u now (tt, (tt, tt))
     (fact_i 𝓤 _ (emp 𝓤) (refl, refl)))))))

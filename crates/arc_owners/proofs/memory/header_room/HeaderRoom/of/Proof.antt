@@ -33,6 +33,7 @@ use Rattle.std_alloc.proofs.OfLodged.{lodged_al}
 use Rattle.std_alloc.proofs.BoxSteps.Form.{Bx, Good, R, B, τ, own, word as box_word, box_typed}
 use Rattle.std_alloc.proofs.BoxSteps.Steps.{el_out, box_out}
 use Rattle.logbook.proofs.Fields.{ends}
+use Rattle.arc_owners.proofs.memory.Endings.{Walk, spends, enters, spent}
 use Rattle.arc_owners.proofs.memory.Boxes.{boxed, as_box}
 use Rattle.arc_owners.proofs.memory.HeaderRooms.{Row, word, room_in}
 use Rattle.arc_owners.specs.contracts.memory.box_parts.BoxParts as BoxParts
@@ -47,12 +48,10 @@ of_spec 𝓤 𝓛 𝓜 𝓡 wired T L =
     let Had : RattleType = BoxParts.the_row (R E) Lodged.the_row ghosts in
     let En = f.ended T in let c = f.clauses T 𝓛 𝓜.mem 𝓡.returns in
     let inst = layouts (a_type ∷ []) (T, tt) in let fn = inst_fn inst code.function in
-    let hs : Stays En.signature.params En.kept = (stay_dropped (plain (λ _. Had)) no, tt) in
-    proved_at 𝓛 En hs c 𝓜 𝓡 (Goes-blank 𝓛 1 (plain (λ _. Had)) no (λ κs x w. tt), tt)
-    (f.Key.name inst) fn (code.unfolded 𝓤 H 𝓜 𝓡 wired (T, tt)) (λ y are.
+    spends 𝓛 En c 𝓜 𝓡 (λ κs x w. tt, tt) _ _
+    (code.unfolded 𝓤 𝓛.H 𝓜 𝓡 wired (T, tt)) (λ y are.
     let κs = y.0.0 in let qs = y.0.1 in let was : Had.Denot = y.0.3.0 in let vss = y.0.4 in
-    let Post : Val → SProp 𝓤 = (walk_of 𝓛 En hs c).post y in
-    let Run : List Val → SProp 𝓤 = λ ws. WpFn 𝓤 H 𝓣.C 𝓣.Λ fn ws Post in
+    let Post : Val → SProp 𝓤 = (Walk 𝓛 En c).post y in
     qed 𝓛 ((‵ (fsep (flft κs.0 qs.0) ftrue) ⊛ ‵ (owns (types_at En.signature.params κs) y.0.3 vss))
     ∷ raw ((c κs y.0.3).requires y.1) ∷ []) ∵ keep ! (0 ∷ []) $ split ! $ move ! (1 ∷ []) $
     fsplit ! $ use1 𝓛 (‵ ((B E).own_val (boxed E was) vss.0)) (as_box E 𝓛 was vss.0) $
@@ -62,9 +61,7 @@ of_spec 𝓤 𝓛 𝓜 𝓡 wired T L =
     (el_out E 𝓛 was.value b o) $ pick ! (λ v. learn ! (λ t. split ! $
     -- [the cell; the value; the tokens]
     let u : Val = box_word E h b o in
-    suffices ! (Run (u ∷ [])) (subst (λ (us : List Val). ent 𝓤 (Run (u ∷ [])) (Run (us ++ [])))
-    (sym is) (id⊢ 𝓤 (Run (u ∷ [])))) $
-    enter ! 𝓣.C 𝓣.Λ fn (u ∷ []) Post $
+    enters ! _ _ _ _ (u ∷ []) (λ j. is j ++ []) $
     alloc_all ! (λ l. pass_all ! refl (box_typed E h b o fits, tt) $ let Ev = env fn.locals l in
     sets ! (of_opd ! (get_in ! (fld ! refl (stop !)) (sub ! 0 refl (whole !)))) refl (tt, tt) $
     first ! $ blocks ! $
@@ -84,7 +81,6 @@ of_spec 𝓤 𝓛 𝓜 𝓡 wired T L =
     fpack ! (Valss Rs) (λ uss. fsep (feq (List Val) (p ∷ [])
     (vstruct (of_list (uss.0 ++ (uss.1.0 ++ []))) ∷ []))
     (owns Rs (room, (was.value, tt)) uss)) (w ∷ [], (v ∷ [], tt)) $
-    nothing ! $ nothing ! $ fjoin ! $
-    returns ! (look_at ! 0 refl) $ free_all ! refl $ keep ! (2 ∷ 0 ∷ 1 ∷ []) $
-    by ! (ends 𝓛 En hs c y p (room, was.value) (tt, tt) (tt, tt)
+    returns ! (look_at ! 0 refl) $ free_all ! refl $ keep ! (1 ∷ 0 ∷ []) $
+    by ! (spent 𝓛 En c y p (room, was.value) (tt, tt)
     (fact_i 𝓤 _ (emp 𝓤) (refl, refl))))))))

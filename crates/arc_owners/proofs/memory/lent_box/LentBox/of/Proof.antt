@@ -29,6 +29,7 @@ use Rattle.std_alloc.specs.Box.Ownership.{box_owns}
 use Rattle.std_alloc.proofs.BoxSteps.Form.{Bx, R, P, B, word, box_typed}
 use Rattle.std_alloc.proofs.BoxSteps.Steps.{box_out}
 use Rattle.logbook.proofs.Fields.{token, Token, token_made}
+use Rattle.arc_owners.proofs.memory.Endings.{spends, enters, spent}
 use Rattle.arc_owners.specs.count.Invariant.{Lease, kept_for}
 use Rattle.arc_owners.proofs.memory.Boxes.{Row, boxed, as_box}
 use Rattle.arc_owners.proofs.count.Returns.{keeps}
@@ -41,7 +42,6 @@ use Rattle.arc_owners.proofs.memory.lent_box.LentBox.of.Code as code
 
 pub of_spec : {M : Type 1} → statement M
 of_spec 𝓤 𝓛 𝓜 𝓡 wired T A Q L LA LQ g d da allocator glued =
-    let H = 𝓛.H in let 𝓣 = tables 𝓤 H 𝓜 𝓡 𝓡.env in
     let E : Bx = record {
       row = T;
       laws = L;
@@ -55,28 +55,14 @@ of_spec 𝓤 𝓛 𝓜 𝓡 wired T A Q L LA LQ g d da allocator glued =
     } in
     let Own : RattleType = OwnerToken.the_row (param 2 Q) in let En = f.ended T A Q g d da in
     let c = f.clauses T A Q g d da 𝓛 𝓜.mem 𝓡.returns in
-    let inst = bounded (a_type ∷ a_type ∷ a_type ∷ []) (T, (A, (Q, tt))) (dcons d (dcons da dnil))
-    in let fn = inst_fn inst code.function in
-    let Both : RattleType = Tuple (R E ∷ P E ∷ []) in
     let K : RattleType = Inheritance.the_row (R E) (P E) g in
     let N : RattleType = LentBox.the_row (R E) (P E) g in
-    let hs : Stays En.signature.params En.kept = (
-      stay_dropped (plain (λ _. Row E)) no,
-      (stay_dropped (RefOf (0 ∷ []) tt (plain (λ _. Own)) (λ _. tt)) yes, tt),
-    ) in
-    proved_at 𝓛 En hs c 𝓜 𝓡 (
-      Goes-blank 𝓛 4 (plain (λ _. Row E)) no (λ κs x w. tt),
-      (
-        Goes-dropped 𝓛 4 (RefOf (0 ∷ []) tt (plain (λ _. Own)) (λ _. tt)) yes (λ κs x w. refl),
-        tt,
-      ),
-    )
-    (f.Key.name inst) fn (code.unfolded 𝓤 H 𝓜 𝓡 wired (T, (A, (Q, tt))) d da) (λ y are.
+    let Both : RattleType = Tuple (R E ∷ P E ∷ []) in
+    spends 𝓛 En c 𝓜 𝓡 (λ κs x w. tt, (λ κs x w. tt, tt)) _ _
+    (code.unfolded 𝓤 𝓛.H 𝓜 𝓡 wired (T, (A, (Q, tt))) d da) (λ y are.
     let κs = y.0.0 in let qs = y.0.1 in let a = y.0.3 in let vss = y.0.4 in
     let was : (Row E).Denot = a.0 in let own = a.1.0.now in let b₁ = a.1.0.ref_ptr.0 in
     let o₁ = a.1.0.ref_ptr.1 in let l : Lease = own.lease in let α : Lft = l.lifetime ∷ [] in
-    let Post : Val → SProp 𝓤 = (walk_of 𝓛 En hs c).post y in
-    let Run : List Val → SProp 𝓤 = λ ws. WpFn 𝓤 H 𝓣.C 𝓣.Λ fn ws Post in
     qed 𝓛 ((‵ (fsep (flft κs.0 qs.0)
     (fsep (flft κs.1.0 qs.1.0)
     (fsep (flft κs.1.1.0 qs.1.1.0) (fsep (flft κs.1.1.1.0 qs.1.1.1.0) ftrue)))) ⊛ ‵
@@ -90,9 +76,7 @@ of_spec 𝓤 𝓛 𝓜 𝓡 wired T A Q L LA LQ g d da allocator glued =
     in
     let v : Val = word E h b o in let typed = box_typed E h b o fits in
     let ws : List Val = v ∷ vptr b₁ o₁ ∷ [] in
-    suffices ! (Run ws) (subst (λ (us : List Val). ent 𝓤 (Run ws) (Run us))
-    (sym (λ i. is i ++ (e₁ i ++ []))) (id⊢ 𝓤 (Run ws))) $
-    enter ! 𝓣.C 𝓣.Λ fn ws Post $ alloc_all ! (λ at. pass_all ! refl (typed, ((tt, tt), tt)) $
+    enters ! _ _ _ _ ws (λ i. is i ++ (e₁ i ++ [])) $ alloc_all ! (λ at. pass_all ! refl (typed, ((tt, tt), tt)) $
     bor_new ! tt α $ move ! (1 ∷ []) $ use1 𝓛 (later (‵ (finv (kept_for Was l)))) (keeps 𝓛 Was l) $
     await ! tt $
     -- [that it comes back; the borrow; the allocator; the tokens]
@@ -134,11 +118,9 @@ of_spec 𝓤 𝓛 𝓜 𝓡 wired T A Q L LA LQ g d da allocator glued =
     (vstruct (of_list (uss.0 ++ (uss.1.0 ++ (uss.1.1.0 ++ (uss.1.1.1.0 ++ []))))) ∷ []))
     (owns Rs (p, (was.alloc, (lent', (kept', tt)))) uss))
     (vptr b o ∷ [], (h ∷ [], (token ∷ [], (token ∷ [], tt)))) $
-    let Told : Type 0 = (p ≡ was.at) × InBlock p × (was.alloc ≡ was.alloc) × (was.value ≡ was.value)
-    × (was.alloc ≡ was.alloc) × (p ≡ was.at) × (l.lifetime ≡ l.lifetime)
-    × (was.value ≡ was.value) × (was.alloc ≡ was.alloc) × (p ≡ was.at) × (l ≡ l) in
-    use0 𝓛 (raw (fact 𝓤 Told))
-    (fact_i 𝓤 Told (emp 𝓤) (
+    returns ! (look_at ! 0 refl) $ free_all ! refl $ keep ! (1 ∷ 0 ∷ []) $
+    by ! (spent 𝓛 En c y u (p, was.alloc, lent', kept') ((tt, (tt, tt)), (tt, tt))
+    (fact_i 𝓤 _ (emp 𝓤) (
       sym at_b,
       tt,
       refl,
@@ -151,7 +133,4 @@ of_spec 𝓤 𝓛 𝓜 𝓡 wired T A Q L LA LQ g d da allocator glued =
       sym
           at_b,
       refl,
-    )) $ nothing ! $ nothing ! $ fjoin ! $ nothing ! $ fjoin ! $
-    returns ! (look_at ! 0 refl) $ free_all ! refl $ keep ! (3 ∷ 0 ∷ 2 ∷ 1 ∷ []) $
-    by ! (leaves 𝓛 En hs c y u (p, was.alloc, lent', kept') ((tt, (tt, tt)), (tt, tt))
-    (tt, (tt, tt)))))))
+    )))))))

@@ -36,6 +36,7 @@ use Rattle.std.proofs.raw_atomic.Walks.{proved_at}
 use Rattle.std_alloc.specs.Box.Ownership.{box_owns}
 use Rattle.std_alloc.proofs.BoxSteps.Form.{Bx, R, P}
 use Rattle.logbook.proofs.Fields.{token, token_told, Token, token_made, ends}
+use Rattle.arc_owners.proofs.memory.Endings.{spends, enters, spent}
 use Rattle.arc_owners.specs.count.Invariant.{right_shares, tokens}
 use Rattle.arc_owners.proofs.memory.Borrows.{box_loan}
 use Rattle.arc_owners.specs.contracts.count.word.OwnerToken as OwnerToken
@@ -46,7 +47,6 @@ use Rattle.arc_owners.proofs.memory.lent_box.LentBox.share.Code as code
 
 pub share_spec : {M : Type 1} → statement M
 share_spec 𝓤 𝓛 𝓜 𝓡 wired T A Q L LA LQ g d da allocator glued =
-    let H = 𝓛.H in let 𝓣 = tables 𝓤 H 𝓜 𝓡 𝓡.env in
     let E : Bx = record {
       row = T;
       laws = L;
@@ -60,29 +60,16 @@ share_spec 𝓤 𝓛 𝓜 𝓡 wired T A Q L LA LQ g d da allocator glued =
     } in let LR : Laws (R E) = param_laws 0 T L in
     let R₂ : RattleType = param 2 Q in let Own : RattleType = OwnerToken.the_row R₂ in
     let En = f.ended T A Q g d da in let c = f.clauses T A Q g d da 𝓛 𝓜.mem 𝓡.returns in
-    let inst = bounded (a_type ∷ a_type ∷ a_type ∷ []) (T, (A, (Q, tt))) (dcons d (dcons da dnil))
-    in let fn = inst_fn inst code.function in
     let N : RattleType = LentBox.the_row (R E) (P E) g in
-    let hs : Stays En.signature.params En.kept = (
-      stay_dropped (plain (λ _. N)) no,
-      (stay_dropped (RefOf (0 ∷ []) tt (plain (λ _. Own)) (λ _. tt)) yes, tt),
-    ) in
-    proved_at 𝓛 En hs c 𝓜 𝓡 (
-      Goes-blank 𝓛 4 (plain (λ _. N)) no (λ κs x w. tt),
-      (
-        Goes-dropped 𝓛 4 (RefOf (0 ∷ []) tt (plain (λ _. Own)) (λ _. tt)) yes (λ κs x w. refl),
-        tt,
-      ),
-    )
-    (f.Key.name inst) fn (code.unfolded 𝓤 H 𝓜 𝓡 wired (T, (A, (Q, tt))) d da) (λ y are.
+    let N : RattleType = LentBox.the_row (R E) (P E) g in
+    spends 𝓛 En c 𝓜 𝓡 (λ κs x w. tt, (λ κs x w. tt, tt)) _ _
+    (code.unfolded 𝓤 𝓛.H 𝓜 𝓡 wired (T, (A, (Q, tt))) d da) (λ y are.
     let κs = y.0.0 in let qs = y.0.1 in let a = y.0.3 in let vss = y.0.4 in
     let was : N.Denot = a.0 in let own = a.1.0.now in let b₁ = a.1.0.ref_ptr.0 in
     let o₁ = a.1.0.ref_ptr.1 in
     let κ : Lft = κs.0 in let τ : Lft = κs.1.0 in let p : Share = qs.1.0 in
     let n : ℕ = own.lease.lifetime in let α : Lft = n ∷ [] in
     let D : Fml = frees E.al was.alloc (bare (lone (R E).mir)) was.at in
-    let Post : Val → SProp 𝓤 = (walk_of 𝓛 En hs c).post y in
-    let Run : List Val → SProp 𝓤 = λ ws. WpFn 𝓤 H 𝓣.C 𝓣.Λ fn ws Post in
     let Asked : Type 0 = (own.held ≡ true) × (own.lease.is_lent ≡ true) × (n ≡ was.lifetime) in
     qed 𝓛 ((‵ (fsep (flft κ qs.0)
     (fsep (flft τ p) (fsep (flft κs.1.1.0 qs.1.1.0) (fsep (flft κs.1.1.1.0 qs.1.1.1.0) ftrue))))
@@ -97,9 +84,7 @@ share_spec 𝓤 𝓛 𝓜 𝓡 wired T A Q L LA LQ g d da allocator glued =
     -- the owner]
     let ws : List Val = token ∷ vptr b₁ o₁ ∷ [] in
     let e₀ : vss.0 ≡ token ∷ [] = token_told (Tuple (R E ∷ P E ∷ [])) vss.0 are.0.0 in
-    suffices ! (Run ws) (subst (λ (us : List Val). ent 𝓤 (Run ws) (Run us))
-    (sym (λ i. e₀ i ++ (e₁ i ++ []))) (id⊢ 𝓤 (Run ws))) $
-    enter ! 𝓣.C 𝓣.Λ fn ws Post $
+    enters ! _ _ _ _ ws (λ i. e₀ i ++ (e₁ i ++ [])) $
     alloc_all ! (λ l. pass_all ! refl ((tt, (tt, tt)), ((tt, tt), tt)) $
     use1 𝓛 (‵ (hidden_shr (Token R₂) κ (own.marker, tt) b₁ o₁) ⊛ ‵
     (fhide (right_shares own.held own.block own.owner own.lease own.born κ)))
@@ -125,9 +110,8 @@ share_spec 𝓤 𝓛 𝓜 𝓡 wired T A Q L LA LQ g d da allocator glued =
     refl (tt, (tt, tt)) $
     use0 𝓛 (‵ ((Token (R E)).own_val (record {}, tt) (token ∷ []))) (token_made (R E) 𝓛) $
     move ! (0 ∷ 3 ∷ []) $ fjoin ! $
-    move ! (3 ∷ 5 ∷ []) $ fjoin ! $ move ! (3 ∷ 0 ∷ []) $ fjoin ! $ nothing ! $ nothing ! $
-    fjoin ! $ nothing ! $ fjoin ! $
-    returns ! (look_at ! 0 refl) $ free_all ! refl $ keep ! (1 ∷ 0 ∷ 2 ∷ []) $
-    by ! (ends 𝓛 En hs c y token
+    move ! (3 ∷ 5 ∷ []) $ fjoin ! $ move ! (3 ∷ 0 ∷ []) $ fjoin ! $
+    returns ! (look_at ! 0 refl) $ free_all ! refl $ keep ! (0 ∷ 1 ∷ []) $
+    by ! (spent 𝓛 En c y token
     (record { marker = record {}; value = was.value; at = was.at; lifetime = n }) (tt, (tt, tt))
-    (tt, (tt, tt)) (fact_i 𝓤 _ (emp 𝓤) (refl, refl, asked.2)))))))))
+    (fact_i 𝓤 _ (emp 𝓤) (refl, refl, asked.2)))))))))
