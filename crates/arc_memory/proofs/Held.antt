@@ -1,6 +1,8 @@
 -- Places are what lies side by side at their first place. Assumes `Logic`.
 --     places_out, places_in      they are taken apart, and made of it
-use Rattle.std.proofs.Common.{◌≡◌, ℕ, ◌+◌, ◌-◌, ◌*◌, ◌^◌, ◌<◌, List, [], ◌∷◌, length, refl, sym}
+--     places_at      places by their numbers
+use Rattle.std.proofs.Common.{◌≡◌, ℕ, ◌+◌, ◌-◌, ◌*◌, ◌^◌, ◌<◌, ◌≤◌, List, [], ◌∷◌, length, refl}
+use Rattle.std.proofs.Common.{sym}
 use seplogic.Ra.Ura.{Ura}
 use mir.Val.{Val}
 use base.Logic.{fst∗, never}
@@ -12,7 +14,7 @@ use denote.RattleType.{RattleType}
 use denote.RawPtr.{Ptr, block_ptr, null_ptr, in_a_block, room_for}
 use Rattle.core.specs.Allocator.{array_of}
 use Rattle.core.specs.Mem.{type_size}
-use Rattle.std_alloc.proofs.VecSteps.El.{El, R, sz}
+use Rattle.std_alloc.proofs.VecSteps.El.{El, R, el_x, sz}
 use Rattle.logbook.proofs.Fields.{token, Token, token_made}
 use Rattle.arc_memory.specs.Memory.{place_at, side_by_side}
 use Rattle.arc_memory.proofs.Cuts.{Side}
@@ -21,6 +23,19 @@ use Rattle.arc_memory.specs.contracts.places.Places as Places
 module _ (E : El) where
   abbrev pub Row : RattleType
   Row = Places.the_row (R E)
+
+  -- places from one number on, of which the first hold the items
+  abbrev pub places_at : (base : Ptr) (whole start count : ℕ) (items : List (el_x E))
+      → (start + count ≤ whole) × (length items ≤ count) × (whole < 2 ^ 63) → Row.Denot
+  places_at base whole start count items inside = record {
+    marker = record {};
+    base = base;
+    whole = whole;
+    start = start;
+    count = count;
+    items = items;
+    inside = inside;
+  }
 
   abbrev lying : Ptr → Row.Denot → Fml
   lying p d = side_by_side (R E) (place_at (R E) p d.start) d.count d.items

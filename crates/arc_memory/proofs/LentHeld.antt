@@ -1,7 +1,9 @@
 -- What lent places own, at the place where they begin. Assumes `Logic`.
 --     there_out, there_in      it is taken out, and put back
+--     lent_at     lent places by their numbers
 --     padded      names for all places before a number, which name nothing
-use Rattle.std.proofs.Common.{◌≡◌, ℕ, zero, suc, ◌+◌, ◌*◌, ◌^◌, ◌<◌, List, ◌∷◌, length, drop, refl}
+use Rattle.std.proofs.Common.{◌≡◌, ℕ, zero, suc, ◌+◌, ◌*◌, ◌^◌, ◌<◌, ◌≤◌, List, ◌∷◌, length, drop}
+use Rattle.std.proofs.Common.{refl}
 use Rattle.std.proofs.Common.{sym, arith}
 use seplogic.Ra.Ura.{Ura}
 use base.Logic.{never, id⊢}
@@ -10,9 +12,24 @@ use types.Logic.{Logic}
 use types.Kit.{Goal, Step, step, Seq, Item, ‵, ◌$◌, rewrite, fsplit, fjoin, flt_l, flt_i}
 use denote.RawPtr.{Ptr, block_ptr, in_a_block}
 use Rattle.core.specs.Mem.{type_size}
-use Rattle.std_alloc.proofs.VecSteps.El.{El, R, sz}
+use Rattle.std_alloc.proofs.VecSteps.El.{El, R, el_x, sz}
 use Rattle.arc_memory.specs.Memory.{place_at}
+use Rattle.arc_memory.specs.contracts.lent_places.LentPlaces as LentPlaces
 use Rattle.arc_memory.specs.LentMemory.{LentMemory, in_memory, there}
+
+module _ (E : El) where
+  -- lent places from one number on, of which the first hold the items
+  abbrev pub lent_at : (m : LentMemory) (start count : ℕ) (items : List (el_x E))
+      → (start + count ≤ length m.names) × (length m.names ≤ m.whole) × (length items ≤ count)
+      × (m.whole < 2 ^ 63) → (LentPlaces.the_row (R E)).Denot
+  lent_at m start count items inside = record {
+    marker = record {};
+    memory = m;
+    start = start;
+    count = count;
+    items = items;
+    inside = inside;
+  }
 
 abbrev pub padded : ℕ → List GName → List GName
 padded zero gs = gs

@@ -6,6 +6,7 @@ pub use Rattle.arc_owners.proofs.history.Steps
 pub use Rattle.arc_owners.proofs.history.Told
 pub use Rattle.arc_owners.proofs.count.Wholes
 pub use Rattle.arc_owners.proofs.count.Markers
+pub use Rattle.arc_owners.proofs.memory.Allocators
 pub use Rattle.arc_owners.proofs.memory.Endings
 pub use Rattle.arc_owners.proofs.memory.LentSlices
 pub use Rattle.arc_owners.proofs.memory.References

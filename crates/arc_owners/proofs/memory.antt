@@ -1,3 +1,4 @@
+pub mod Allocators
 pub mod Borrows
 pub mod BoxPlaces
 pub mod Boxes

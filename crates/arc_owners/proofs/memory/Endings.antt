@@ -5,7 +5,7 @@
 --     enters            the function runs at arguments that an equation tells
 --     fills             a local that holds nothing takes a value
 --     made              a marker is made, and the struct of it alone: a token
---     one_made, one_moved    a token of a new marker, or of one that is read, is the function's result
+--     one_made, one_moved    a token of a new marker, or of one that is read, is the result
 --     two_made          so is a pair of two tokens
 --     paired            who owns two values owns their pair
 --     both_spent        how a walk ends with a pair
@@ -14,7 +14,8 @@ use mathlib.Core.List.{List, [], ◌∷◌, ◌++◌}
 use Prim.Native.Nat.{ℕ, zero}
 use lib.Dec.{T}
 use seplogic.Ra.Ura.{Ura}
-use mir.Syntax.{Fn, Callee, Body, Opd, Rv as RValue, rv_opd, aggregate, place, copy, assign, seq, return}
+use mir.Syntax.{Fn, Callee, Body, Opd, Rv as RValue, rv_opd, aggregate, place, copy, assign, seq}
+use mir.Syntax.{return}
 use mir.Val.{Val, vstruct, vcons, vnil, of_list, WT, has_ty}
 use base.Fraction.{full_share}
 use base.Logic.{SProp, ent, id⊢, sep, emp}
@@ -22,8 +23,10 @@ use base.Fml.{Fml, ftrue, fsep, feq, fex, fat, froom}
 use prog.Model.{Model}
 use prog.Wp.{Heap, WpFn, Closed, Env, Calls, Loops, spot_of}
 use types.Logic.{Logic, sem}
-use types.Kit.{Item, Goal, Seq, Step, step, ‵, raw, ◌$◌, ◌∵◌, !, qed, by, move, done, use0, fjoin, feq_i, fpack, rewrite, prop, runs, frees, allocs, params', at_ret, Post}
-use types.Run.{Rv, Opd as IsOpd, of_opd, Reads, assigns, init, from, stop, no_more, and_then, returns, enter}
+use types.Kit.{Item, Goal, Seq, Step, step, ‵, raw, ◌$◌, ◌∵◌, !, qed, by, move, done, use0, fjoin}
+use types.Kit.{feq_i, fpack, rewrite, prop, runs, frees, allocs, params', at_ret, Post}
+use types.Run.{Rv, Opd as IsOpd, of_opd, Reads, assigns, init, from, stop, no_more, and_then}
+use types.Run.{returns, enter}
 use types.Part.{agg}
 use types.ByLocal.{at, set, cell, get}
 use contract.Lifetimes.{Lfts}
@@ -122,8 +125,10 @@ module _ {M : Type 1} (𝓤 : Ura M) (H : Heap 𝓤) (E : Env 𝓤 H) (i : ℕ) 
 module _ {M : Type 1} {𝓤 : Ura M} {𝓛 : Logic 𝓤} {K : Type 0} {Γ : List (Item 𝓤)} where
   open 𝓛 use {H}
 
-  pub enters : K → (C : Calls 𝓤 H) (Λ : Loops 𝓤 H) (f : Fn) (Kf : Val → SProp 𝓤) {us : List Val} (ws : List Val) → us ≡ ws
-      → Step K 𝓛 Γ (allocs f.locals (λ E. params' E ws (runs C Λ E f.body (at_ret E Kf)))) Γ (prop (WpFn 𝓤 H C Λ f us Kf))
+  pub enters : K → (C : Calls 𝓤 H) (Λ : Loops 𝓤 H) (f : Fn) (Kf : Val → SProp 𝓤) {us : List Val}
+      (ws : List Val) → us ≡ ws
+      → Step K 𝓛 Γ (allocs f.locals (λ E. params' E ws (runs C Λ E f.body (at_ret E Kf)))) Γ
+      (prop (WpFn 𝓤 H C Λ f us Kf))
   enters t C Λ f Kf ws e = step (λ s.
       subst (λ (vs : List Val). Seq K 𝓛 Γ (prop (WpFn 𝓤 H C Λ f vs Kf))) (sym e)
       (enter t C Λ f ws Kf $ s))
@@ -131,12 +136,14 @@ module _ {M : Type 1} {𝓤 : Ura M} {𝓛 : Logic 𝓤} {K : Type 0} {Γ : List
   module _ {E : Env 𝓤 H} {C : Calls 𝓤 H} {Λ : Loops 𝓤 H} {q : Post 𝓤 H} where
     pub fills : K → {i : ℕ} {rv : RValue} {v : Val} {rest : Body} → Rv K 𝓛 Γ E rv v
         → at 𝓛 i Γ ≡ bare 𝓤 H E i → Typed 𝓤 H E i v
-        → Step K 𝓛 (set 𝓛 i (full 𝓤 H E i v) Γ) (runs C Λ E rest q) Γ (runs C Λ E (seq (assign (place i []) rv) rest) q)
+        → Step K 𝓛 (set 𝓛 i (full 𝓤 H E i v) Γ) (runs C Λ E rest q) Γ
+        (runs C Λ E (seq (assign (place i []) rv) rest) q)
     fills t {i} r p wt = assigns t r (from t (stop t)) (init t (cell i Γ) p wt)
 
   module _ {G : Goal 𝓤 H} (A B : RattleType) (a : A.Denot) (b : B.Denot) where
     pub paired : K → (v w : Val)
-        → Step K 𝓛 (‵ (fex (Valss (A ∷ B ∷ [])) (Parts A B a b v w)) ∷ Γ) G (‵ (A.own_val a (v ∷ [])) ∷ ‵ (B.own_val b (w ∷ [])) ∷ Γ) G
+        → Step K 𝓛 (‵ (fex (Valss (A ∷ B ∷ [])) (Parts A B a b v w)) ∷ Γ) G
+        (‵ (A.own_val a (v ∷ [])) ∷ ‵ (B.own_val b (w ∷ [])) ∷ Γ) G
     paired t v w = step (λ s. let u : Val = pair_val v w in
         nothing t $ move t (2 ∷ 0 ∷ []) $ fjoin t $ move t (1 ∷ 0 ∷ []) $ fjoin t $
         feq_i t (List Val) (u ∷ []) (u ∷ []) refl $ fjoin t $
@@ -204,13 +211,15 @@ module _ {M : Type 1} {𝓤 : Ura M} {𝓛 : Logic 𝓤} {K : Type 0} {Γ : List
   pub two_made : K → {i j k l : ℕ} {Kf : Val → SProp 𝓤} {Γ' : List (Item 𝓤)} → Makes 𝓛 E Γ i j
       → Makes 𝓛 E (with_token 𝓛 E Γ i j) k l
       → Pairs 𝓛 E (with_token 𝓛 E (with_token 𝓛 E Γ i j) k l) j l
-      → Reads K 𝓛 (with_result 𝓛 E (with_token 𝓛 E (with_token 𝓛 E Γ i j) k l) (pair_val token token))
+      → Reads K 𝓛 (with_result 𝓛 E (with_token 𝓛 E (with_token 𝓛 E Γ i j) k l)
+      (pair_val token token))
       (spot_of 𝓤 H E 0).0 (spot_of 𝓤 H E 0).1 zero (pair_val token token)
       → Step K 𝓛 Γ' (prop (Kf (pair_val token token)))
       (with_result 𝓛 E (with_token 𝓛 E (with_token 𝓛 E Γ i j) k l) (pair_val token token))
       (frees E (prop (Kf (pair_val token token))))
       → Step K 𝓛 Γ' (prop (Kf (pair_val token token))) Γ (runs C Λ E (make i j (make k l
-      (seq (assign (place 0 []) (aggregate (copy (place j []) ∷ copy (place l []) ∷ []))) return))) (at_ret E Kf))
+      (seq (assign (place 0 []) (aggregate (copy (place j []) ∷ copy (place l []) ∷ []))) return)))
+      (at_ret E Kf))
   two_made t {i} {j} {k} {l} {Kf} m n p look free = step (λ s.
       let Γ₁ = with_token 𝓛 E Γ i j in let Γ₂ = with_token 𝓛 E Γ₁ k l in
       made t m $ made {Γ = Γ₁} t n $
@@ -218,13 +227,16 @@ module _ {M : Type 1} {𝓤 : Ura M} {𝓛 : Logic 𝓤} {K : Type 0} {Γ : List
       p.3 $ returns t {Kf = Kf} look $ free $ s)
 
 module _ {M : Type 1} {𝓤 : Ura M} (𝓛 : Logic 𝓤) (F : Ended) (c : Clauses 𝓤 F) where
-  pub both_spent : (y : (Walk 𝓛 F c).Ghost) (A B : RattleType) (a : A.Denot) (b : B.Denot) (v w : Val)
+  pub both_spent : (y : (Walk 𝓛 F c).Ghost) (A B : RattleType) (a : A.Denot) (b : B.Denot)
+      (v w : Val)
       (r : Res F.signature y.0.0) (ws : Lasts F y.0.0 y.0.3)
-      → fex (Valss (A ∷ B ∷ [])) (Parts A B a b v w) ≡ (type_at F.signature.result y.0.0).own_val r (pair_val v w ∷ [])
+      → fex (Valss (A ∷ B ∷ [])) (Parts A B a b v w)
+      ≡ (type_at F.signature.result y.0.0).own_val r (pair_val v w ∷ [])
       → ent 𝓤 (emp 𝓤) ((c y.0.0 y.0.3).ensures y.1 r (at_exit F y.0.0 y.0.3 ws))
       → ent 𝓤 (sep 𝓤 (sem 𝓛 (A.own_val a (v ∷ []))) (sep 𝓤 (sem 𝓛 (B.own_val b (w ∷ [])))
       (alive 𝓛 F.signature y.0.0 y.0.1))) ((Walk 𝓛 F c).post y (pair_val v w))
   both_spent y A B a b v w r ws is told =
-      qed 𝓛 (‵ (A.own_val a (v ∷ [])) ∷ ‵ (B.own_val b (w ∷ [])) ∷ raw (alive 𝓛 F.signature y.0.0 y.0.1) ∷ []) ∵
+      qed 𝓛 (‵ (A.own_val a (v ∷ [])) ∷ ‵ (B.own_val b (w ∷ [])) ∷ raw
+      (alive 𝓛 F.signature y.0.0 y.0.1) ∷ []) ∵
       paired A B a b ! v w $ rewrite ! 0 (λ (P : Fml). ‵ P) is refl $ move ! (1 ∷ 0 ∷ []) $
       by ! (spent 𝓛 F c y (pair_val v w) r ws told)

@@ -10,7 +10,8 @@ use mir.Val.{Val, vptr}
 use prog.Model.{Model}
 use prog.Wp.{Closed}
 use types.Logic.{Logic}
-use types.Kit.{Sq, ‵, raw, ◌⊛◌, ◌$◌, ◌∵◌, !, qed, move, keep, split, fsplit, runs, allocs, params', at_ret}
+use types.Kit.{Sq, ‵, raw, ◌⊛◌, ◌$◌, ◌∵◌, !, qed, move, keep, split, fsplit, runs, allocs, params'}
+use types.Kit.{at_ret}
 use types.Run.{enter}
 use contract.Lifetimes.{Lfts, Outlives}
 use contract.Running.{Running, tables}
@@ -54,8 +55,10 @@ module _ {n : ℕ} (os : List (Outlives (suc n))) (R : RattleType) (one : Lfts (
     reads 𝓜 𝓡 k e closed walk =
         let S = Reads.signature in
         proved 𝓛 Reads (dropped S.params Reads.kept) c 𝓜 𝓡
-        (Goes-dropped 𝓛 (suc n) (RefOf (0 ∷ []) tt (plain (λ _. R)) one) yes (λ κs x w. refl), tt) k e
-        closed (λ κs. (shr_vals, tt)) (λ κs. (shr_Tells (named 0) κs.0 R, tt)) (λ κs qs bounds a gh are.
+        (Goes-dropped 𝓛 (suc n) (RefOf (0 ∷ []) tt (plain (λ _. R)) one) yes (λ κs x w. refl), tt) k
+        e
+        closed (λ κs. (shr_vals, tt)) (λ κs. (shr_Tells (named 0) κs.0 R, tt)) (λ κs qs bounds a gh
+        are.
         let vss : Vals S κs = (vptr a.0.ref_ptr.0 a.0.ref_ptr.1 ∷ [], tt) in
         let y : (Walk 𝓛 Reads c).Ghost = ((κs, qs, bounds, a, vss), gh) in
         qed 𝓛 ((raw (alive 𝓛 S κs qs) ⊛ ‵ (owns (types_at S.params κs) a vss)) ∷ raw

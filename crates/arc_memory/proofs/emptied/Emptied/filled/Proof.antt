@@ -29,6 +29,7 @@ use Rattle.std.specs.Vec.{with_items}
 use Rattle.std_alloc.proofs.VecSteps.El.{El, R, Vr, el_d, el_x, vec_val, vec_typed}
 use Rattle.std_alloc.proofs.VecSteps.Opens.{vec_had, vec_made}
 use Rattle.logbook.proofs.Fields.{token as marker, token_told, ends}
+use Rattle.arc_owners.proofs.Allocators.{allocating}
 use Rattle.arc_owners.proofs.Endings.{spends, enters, spent}
 use Rattle.arc_owners.proofs.Markers.{told}
 use Rattle.arc_memory.specs.Memory.{places_own}
@@ -40,17 +41,7 @@ use Rattle.arc_memory.proofs.emptied.Emptied.filled.Code as code
 
 pub filled_spec : {M : Type 1} → statement M
 filled_spec 𝓤 𝓛 𝓜 𝓡 wired T A L LA g d da allocator glued =
-    let E : El = record {
-      row = T;
-      laws = L;
-      al = record {
-        row = A;
-        laws = LA;
-        g = g;
-        d = d;
-        drops = da;
-      };
-    } in
+    let E : El = record { row = T; laws = L; al = allocating A LA g d da } in
     let En = f.ended T A g d da in let c = f.clauses T A g d da 𝓛 𝓜.mem 𝓡.returns in
     let Pl : RattleType = Places.the_row (R E) in
     spends 𝓛 En c 𝓜 𝓡 (λ κs x w. tt, (λ κs x w. tt, tt)) _ _

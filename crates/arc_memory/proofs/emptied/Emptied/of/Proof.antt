@@ -29,8 +29,10 @@ use Rattle.std.proofs.raw_atomic.Walks.{proved_at}
 use Rattle.std_alloc.proofs.VecSteps.El.{El, R, P, Vr, el_d, vec_val, vec_typed}
 use Rattle.std_alloc.proofs.VecSteps.Opens.{vec_had}
 use Rattle.logbook.proofs.Fields.{token as marker, Token, token_made, ends}
+use Rattle.arc_owners.proofs.Allocators.{allocating}
 use Rattle.arc_owners.proofs.Endings.{spends, enters, both_spent}
 use Rattle.arc_owners.proofs.Markers.{told}
+use Rattle.arc_memory.proofs.Held.{places_at}
 use Rattle.arc_memory.specs.Memory.{extent_of, place_at, side_by_side}
 use Rattle.arc_memory.specs.contracts.emptied.Emptied as Emptied
 use Rattle.arc_memory.specs.contracts.places.Places as Places
@@ -42,17 +44,7 @@ use Rattle.arc_memory.proofs.emptied.Emptied.of.Code as code
 
 pub of_spec : {M : Type 1} → statement M
 of_spec 𝓤 𝓛 𝓜 𝓡 wired T A L LA g d da allocator glued =
-    let E : El = record {
-      row = T;
-      laws = L;
-      al = record {
-        row = A;
-        laws = LA;
-        g = g;
-        d = d;
-        drops = da;
-      };
-    } in
+    let E : El = record { row = T; laws = L; al = allocating A LA g d da } in
     let En = f.ended T A g d da in let c = f.clauses T A g d da 𝓛 𝓜.mem 𝓡.returns in
     spends 𝓛 En c 𝓜 𝓡 (λ κs x w. tt, tt) _ _
     (code.unfolded 𝓤 𝓛.H 𝓜 𝓡 wired (T, (A, tt)) d da) (λ y are.
@@ -87,16 +79,11 @@ of_spec 𝓤 𝓛 𝓜 𝓡 wired T A L LA g d da allocator glued =
     (as_fields (layout (Row E) ∷ layout (Places.the_row (R E)) ∷ []) (one E u ∷ marker ∷ [])
     (boxed, ((tt, (tt, tt)), tt))) $
     let now : (Places.the_row (R E)).Denot =
-    record {
-      marker = record {};
-      base = was.ptr;
-      whole = was.cap;
-      start = 0;
-      count =
-          was.cap;
-      items = xs;
-      inside = (omega arith, omega (arith, was.ok.0, was.ok.1), was.small);
-    }
+    places_at E was.ptr was.cap 0 was.cap xs (
+      omega arith,
+      omega (arith, was.ok.0, was.ok.1),
+      was.small,
+    )
     in
     returns ! (look_at ! 0 refl) $ free_all ! refl $ keep ! (0 ∷ 1 ∷ 3 ∷ []) $
     by ! (both_spent 𝓛 En c y (Row E) (Places.the_row (R E)) e now (one E u) marker (e, now)

@@ -42,5 +42,6 @@ forget_spec 𝓤 𝓛 𝓜 𝓡 wired T L =
     let ws : List Val = token ∷ [] in
     enters ! _ _ _ _ ws (λ j. e₀ j ++ []) $ alloc_all ! (λ l. pass_all ! refl ((tt, (tt, tt)), tt) $
     sets ! (of_opd ! (unit_lit !)) refl (tt, tt) $
-    feq_i ! (List Val) (vunit ∷ []) (vunit ∷ []) refl $ returns ! (look_at ! 0 refl) $ free_all ! refl $ keep ! (1 ∷ 0 ∷ []) $
+    feq_i ! (List Val) (vunit ∷ []) (vunit ∷ []) refl $ returns ! (look_at ! 0 refl) $ free_all !
+    refl $ keep ! (1 ∷ 0 ∷ []) $
     by ! (spent 𝓛 En c y vunit tt (tt, tt) (id⊢ 𝓤 (emp 𝓤)))))

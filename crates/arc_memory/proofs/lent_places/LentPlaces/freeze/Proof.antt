@@ -34,7 +34,7 @@ use Rattle.core.proofs.alloc.Calls.{Goes-blank}
 use Rattle.std.proofs.raw_atomic.Walks.{proved_at}
 use Rattle.std_alloc.proofs.VecSteps.El.{El, R, el_x, sz, no_al}
 use Rattle.logbook.proofs.Fields.{token, Token, token_told, ends}
-use Rattle.arc_owners.proofs.Endings.{Walk, spends, enters}
+use Rattle.arc_owners.proofs.Endings.{Walk, spends, enters, spent}
 use Rattle.arc_owners.proofs.Markers.{marked}
 use Rattle.arc_memory.specs.LentMemory.{LentMemory, contents, borrowed, frozen, names_from}
 use Rattle.arc_memory.proofs.Borrowed.{Borrows}

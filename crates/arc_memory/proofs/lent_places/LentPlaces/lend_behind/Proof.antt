@@ -38,7 +38,7 @@ use Rattle.arc_memory.proofs.Borrowed.{Borrows, Returns, Lent, lends, borrowed_c
 use Rattle.arc_memory.proofs.Contents.{length-contents}
 use Rattle.arc_memory.proofs.Cuts.{Side, further}
 use Rattle.arc_memory.proofs.Held.{Row, places_out}
-use Rattle.arc_memory.proofs.LentHeld.{there_in, padded, padded_long, padded_off}
+use Rattle.arc_memory.proofs.LentHeld.{lent_at, there_in, padded, padded_long, padded_off}
 use Rattle.arc_memory.proofs.Spots.{spots, spots_of, spots_glue}
 use Rattle.arc_owners.specs.contracts.lifetime.LifetimeToken as LifetimeToken
 use Rattle.arc_memory.specs.contracts.lent_places.LentPlaces as LentPlaces
@@ -85,7 +85,8 @@ lend_behind_spec 𝓤 𝓛 𝓜 𝓡 wired T L =
     use2 𝓛 (‵ (spots E 𝓛 b (us ++ ys) from))
     (spots_glue E 𝓛 b n from mid us ys (length-contents n bare.items) refl) $
     enters ! _ _ _ _ (token ∷ token ∷ vptr b₁ o₁ ∷ [])
-    (λ j. token_told (R E) vss.0 are.0.0 j ++ (token_told (R E) vss.1.0 are.1.0.0 j ++ (e₂ j ++ []))) $
+    (λ j. token_told (R E) vss.0 are.0.0 j ++ (token_told (R E) vss.1.0 are.1.0.0 j ++ (e₂ j ++
+    []))) $
     alloc_all ! (λ l. pass_all ! refl ((tt, (tt, tt)), ((tt, (tt, tt)), ((tt, tt), tt))) $
     use1 𝓛 (later (‵ (fex (List GName) (Lent E 𝓛 b a (us ++ ys) from))))
     (lends E 𝓛 b a (us ++ ys) from) $ await ! tt $ fpick ! (λ gs. fsplit3 ! $ feq_l ! (λ e.
@@ -102,19 +103,12 @@ lend_behind_spec 𝓤 𝓛 𝓜 𝓡 wired T L =
     let long : length names ≡ first + (n + was.count) = omega (arith, padded_long first gs, all) in
     let m : LentMemory = record { lifetime = a; names = names; base = was.base; whole = was.whole }
     in
-    let part : Lt.Denot = record {
-      marker = record {};
-      memory = m;
-      start = was.start;
-      count = was.count;
-      items = xs;
-      inside = (
-        omega (arith, long, next.1),
-        omega (arith, long, next.1, was.inside.0),
-        was.inside.1,
-        was.inside.2,
-      );
-    } in
+    let part : Lt.Denot = lent_at E m was.start was.count xs (
+      omega (arith, long, next.1),
+      omega (arith, long, next.1, was.inside.0),
+      was.inside.1,
+      was.inside.2,
+    ) in
     let back : In.Denot = record {
       marker = record {};
       memory = m;

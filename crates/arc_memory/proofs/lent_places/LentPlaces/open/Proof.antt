@@ -33,7 +33,7 @@ use Rattle.arc_memory.specs.LentMemory.{LentMemory, contents, borrowed, opened, 
 use Rattle.arc_memory.proofs.Borrowed.{Opened, opens_all}
 use Rattle.arc_memory.proofs.Contents.{length-contents}
 use Rattle.arc_memory.proofs.Cuts.{Side}
-use Rattle.arc_memory.proofs.Held.{Row, places_in}
+use Rattle.arc_memory.proofs.Held.{places_at, Row, places_in}
 use Rattle.arc_memory.proofs.LentHeld.{there_out, there_in}
 use Rattle.arc_memory.proofs.Spots.{spots, spots_as}
 use Rattle.arc_owners.specs.contracts.lifetime.LifetimeToken as LifetimeToken
@@ -72,16 +72,11 @@ open_spec 𝓤 𝓛 𝓜 𝓡 wired T L =
     use2 𝓛 (later (‵ (spots E 𝓛 b ys from) ⊛ ‵ (Opened E 𝓛 b a q gs (length ys) from)))
     (opens_all E 𝓛 b a q gs ys from) $ await ! tt $ split ! $
     use1 𝓛 (‵ (Side E 𝓛 b from me.count xs)) (spots_as E 𝓛 b me.count from xs me.inside.2) $
-    let places : Pl.Denot = record {
-      marker = record {};
-      base = m.base;
-      whole = m.whole;
-      start = me.start;
-      count = me.count;
-      items = xs;
-      inside =
-          (low, me.inside.2, me.inside.3);
-    } in
+    let places : Pl.Denot = places_at E m.base m.whole me.start me.count xs (
+      low,
+      me.inside.2,
+      me.inside.3,
+    ) in
     let rest : Op.Denot = record {
       marker = record {};
       memory = m;

@@ -34,7 +34,7 @@ use Rattle.arc_memory.specs.LentMemory.{LentMemory, Held, contents, borrowed, na
 use Rattle.arc_memory.proofs.Borrowed.{Borrows, borrowed_cut}
 use Rattle.arc_memory.proofs.Contents.{length-contents, take-contents, drop-contents}
 use Rattle.arc_memory.proofs.Cuts.{further}
-use Rattle.arc_memory.proofs.LentHeld.{there_out, there_in}
+use Rattle.arc_memory.proofs.LentHeld.{lent_at, there_out, there_in}
 use Rattle.arc_memory.specs.contracts.lent_places.LentPlaces as LentPlaces
 use Rattle.arc_memory.specs.contracts.lent_places.LentPlaces.split as f
 use Rattle.arc_memory.proofs.lent_places.LentPlaces.split.Statement.{statement}
@@ -72,24 +72,26 @@ split_spec 𝓤 𝓛 𝓜 𝓡 wired T L =
     (λ i. (drop-drop at was.start m.names i, drop-contents at was.count n xs cut i)) refl $
     let lower : length (take at xs) ≤ at = omega (arith, length-take at xs) in
     let upper : length (drop_from at xs) ≤ n = omega (arith, length-drop at xs, was.inside.2) in
-    let front : Lt.Denot = record {
-      marker = record {};
-      memory = m;
-      start = was.start;
-      count = at;
-      items = take at xs;
-      inside =
-          (omega (arith, was.inside.0, asked), was.inside.1, lower, was.inside.3);
-    } in
-    let back : Lt.Denot = record {
-      marker = record {};
-      memory = m;
-      start = was.start + at;
-      count = n;
-      items = drop_from at xs;
-      inside =
-          (omega (arith, was.inside.0, asked), was.inside.1, upper, was.inside.3);
-    } in
+    let front : Lt.Denot = lent_at E m was.start at (take at xs) (
+      omega (
+        arith,
+        was.inside.0,
+        asked,
+      ),
+      was.inside.1,
+      lower,
+      was.inside.3,
+    ) in
+    let back : Lt.Denot = lent_at E m (was.start + at) n (drop_from at xs) (
+      omega (
+        arith,
+        was.inside.0,
+        asked,
+      ),
+      was.inside.1,
+      upper,
+      was.inside.3,
+    ) in
     there_in E ! m was.start (borrowed (R E) a gs (contents at (take at xs))) b o at_b small $
     marked (R E) ! $ move ! (1 ∷ []) $
     there_in E ! m (was.start + at) (borrowed (R E) a (drop_from (was.start + at) m.names)

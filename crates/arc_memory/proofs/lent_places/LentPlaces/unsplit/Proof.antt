@@ -35,7 +35,7 @@ use Rattle.arc_memory.specs.LentMemory.{LentMemory, Held, contents, borrowed, na
 use Rattle.arc_memory.proofs.Borrowed.{Borrows, borrowed_glue}
 use Rattle.arc_memory.proofs.Contents.{length-contents, contents-append}
 use Rattle.arc_memory.proofs.Cuts.{further}
-use Rattle.arc_memory.proofs.LentHeld.{there_out, there_in}
+use Rattle.arc_memory.proofs.LentHeld.{lent_at, there_out, there_in}
 use Rattle.arc_memory.specs.contracts.lent_places.LentPlaces as LentPlaces
 use Rattle.arc_memory.specs.contracts.lent_places.LentPlaces.unsplit as f
 use Rattle.arc_memory.proofs.lent_places.LentPlaces.unsplit.Statement.{statement}
@@ -84,15 +84,17 @@ unsplit_spec 𝓤 𝓛 𝓜 𝓡 wired T L =
     let names : length back.memory.names ≡ length m.names = ap (λ (k : LentMemory). length k.names)
     next.0 in let fewer : length (me.items ++ back.items) ≤ total = omega
     (arith, length-append me.items back.items, me.inside.2, back.inside.2) in
-    let now : Lt.Denot = record {
-      marker = record {};
-      memory = m;
-      start = me.start;
-      count = total;
-      items = me.items ++ back.items;
-      inside =
-          (omega (arith, back.inside.0, names, next.1), me.inside.1, fewer, me.inside.3);
-    } in
+    let now : Lt.Denot = lent_at E m me.start total (me.items ++ back.items) (
+      omega (
+        arith,
+        back.inside.0,
+        names,
+        next.1,
+      ),
+      me.inside.1,
+      fewer,
+      me.inside.3,
+    ) in
     there_in E ! m me.start (borrowed (R E) a gs (contents total (me.items ++ back.items))) b o at_b
     small $ marked (R E) ! $
     enters ! _ _ _ _ (token ∷ token ∷ [])

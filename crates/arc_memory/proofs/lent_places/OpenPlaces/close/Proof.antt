@@ -36,7 +36,7 @@ use Rattle.arc_memory.proofs.Borrowed.{Borrows, Opened, closes_all}
 use Rattle.arc_memory.proofs.Contents.{length-contents}
 use Rattle.arc_memory.proofs.Cuts.{Side}
 use Rattle.arc_memory.proofs.Held.{Row, places_out}
-use Rattle.arc_memory.proofs.LentHeld.{there_out, there_in}
+use Rattle.arc_memory.proofs.LentHeld.{lent_at, there_out, there_in}
 use Rattle.arc_memory.proofs.Spots.{spots, spots_of}
 use Rattle.arc_owners.specs.contracts.lifetime.LifetimeToken as LifetimeToken
 use Rattle.arc_memory.specs.contracts.lent_places.LentPlaces as LentPlaces
@@ -82,14 +82,12 @@ close_spec 𝓤 𝓛 𝓜 𝓡 wired T L =
     alloc_all ! (λ l. pass_all ! refl ((tt, (tt, tt)), ((tt, (tt, tt)), tt)) $
     use2 𝓛 (later (‵ (Borrows E 𝓛 b a gs ys from) ⊛ ‵ (flft (a ∷ []) q)))
     (closes_all E 𝓛 b a q gs ys from) $ await ! tt $ split ! $
-    let part : Lt.Denot = record {
-      marker = record {};
-      memory = m;
-      start = me.start;
-      count = me.count;
-      items = xs;
-      inside = (me.inside.0, me.inside.1, fewer, me.inside.2);
-    } in
+    let part : Lt.Denot = lent_at E m me.start me.count xs (
+      me.inside.0,
+      me.inside.1,
+      fewer,
+      me.inside.2,
+    ) in
     let stake : Tok.Denot = record { marker = record {}; lifetime = a; share = q } in
     there_in E ! m me.start (borrowed (R E) a gs ys) b o at_b small $ marked (R E) ! $
     move ! (1 ∷ []) $ marked unit ! $

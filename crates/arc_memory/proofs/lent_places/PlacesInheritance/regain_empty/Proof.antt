@@ -31,7 +31,7 @@ use Rattle.arc_owners.proofs.Endings.{spends, enters, spent}
 use Rattle.arc_owners.proofs.Markers.{told}
 use Rattle.arc_memory.specs.LentMemory.{LentMemory, returning, names_from}
 use Rattle.arc_memory.proofs.Cuts.{Side}
-use Rattle.arc_memory.proofs.Held.{Row, places_in}
+use Rattle.arc_memory.proofs.Held.{places_at, Row, places_in}
 use Rattle.arc_memory.proofs.LentHeld.{there_out}
 use Rattle.arc_memory.proofs.Regained.{comes_back_empty}
 use Rattle.arc_owners.specs.contracts.lifetime.EndedLifetime as EndedLifetime
@@ -63,15 +63,15 @@ regain_empty_spec 𝓤 𝓛 𝓜 𝓡 wired T L =
     let from : ℕ = o + me.start * s in
     let many : length gs ≡ me.count =
     omega (arith, length-drop me.start m.names, me.inside.0) in
-    let bare : Pl.Denot = record {
-      marker = record {};
-      base = m.base;
-      whole = m.whole;
-      start = me.start;
-      count = me.count;
-      items = [];
-      inside = (omega (arith, me.inside.0, me.inside.1), omega arith, me.inside.2);
-    } in
+    let bare : Pl.Denot = places_at E m.base m.whole me.start me.count [] (
+      omega (
+        arith,
+        me.inside.0,
+        me.inside.1,
+      ),
+      omega arith,
+      me.inside.2,
+    ) in
     rewrite ! 0 (λ (a : ℕ). ‵ (fdead (a ∷ []))) over refl $ move ! (1 ∷ []) $ drop ! $
     -- [that the lifetime has ended; what comes back; the tokens]
     let e₀ : vss.0 ≡ token ∷ [] = token_told (R E) vss.0 are.0.0 in

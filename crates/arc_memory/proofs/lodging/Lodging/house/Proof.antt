@@ -64,9 +64,8 @@ house_spec 𝓤 𝓛 𝓜 𝓡 wired T L =
     let En = f.ended T in let c = f.clauses T 𝓛 𝓜.mem 𝓡.returns in
     let inst = layouts (a_type ∷ []) (T, tt) in let fn = inst_fn inst code.function in
     let Pl : RattleType = Row E in
-    let stays = stay_dropped (plain (λ _. usize)) yes in
-    let goes = Goes-dropped 𝓛 1 (plain (λ _. usize)) yes (λ κs x w. refl) in
-    spends 𝓛 En c 𝓜 𝓡 (λ κs x w. tt, (λ κs x w. tt, tt)) _ _
+    spends 𝓛 En c 𝓜 𝓡
+    (λ κs x w. tt, (λ κs x w. tt, (λ κs x w. tt, (λ κs x w. tt, (λ κs x w. tt, tt))))) _ _
     (code.unfolded 𝓤 𝓛.H 𝓜 𝓡 wired (T, tt)) (λ y are.
     let κs = y.0.0 in let qs = y.0.1 in let was : Pl.Denot = y.0.3.0 in
     let base : Ptr = y.0.3.1.0 in let start : ℕ = y.0.3.1.1.0 in let n : ℕ = y.0.3.1.1.1.0 in

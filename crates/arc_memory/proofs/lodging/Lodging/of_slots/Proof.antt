@@ -41,12 +41,12 @@ use Rattle.std_alloc.proofs.vec.Blocks.{all}
 use Rattle.std_alloc.proofs.vec.Spares.{Row as Slots, parts_typed, Row-seen, Into, at_into}
 use Rattle.std_alloc.proofs.vec.Spares.{Into-goes, Into-gives}
 use Rattle.logbook.proofs.Fields.{token, Token, token_told, token_made, ends}
-use Rattle.arc_owners.proofs.Endings.{Walk, spends, enters}
+use Rattle.arc_owners.proofs.Endings.{Walk, spends, enters, spent}
 use Rattle.arc_owners.proofs.Markers.{told}
 use Rattle.arc_memory.specs.Memory.{place_at, side_by_side}
 use Rattle.arc_memory.specs.contracts.lodging.Lodging as Lodging
 use Rattle.arc_memory.proofs.Cuts.{Side}
-use Rattle.arc_memory.proofs.Held.{Row}
+use Rattle.arc_memory.proofs.Held.{places_at, Row}
 use Rattle.arc_memory.proofs.PlaceSlots.{side_of}
 use Rattle.arc_memory.specs.contracts.lodging.Lodging.of_slots as f
 use Rattle.arc_memory.proofs.lodging.Lodging.of_slots.Statement.{statement}
@@ -106,24 +106,16 @@ of_slots_spec 𝓤 𝓛 𝓜 𝓡 wired T L =
     flt_i ! (me.whole * type_size X) (2 ^ 63) small $ fjoin ! $
     use0 𝓛 (‵ ((Token X).own_val (record {}, tt) (token ∷ []))) (token_made X 𝓛) $ fjoin ! $
     -- [the places; T's token; ..]
-    let now : Pl.Denot = record {
-      marker = record {};
-      base = me.base;
-      whole = me.whole;
-      start = me.start;
-      count = me.count;
-      items = xs;
-      inside = (
-        me.inside.0,
-        omega (
-          arith,
-          length-take-le n zs (omega (arith, lx, full.0)),
-          full.0,
-          lies.1,
-        ),
-        me.inside.1,
-      );
-    } in
+    let now : Pl.Denot = places_at E me.base me.whole me.start me.count xs (
+      me.inside.0,
+      omega (
+        arith,
+        length-take-le n zs (omega (arith, lx, full.0)),
+        full.0,
+        lies.1,
+      ),
+      me.inside.1,
+    ) in
     move ! (1 ∷ 0 ∷ []) $ nothing ! $ move ! (1 ∷ 0 ∷ []) $ join ! $
     returns ! (look_at ! 0 refl) $ free_all ! refl $ keep ! (0 ∷ 1 ∷ []) $
     by ! (spent 𝓛 En c y token now (tt, (tt, (tt, tt)))

@@ -45,7 +45,7 @@ use Rattle.arc_owners.proofs.Endings.{spends, enters, spent}
 use Rattle.arc_owners.proofs.Markers.{told}
 use Rattle.arc_memory.specs.Memory.{place_at, side_by_side}
 use Rattle.arc_memory.specs.contracts.lodging.Lodging as Lodging
-use Rattle.arc_memory.proofs.Held.{Row}
+use Rattle.arc_memory.proofs.Held.{places_at, Row}
 use Rattle.arc_memory.proofs.Runs.{block_apart}
 use Rattle.arc_memory.specs.contracts.lodging.Lodging.vacate as f
 use Rattle.arc_memory.proofs.lodging.Lodging.vacate.Statement.{statement}
@@ -79,7 +79,16 @@ vacate_spec 𝓤 𝓛 𝓜 𝓡 wired T L =
     join ! $ join ! $ use1 𝓛 (raw (G.pre z)) (id⊢ 𝓤 _) $
     let e₀ : vss.0 ≡ token ∷ [] = token_told X vss.0 are.0.0 in
     let ws : List Val = token ∷ u ∷ [] in
-    enters ! _ _ _ _ ws (λ j. e₀ j ++ (is j ++ [])) $ alloc_all ! (λ l. pass_all ! refl ((tt, (tt, tt)), (typed, tt)) $
+    enters ! _ _ _ _ ws (λ j. e₀ j ++ (is j ++ [])) $ alloc_all ! (λ l. pass_all ! refl (
+      (
+        tt,
+        (
+          tt,
+          tt,
+        ),
+      ),
+      (typed, tt),
+    ) $
     sets ! (of_opd ! (get_in ! (fld ! refl (stop !)) (sub ! 0 refl (whole !)))) refl (tt, tt) $
     sets ! (of_opd ! (get ! refl)) refl typed $
     calls_at ! (fm 𝓛 𝓜 𝓡) G
@@ -104,16 +113,12 @@ vacate_spec 𝓤 𝓛 𝓜 𝓡 wired T L =
     flt_i ! (me.whole * type_size X) (2 ^ 63) small $ fjoin ! $
     use0 𝓛 (‵ ((Token X).own_val (record {}, tt) (token ∷ []))) (token_made X 𝓛) $ fjoin ! $
     -- [the places; no right; the tokens]
-    let now : Pl.Denot = record {
-      marker = record {};
-      base = me.base;
-      whole = me.whole;
-      start = me.start;
-      count = me.count;
-      items = xs;
-      inside =
-          (me.inside.0, omega (arith, v.ok.0, v.ok.1, lies.1), me.inside.1);
-    } in
+    let now : Pl.Denot = places_at E me.base me.whole me.start me.count xs (
+      me.inside.0,
+      omega
+          (arith, v.ok.0, v.ok.1, lies.1),
+      me.inside.1,
+    ) in
     returns ! (look_at ! 0 refl) $ free_all ! refl $ keep ! (2 ∷ 0 ∷ []) $
     by ! (spent 𝓛 En c y token now (tt, (tt, tt))
     (told 𝓤 refl (fact_i 𝓤 _ (emp 𝓤) (refl, refl, refl, refl)) 𝓛))))))))))))))

@@ -35,9 +35,11 @@ use Rattle.core.proofs.alloc.Shapes.{after}
 use Rattle.std.proofs.raw_atomic.Walks.{proved_at}
 use Rattle.std_alloc.proofs.VecSteps.El.{El, R}
 use Rattle.logbook.proofs.Fields.{token, Token, token_made, ends}
-use Rattle.arc_owners.proofs.Endings.{Walk, spends, enters}
+use Rattle.arc_owners.proofs.Allocators.{allocating}
+use Rattle.arc_owners.proofs.Endings.{Walk, spends, enters, spent}
 use Rattle.arc_owners.proofs.Markers.{told}
 use Rattle.arc_owners.specs.contracts.memory.header_room.HeaderRoom as Room
+use Rattle.arc_memory.proofs.Held.{places_at}
 use Rattle.arc_memory.specs.Memory.{side_by_side}
 use Rattle.arc_memory.specs.Pieces.{units_of, head_size, in_units, piece_bytes, frees_piece}
 use Rattle.arc_memory.specs.contracts.header_block.HeaderBlock as Block
@@ -58,12 +60,7 @@ cut_spec 𝓤 𝓛 𝓜 𝓡 wired T A X LT LA LX g d da met md =
     let c = f.clauses T A X g d da 𝓛 𝓜.mem 𝓡.returns in
     let inst = bounded (a_type ∷ a_type ∷ a_type ∷ []) (T, (A, (X, tt))) (dcons d (dcons da dnil))
     in let fn = inst_fn inst code.function in
-    let E : El = record {
-      row = T;
-      laws = LT;
-      al =
-          record { row = A; laws = LA; g = g; d = d; drops = da };
-    } in
+    let E : El = record { row = T; laws = LT; al = allocating A LA g d da } in
     let T' : RattleType = R E in let A' : RattleType = param 1 A in
     let X' : RattleType = param 2 X in let Both : RattleType = Tuple (T' ∷ A' ∷ []) in
     let Left : RattleType = Right.the_row T' A' g in let Rm : RattleType = Room.the_row X' in
@@ -127,15 +124,7 @@ cut_spec 𝓤 𝓛 𝓜 𝓡 wired T A X LT LA LX g d da met md =
       head = head;
       count = m;
     } in
-    let own : Pl.Denot = record {
-      marker = record {};
-      base = block_ptr b at;
-      whole = m;
-      start = 0;
-      count = m;
-      items = [];
-      inside = (omega arith, omega arith, few);
-    } in
+    let own : Pl.Denot = places_at E (block_ptr b at) m 0 m [] (omega arith, omega arith, few) in
     -- each part, from the last one on
     use0 𝓛 (‵ (room_own p (room_val p ∷ []))) (room_made p 𝓛) $ fjoin ! $
     use1 𝓛 (‵ (Rm.own_val room (room_val p ∷ []))) (id⊢ 𝓤 _) $ move ! (2 ∷ []) $

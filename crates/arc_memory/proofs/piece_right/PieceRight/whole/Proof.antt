@@ -29,6 +29,7 @@ use Rattle.core.proofs.alloc.Calls.{Goes-blank}
 use Rattle.std.proofs.raw_atomic.Walks.{proved_at}
 use Rattle.std_alloc.proofs.VecSteps.El.{El, R}
 use Rattle.logbook.proofs.Fields.{token, token_told, ends}
+use Rattle.arc_owners.proofs.Allocators.{allocating}
 use Rattle.arc_owners.proofs.Endings.{spends, enters, spent}
 use Rattle.arc_owners.proofs.Markers.{told}
 use Rattle.arc_owners.specs.contracts.memory.header_room.HeaderRoom as Room
@@ -52,12 +53,7 @@ pub whole_spec : {M : Type 1} → statement M
 whole_spec 𝓤 𝓛 𝓜 𝓡 wired T A X LT LA LX g d da met md =
     let En = f.ended T A X g d da in
     let c = f.clauses T A X g d da 𝓛 𝓜.mem 𝓡.returns in
-    let E : El = record {
-      row = T;
-      laws = LT;
-      al =
-          record { row = A; laws = LA; g = g; d = d; drops = da };
-    } in
+    let E : El = record { row = T; laws = LT; al = allocating A LA g d da } in
     let T' : RattleType = R E in let A' : RattleType = param 1 A in
     let X' : RattleType = param 2 X in let Both : RattleType = Tuple (T' ∷ A' ∷ []) in
     let Left : RattleType = Right.the_row T' A' g in let Rm : RattleType = Room.the_row X' in

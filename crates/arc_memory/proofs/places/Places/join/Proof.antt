@@ -30,7 +30,7 @@ use Rattle.arc_owners.proofs.Endings.{spends, enters, one_moved, spent}
 use Rattle.arc_owners.proofs.Markers.{told}
 use Rattle.arc_memory.specs.Allocations.{IsPart}
 use Rattle.arc_memory.proofs.Cuts.{Side, glued_on, further}
-use Rattle.arc_memory.proofs.Held.{Row, places_out, places_in}
+use Rattle.arc_memory.proofs.Held.{places_at, Row, places_out, places_in}
 use Rattle.arc_memory.specs.contracts.places.Places.join as f
 use Rattle.arc_memory.proofs.places.Places.join.Statement.{statement}
 use Rattle.arc_memory.proofs.places.Places.join.Code as code
@@ -68,16 +68,8 @@ join_spec 𝓤 𝓛 𝓜 𝓡 wired T L =
     $
     let fewer : length (me.items ++ back.items) ≤ me.count + back.count = omega
     (arith, length-append me.items back.items, me.inside.1, back.inside.1) in
-    let now : Pl.Denot = record {
-      marker = record {};
-      base = me.base;
-      whole = me.whole;
-      start = me.start;
-      count = me.count + back.count;
-      items = me.items ++ back.items;
-      inside =
-          (omega (arith, back.inside.0, next.0.1, next.1), fewer, me.inside.2);
-    } in
+    let now : Pl.Denot = places_at E me.base me.whole me.start (me.count + back.count) (me.items ++
+    back.items) (omega (arith, back.inside.0, next.0.1, next.1), fewer, me.inside.2) in
     places_in E ! now b o at_b small $
     enters ! _ _ _ _ (token ∷ token ∷ [])
     (λ j. token_told (R E) vss.0 are.0.0 j ++ (token_told (R E) vss.1.0 are.1.0.0 j ++ [])) $

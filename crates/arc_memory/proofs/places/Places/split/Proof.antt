@@ -30,7 +30,7 @@ use Rattle.logbook.proofs.Fields.{token, token_told, ends}
 use Rattle.arc_owners.proofs.Endings.{spends, enters, two_made, both_spent}
 use Rattle.arc_owners.proofs.Markers.{told}
 use Rattle.arc_memory.proofs.Cuts.{Side, cut, further}
-use Rattle.arc_memory.proofs.Held.{Row, places_out, places_in}
+use Rattle.arc_memory.proofs.Held.{places_at, Row, places_out, places_in}
 use Rattle.arc_memory.specs.contracts.places.Places.split as f
 use Rattle.arc_memory.proofs.places.Places.split.Statement.{statement}
 use Rattle.arc_memory.proofs.places.Places.split.Code as code
@@ -58,26 +58,17 @@ split_spec 𝓤 𝓛 𝓜 𝓡 wired T L =
     let lower : length (take at xs) ≤ at = omega (arith, length-take at xs) in
     let upper : length (drop at xs) ≤ was.count - at = omega
     (arith, length-drop at xs, was.inside.1) in
-    let front : Pl.Denot = record {
-      marker = record {};
-      base = was.base;
-      whole = was.whole;
-      start = was.start;
-      count = at;
-      items = take at xs;
-      inside =
-          (omega (arith, was.inside.0, asked), lower, was.inside.2);
-    } in
-    let back : Pl.Denot = record {
-      marker = record {};
-      base = was.base;
-      whole = was.whole;
-      start = was.start + at;
-      count = was.count - at;
-      items = drop at xs;
-      inside =
-          (omega (arith, was.inside.0, asked), upper, was.inside.2);
-    } in
+    let front : Pl.Denot = places_at E was.base was.whole was.start at (take at xs) (
+      omega (
+        arith,
+        was.inside.0,
+        asked,
+      ),
+      lower,
+      was.inside.2,
+    ) in
+    let back : Pl.Denot = places_at E was.base was.whole (was.start + at) (was.count - at) (drop at
+    xs) (omega (arith, was.inside.0, asked), upper, was.inside.2) in
     places_in E ! front b o at_b small $
     rewrite ! 1 (λ (k : ℕ). ‵ (Side E 𝓛 b k (was.count - at) (drop at xs)))
     (sym (further o was.start at s)) refl $ move ! (1 ∷ []) $ places_in E ! back b o at_b small

@@ -39,11 +39,10 @@ use Rattle.std.proofs.raw_atomic.Walks.{proved_at}
 use Rattle.std_alloc.proofs.VecSteps.El.{El, R, el_x, elτ, sz, no_al}
 use Rattle.std_alloc.proofs.VecSteps.Rows as rows
 use Rattle.logbook.proofs.Fields.{token, token_told, ends}
-use Rattle.arc_owners.proofs.Endings.{Walk, spends, enters, spent}
 use Rattle.arc_owners.proofs.Markers.{told}
 use Rattle.arc_memory.specs.Memory.{place_at}
 use Rattle.arc_memory.proofs.Cuts.{Side, items, bare, opened, shut}
-use Rattle.arc_memory.proofs.Held.{Row, places_out, places_in}
+use Rattle.arc_memory.proofs.Held.{places_at, Row, places_out, places_in}
 use Rattle.arc_memory.proofs.Spots.{no_further}
 use Rattle.arc_memory.specs.contracts.places.Places.with_array as f
 use Rattle.arc_memory.proofs.places.Places.with_array.Statement.{statement}
@@ -68,11 +67,25 @@ with_array_spec 𝓤 𝓛 𝓜 𝓡 wired T N L fN =
     let En = f.ended T n in let c = f.clauses T n 𝓛 𝓜.mem 𝓡.returns in
     let inst = layouts (a_type ∷ a_number ∷ []) (T, (n, tt)) in
     let fn = inst_fn inst code.function in
-    spends 𝓛 En c 𝓜 𝓡 (λ κs x w. tt, (λ κs x w. tt, (λ κs x w. tt, tt))) _ _
-    (code.unfolded 𝓤 𝓛.H 𝓜 𝓡 wired (T, (n, tt))) (λ y are.
+    let hs : Stays En.signature.params En.kept = (
+      stay_dropped (plain (λ _. Pl)) no,
+      (
+        stay_dropped (plain (λ _. RawPtr)) yes,
+        (stay_dropped (plain (λ _. Arr)) no, tt),
+      ),
+    ) in
+    proved_at 𝓛 En hs c 𝓜 𝓡 (
+      Goes-blank 𝓛 2 (plain (λ _. Pl)) no (λ κs x w. tt),
+      (
+        Goes-dropped 𝓛 2 (plain (λ _. RawPtr)) yes (λ κs x w. refl),
+        ((λ κs x g vs ok. via 𝓤 _ (nothing_left 𝓛 x g) (𝓛.laws.⇛_intro _)), tt),
+      ),
+    ) (f.Key.name inst)
+    fn (code.unfolded 𝓤 H 𝓜 𝓡 wired (T, (n, tt))) (λ y are.
     let κs = y.0.0 in let qs = y.0.1 in let was : Pl.Denot = y.0.3.0 in let at : Ptr = y.0.3.1.0 in
     let ys : List (el_x E) = y.0.3.1.1.0 in let vss = y.0.4 in
-    let Post : Val → SProp 𝓤 = (Walk 𝓛 En c).post y in
+    let Post : Val → SProp 𝓤 = (walk_of 𝓛 En hs c).post y in
+    let Run : List Val → SProp 𝓤 = λ ws. WpFn 𝓤 H 𝓣.C 𝓣.Λ fn ws Post in
     let Place : Type 0 = (at ≡ place_at (R E) was.base was.start) × (was.count ≡ N) in
     let None : Type 0 = was.items ≡ [] in let Small : Type 0 = N * s < 2 ^ 63 in
     qed 𝓛 ((‵ (fsep (flft κs.0 qs.0) (fsep (flft κs.1.0 qs.1.0) ftrue)) ⊛ ‵
@@ -99,7 +112,9 @@ with_array_spec 𝓤 𝓛 𝓜 𝓡 wired T N L fN =
     let e₀ : vss.0 ≡ token ∷ [] = token_told (R E) vss.0 are.0.0 in
     let here : vss.1.0 ≡ vptr b there ∷ [] = e₁ ∙ ap (λ (q : Ptr). ptr_val q ∷ []) at_p in
     let ws : List Val = token ∷ vptr b there ∷ v ∷ [] in
-    enters ! _ _ _ _ ws (λ j. e₀ j ++ (here j ++ (e₂ j ++ []))) $
+    suffices ! (Run ws) (subst (λ (us : List Val). ent 𝓤 (Run ws) (Run us))
+    (sym (λ j. e₀ j ++ (here j ++ (e₂ j ++ [])))) (id⊢ 𝓤 (Run ws))) $
+    enter ! 𝓣.C 𝓣.Λ fn ws Post $
     alloc_all ! (λ l. pass_all ! refl ((tt, (tt, tt)), ((tt, tt), (fv, tt))) $
     let Ev = env fn.locals l in
     sets ! (of_opd ! (get_in ! (fld ! refl (stop !)) (sub ! 0 refl (whole !)))) refl (tt, tt) $
@@ -118,17 +133,15 @@ with_array_spec 𝓤 𝓛 𝓜 𝓡 wired T N L fN =
     move ! (1 ∷ 0 ∷ []) $
     use2 𝓛 (‵ (Side E 𝓛 b there N ys)) (shut E 𝓛 b there N ys) $
     rewrite ! 0 (λ (k : ℕ). ‵ (Side E 𝓛 b there k ys)) (sym placed.1) refl $
-    let now : Pl.Denot = record {
-      marker = record {};
-      base = was.base;
-      whole = was.whole;
-      start = was.start;
-      count = was.count;
-      items = ys;
-      inside =
-          (was.inside.0, omega (arith, counted, placed.1), was.inside.2);
-    } in
+    let now : Pl.Denot = places_at E was.base was.whole was.start was.count ys (
+      was.inside.0,
+      omega
+          (arith, counted, placed.1),
+      was.inside.2,
+    ) in
     places_in E ! now b o at_b small $
     sets ! (agg ! (and_then ! (get ! refl) (no_more !))) refl (tt, (tt, tt)) $
-    returns ! (look_at ! 0 refl) $ free_all ! refl $ keep ! (2 ∷ 0 ∷ []) $
-    by ! (spent 𝓛 En c y token now (tt, (tt, (all_rest (λ _. Unit {0}) (λ _. tt) ys, tt))) (told 𝓤 refl (fact_i 𝓤 _ (emp 𝓤) (refl, refl, refl, refl)) 𝓛)))))))))
+    nothing ! $ nothing ! $ fjoin ! $ nothing ! $ fjoin ! $ nothing ! $ fjoin ! $
+    returns ! (look_at ! 0 refl) $ free_all ! refl $ keep ! (3 ∷ 0 ∷ 1 ∷ []) $
+    by ! (ends 𝓛 En hs c y token now (tt, (tt, (all_rest (λ _. Unit {0}) (λ _. tt) ys, tt)))
+    (tt, (tt, (tt, tt))) (told 𝓤 refl (fact_i 𝓤 _ (emp 𝓤) (refl, refl, refl, refl)) 𝓛)))))))))

@@ -42,7 +42,7 @@ use Rattle.arc_owners.proofs.Endings.{Walk, spends, enters, spent}
 use Rattle.arc_owners.proofs.Markers.{told}
 use Rattle.arc_memory.specs.Memory.{place_at}
 use Rattle.arc_memory.proofs.Cuts.{Side, items, bare, opened, shut}
-use Rattle.arc_memory.proofs.Held.{Row, places_out, places_in}
+use Rattle.arc_memory.proofs.Held.{places_at, Row, places_out, places_in}
 use Rattle.arc_memory.proofs.Spots.{no_further}
 use Rattle.arc_memory.specs.contracts.places.Places.without_array as f
 use Rattle.arc_memory.proofs.places.Places.without_array.Statement.{statement}
@@ -106,16 +106,12 @@ without_array_spec 𝓤 𝓛 𝓜 𝓡 wired T N L fN =
     use0 𝓛 (‵ (items E 𝓛 b [] there)) (id⊢ 𝓤 (emp 𝓤)) $ use2 𝓛 (‵ (Side E 𝓛 b there N []))
     (shut E 𝓛 b there N []) $ rewrite ! 0 (λ (k : ℕ). ‵ (Side E 𝓛 b there k [])) (sym placed.1)
     refl $
-    let now : Pl.Denot = record {
-      marker = record {};
-      base = was.base;
-      whole = was.whole;
-      start = was.start;
-      count = was.count;
-      items = [];
-      inside =
-          (was.inside.0, omega arith, was.inside.2);
-    } in
+    let now : Pl.Denot = places_at E was.base was.whole was.start was.count [] (
+      was.inside.0,
+      omega
+          arith,
+      was.inside.2,
+    ) in
     places_in E ! now b o at_b small $
     sets ! (agg ! (and_then ! (get ! refl) (no_more !))) refl (tt, (tt, tt)) $
     sets ! (agg ! (and_then ! (get ! refl) (and_then ! (get ! refl) (no_more !)))) refl

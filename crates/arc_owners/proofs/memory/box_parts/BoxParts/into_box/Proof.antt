@@ -34,6 +34,7 @@ use Rattle.std_alloc.proofs.BoxSteps.Form.{Bx, D, B, word, box_typed}
 use Rattle.std_alloc.proofs.BoxSteps.Steps.{box_out, box_in}
 use Rattle.std_alloc.specs.contracts.boxed.Box.from_raw as callee
 use Rattle.std_alloc.proofs.boxed.Box.from_raw.Met.{met}
+use Rattle.arc_owners.proofs.memory.Allocators.{allocating}
 use Rattle.arc_owners.proofs.memory.Endings.{Walk, spends, enters, spent}
 use Rattle.arc_owners.proofs.memory.Boxes.{Row, boxed, as_box}
 use Rattle.arc_owners.specs.contracts.memory.box_parts.BoxParts.into_box as f
@@ -43,17 +44,7 @@ use Rattle.arc_owners.proofs.memory.box_parts.BoxParts.into_box.Code as code
 pub into_box_spec : {M : Type 1} → statement M
 into_box_spec 𝓤 𝓛 𝓜 𝓡 wired T A L LA g d dt da allocator glue glued =
     let H = 𝓛.H in let 𝓣 = tables 𝓤 H 𝓜 𝓡 𝓡.env in
-    let E : Bx = record {
-      row = T;
-      laws = L;
-      al = record {
-        row = A;
-        laws = LA;
-        g = g;
-        d = d;
-        drops = da;
-      };
-    } in
+    let E : Bx = record { row = T; laws = L; al = allocating A LA g d da } in
     let En = f.ended T A g d dt da in let c = f.clauses T A g d dt da 𝓛 𝓜.mem 𝓡.returns in
     let inst = bounded (a_type ∷ a_type ∷ []) (T, (A, tt)) (dcons d (dcons dt (dcons da dnil))) in
     let fn = inst_fn inst code.function in
@@ -104,4 +95,7 @@ into_box_spec 𝓤 𝓛 𝓜 𝓡 wired T A L LA g d dt da allocator glue glued 
     lands_last ! refl typed₂ $ exec ! 𝓣.C 𝓣.Λ Ev (after 3 fn.body) (at_ret Ev Post) $
     sets ! (of_opd ! (get ! refl)) refl typed₂ $
     returns ! (look_at ! 0 refl) $ free_all ! refl $ keep ! (1 ∷ 0 ∷ []) $
-    by ! (spent 𝓛 En c y u r ((tt, (tt, tt)), tt) (fact_i 𝓤 _ (emp 𝓤) (same_value, same_alloc))))))))))))
+    by ! (spent 𝓛 En c y u r ((tt, (tt, tt)), tt) (fact_i 𝓤 _ (emp 𝓤) (
+      same_value,
+      same_alloc,
+    ))))))))))))

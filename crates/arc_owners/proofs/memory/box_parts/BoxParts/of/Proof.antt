@@ -31,6 +31,7 @@ use Rattle.std_alloc.proofs.BoxSteps.Form.{Bx, D, R, B, word, box_typed}
 use Rattle.std_alloc.proofs.BoxSteps.Steps.{box_out, box_in}
 use Rattle.std_alloc.specs.contracts.boxed.Box.into_raw_with_allocator as callee
 use Rattle.std_alloc.proofs.boxed.Box.into_raw_with_allocator.Met.{met}
+use Rattle.arc_owners.proofs.memory.Allocators.{allocating}
 use Rattle.arc_owners.proofs.memory.Endings.{spends, enters, spent}
 use Rattle.arc_owners.proofs.memory.Boxes.{Row, Pair, as_bare, pair_as_box}
 use Rattle.arc_owners.specs.contracts.memory.box_parts.BoxParts.of as f
@@ -39,17 +40,7 @@ use Rattle.arc_owners.proofs.memory.box_parts.BoxParts.of.Code as code
 
 pub of_spec : {M : Type 1} → statement M
 of_spec 𝓤 𝓛 𝓜 𝓡 wired T A L LA g d dt da allocator glue glued =
-    let E : Bx = record {
-      row = T;
-      laws = L;
-      al = record {
-        row = A;
-        laws = LA;
-        g = g;
-        d = d;
-        drops = da;
-      };
-    } in
+    let E : Bx = record { row = T; laws = L; al = allocating A LA g d da } in
     let En = f.ended T A g d dt da in let c = f.clauses T A g d dt da 𝓛 𝓜.mem 𝓡.returns in
     spends 𝓛 En c 𝓜 𝓡 (λ κs x w. tt, tt) _ _
     (code.unfolded 𝓤 𝓛.H 𝓜 𝓡 wired (T, (A, tt)) d dt da) (λ y are.

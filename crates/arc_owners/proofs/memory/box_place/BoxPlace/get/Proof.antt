@@ -29,6 +29,7 @@ use Rattle.std.proofs.raw_atomic.Walks.{proved}
 use Rattle.std_alloc.proofs.Words.{pointer_in, pointer_out}
 use Rattle.std_alloc.proofs.BoxSteps.Form.{Bx, R, P}
 use Rattle.logbook.proofs.Fields.{ends}
+use Rattle.arc_owners.proofs.memory.Allocators.{allocating}
 use Rattle.arc_owners.proofs.memory.BoxPlaces.{Row, Fields, parts, shows_at}
 use Rattle.arc_owners.specs.contracts.memory.box_place.BoxPlace as BoxPlace
 use Rattle.arc_owners.specs.contracts.memory.box_place.BoxPlace.get as f
@@ -38,17 +39,7 @@ use Rattle.arc_owners.proofs.memory.box_place.BoxPlace.get.Code as code
 pub get_spec : {M : Type 1} → statement M
 get_spec 𝓤 𝓛 𝓜 𝓡 wired T A L LA g d da allocator glued =
     let H = 𝓛.H in let 𝓣 = tables 𝓤 H 𝓜 𝓡 𝓡.env in
-    let E : Bx = record {
-      row = T;
-      laws = L;
-      al = record {
-        row = A;
-        laws = LA;
-        g = g;
-        d = d;
-        drops = da;
-      };
-    } in
+    let E : Bx = record { row = T; laws = L; al = allocating A LA g d da } in
     let En = f.ended T A g d da in let c = f.clauses T A g d da 𝓛 𝓜.mem 𝓡.returns in
     let inst = bounded (a_type ∷ a_type ∷ []) (T, (A, tt)) (dcons d (dcons da dnil)) in
     let fn = inst_fn inst code.function in let S : RattleType = Row E in

@@ -25,6 +25,7 @@ use Rattle.core.proofs.alloc.Calls.{Goes-blank, handle_tells}
 use Rattle.std.proofs.raw_atomic.Walks.{proved_at, leaves}
 use Rattle.std_alloc.proofs.BoxSteps.Form.{Bx, P, word as box_word, box_typed}
 use Rattle.std_alloc.proofs.BoxSteps.Steps.{box_in}
+use Rattle.arc_owners.proofs.memory.Allocators.{allocating}
 use Rattle.arc_owners.proofs.memory.Endings.{spends, enters, spent}
 use Rattle.arc_owners.proofs.memory.Boxes.{Row as Bare, boxed, as_bare}
 use Rattle.arc_owners.proofs.memory.BoxPlaces.{Row, word, frees, place_out}
@@ -34,17 +35,7 @@ use Rattle.arc_owners.proofs.memory.box_place.BoxPlace.with.Code as code
 
 pub with_spec : {M : Type 1} → statement M
 with_spec 𝓤 𝓛 𝓜 𝓡 wired T A L LA g d da allocator glued =
-    let E : Bx = record {
-      row = T;
-      laws = L;
-      al = record {
-        row = A;
-        laws = LA;
-        g = g;
-        d = d;
-        drops = da;
-      };
-    } in
+    let E : Bx = record { row = T; laws = L; al = allocating A LA g d da } in
     let En = f.ended T A g d da in let c = f.clauses T A g d da 𝓛 𝓜.mem 𝓡.returns in
     spends 𝓛 En c 𝓜 𝓡 (λ κs x w. tt, (λ κs x w. tt, tt)) _ _
     (code.unfolded 𝓤 𝓛.H 𝓜 𝓡 wired (T, (A, tt)) d da) (λ y are.

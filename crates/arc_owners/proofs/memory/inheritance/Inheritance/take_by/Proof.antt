@@ -39,6 +39,7 @@ use Rattle.std_alloc.specs.Box.Ownership.{box_owns}
 use Rattle.std_alloc.proofs.BoxSteps.Form.{Bx, R, P, τ, B, box_ty, box_typed}
 use Rattle.std_alloc.proofs.BoxSteps.Steps.{box_in}
 use Rattle.logbook.proofs.Fields.{token as no_bytes, Token, ends}
+use Rattle.arc_owners.proofs.memory.Allocators.{allocating}
 use Rattle.arc_owners.specs.count.Invariant.{Lease, kept_for, end_tokens}
 use Rattle.arc_owners.proofs.memory.Boxes.{Row, as_bare}
 use Rattle.arc_owners.proofs.count.Markers.{marked}
@@ -53,17 +54,7 @@ use Rattle.arc_owners.proofs.memory.inheritance.Inheritance.take_by.Code as code
 pub take_by_spec : {M : Type 1} → statement M
 take_by_spec 𝓤 𝓛 𝓜 𝓡 wired T A L LA g d da allocator glued =
     let H = 𝓛.H in let 𝓣 = tables 𝓤 H 𝓜 𝓡 𝓡.env in
-    let E : Bx = record {
-      row = T;
-      laws = L;
-      al = record {
-        row = A;
-        laws = LA;
-        g = g;
-        d = d;
-        drops = da;
-      };
-    } in
+    let E : Bx = record { row = T; laws = L; al = allocating A LA g d da } in
     let En = f.ended T A g d da in let c = f.clauses T A g d da 𝓛 𝓜.mem 𝓡.returns in
     let inst = bounded (a_type ∷ a_type ∷ []) (T, (A, tt)) (dcons d (dcons da dnil)) in
     let fn = inst_fn inst code.function in

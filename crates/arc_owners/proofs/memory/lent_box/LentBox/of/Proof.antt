@@ -29,6 +29,7 @@ use Rattle.std_alloc.specs.Box.Ownership.{box_owns}
 use Rattle.std_alloc.proofs.BoxSteps.Form.{Bx, R, P, B, word, box_typed}
 use Rattle.std_alloc.proofs.BoxSteps.Steps.{box_out}
 use Rattle.logbook.proofs.Fields.{token, Token, token_made}
+use Rattle.arc_owners.proofs.memory.Allocators.{allocating}
 use Rattle.arc_owners.proofs.memory.Endings.{spends, enters, spent}
 use Rattle.arc_owners.specs.count.Invariant.{Lease, kept_for}
 use Rattle.arc_owners.proofs.memory.Boxes.{Row, boxed, as_box}
@@ -42,17 +43,7 @@ use Rattle.arc_owners.proofs.memory.lent_box.LentBox.of.Code as code
 
 pub of_spec : {M : Type 1} → statement M
 of_spec 𝓤 𝓛 𝓜 𝓡 wired T A Q L LA LQ g d da allocator glued =
-    let E : Bx = record {
-      row = T;
-      laws = L;
-      al = record {
-        row = A;
-        laws = LA;
-        g = g;
-        d = d;
-        drops = da;
-      };
-    } in
+    let E : Bx = record { row = T; laws = L; al = allocating A LA g d da } in
     let Own : RattleType = OwnerToken.the_row (param 2 Q) in let En = f.ended T A Q g d da in
     let c = f.clauses T A Q g d da 𝓛 𝓜.mem 𝓡.returns in
     let K : RattleType = Inheritance.the_row (R E) (P E) g in
@@ -76,7 +67,10 @@ of_spec 𝓤 𝓛 𝓜 𝓡 wired T A Q L LA LQ g d da allocator glued =
     in
     let v : Val = word E h b o in let typed = box_typed E h b o fits in
     let ws : List Val = v ∷ vptr b₁ o₁ ∷ [] in
-    enters ! _ _ _ _ ws (λ i. is i ++ (e₁ i ++ [])) $ alloc_all ! (λ at. pass_all ! refl (typed, ((tt, tt), tt)) $
+    enters ! _ _ _ _ ws (λ i. is i ++ (e₁ i ++ [])) $ alloc_all ! (λ at. pass_all ! refl (
+      typed,
+      ((tt, tt), tt),
+    ) $
     bor_new ! tt α $ move ! (1 ∷ []) $ use1 𝓛 (later (‵ (finv (kept_for Was l)))) (keeps 𝓛 Was l) $
     await ! tt $
     -- [that it comes back; the borrow; the allocator; the tokens]

@@ -36,6 +36,7 @@ use Rattle.std.proofs.raw_atomic.Walks.{proved_at}
 use Rattle.std_alloc.specs.Box.Ownership.{box_owns}
 use Rattle.std_alloc.proofs.BoxSteps.Form.{Bx, R, P}
 use Rattle.logbook.proofs.Fields.{token, token_told, Token, token_made, ends}
+use Rattle.arc_owners.proofs.memory.Allocators.{allocating}
 use Rattle.arc_owners.proofs.memory.Endings.{spends, enters, spent}
 use Rattle.arc_owners.specs.count.Invariant.{right_shares, tokens}
 use Rattle.arc_owners.proofs.memory.Borrows.{box_loan}
@@ -47,17 +48,8 @@ use Rattle.arc_owners.proofs.memory.lent_box.LentBox.share.Code as code
 
 pub share_spec : {M : Type 1} → statement M
 share_spec 𝓤 𝓛 𝓜 𝓡 wired T A Q L LA LQ g d da allocator glued =
-    let E : Bx = record {
-      row = T;
-      laws = L;
-      al = record {
-        row = A;
-        laws = LA;
-        g = g;
-        d = d;
-        drops = da;
-      };
-    } in let LR : Laws (R E) = param_laws 0 T L in
+    let E : Bx = record { row = T; laws = L; al = allocating A LA g d da } in let LR : Laws (R E) =
+    param_laws 0 T L in
     let R₂ : RattleType = param 2 Q in let Own : RattleType = OwnerToken.the_row R₂ in
     let En = f.ended T A Q g d da in let c = f.clauses T A Q g d da 𝓛 𝓜.mem 𝓡.returns in
     let N : RattleType = LentBox.the_row (R E) (P E) g in
