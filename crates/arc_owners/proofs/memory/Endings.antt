@@ -19,7 +19,7 @@ use mir.Syntax.{return}
 use mir.Val.{Val, vstruct, vcons, vnil, of_list, WT, has_ty}
 use base.Fraction.{full_share}
 use base.Logic.{SProp, ent, id⊢, sep, emp}
-use base.Fml.{Fml, ftrue, fsep, feq, fex, fat, froom}
+use base.Fml.{Fml, fsep, feq, fex, fat, froom}
 use prog.Model.{Model}
 use prog.Wp.{Heap, WpFn, Closed, Env, Calls, Loops, spot_of}
 use types.Logic.{Logic, sem}

@@ -6,7 +6,7 @@ use mathlib.Core.List.{List, [], ◌∷◌}
 use Prim.Native.Nat.{ℕ, suc}
 use seplogic.Ra.Ura.{Ura}
 use mir.Syntax.{Fn, Callee, named}
-use mir.Val.{Val, vptr}
+use mir.Val.{vptr}
 use prog.Model.{Model}
 use prog.Wp.{Closed}
 use types.Logic.{Logic}

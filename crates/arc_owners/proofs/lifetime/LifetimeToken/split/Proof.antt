@@ -1,5 +1,5 @@
 -- `split` halves the token of a lifetime.
-use Rattle.std.proofs.Common.{◌≡◌, ℕ, [], ◌∷◌, ◌++◌, refl}
+use Rattle.std.proofs.Common.{ℕ, [], ◌∷◌, ◌++◌, refl}
 use base.Logic.{emp}
 use types.Kit.{‵, raw, ◌⊛◌, ◌$◌, ◌∵◌, !, qed, by, move, keep, drop, split, fsplit}
 use types.Kit.{use1}

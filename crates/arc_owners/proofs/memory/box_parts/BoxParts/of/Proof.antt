@@ -1,31 +1,23 @@
 -- `of` takes the box apart: what the pair of its pointer and its allocator owns with the value is
 -- what the `BoxParts` owns.
-use Rattle.std.proofs.Common.{◌≡◌, List, [], ◌∷◌, ◌++◌, refl, sym, ap, subst}
-use mir.Syntax.{a_type, dcons, dnil}
+use Rattle.std.proofs.Common.{◌≡◌, [], ◌∷◌, ◌++◌, refl, sym, ap}
 use mir.Val.{Val}
-use mir.MapTy.{inst_fn}
-use base.Logic.{SProp, ent, emp, id⊢}
+use base.Logic.{emp, id⊢}
 use base.Fml.{ftrue, flft}
-use prog.Wp.{WpFn}
 use types.Kit.{‵, raw, ◌⊛◌, some, later, ◌$◌, ◌∵◌, !, qed, by, move, keep, drop, split, split3}
-use types.Kit.{join, fsplit, fjoin, pick, suffices, use0, use1, use2, await, rewrite}
-use types.Run.{stop, fld, of_opd, no_more, and_then, returns, enter}
+use types.Kit.{join, fsplit, fjoin, pick, use1, use2, await, rewrite}
+use types.Run.{stop, fld, of_opd, no_more, and_then, returns}
 use types.ByLocal.{alloc_all, pass_all, free_all, look_at, get, get_in, sets, lands_as}
 use types.Part.{agg, sub, whole}
 use contract.Monad.{fact, fact_i}
-use contract.Running.{tables}
-use denote.Exit.{no}
 use denote.RattleType.{owns}
-use denote.Signature.{types_at, plain}
-use denote.Steps.{nothing, only, heard}
-use denote.Param.{bounded}
+use denote.Signature.{types_at}
+use denote.Steps.{only, heard}
 use denote.Triple.Clauses.{Lasts, lasts}
 use denote.Triple.Spec.{triple_of}
 use denote.Triple.Call.{calls_at}
-use denote.Triple.Walked.{Stays, stay_dropped, walk_of}
-use Rattle.core.proofs.alloc.Calls.{Goes-blank, token}
+use Rattle.core.proofs.alloc.Calls.{token}
 use Rattle.core.proofs.atomic.Steps.{fm}
-use Rattle.std.proofs.raw_atomic.Walks.{proved_at, leaves}
 use Rattle.std_alloc.specs.Box.Ownership.{box_owns}
 use Rattle.std_alloc.proofs.BoxSteps.Form.{Bx, D, R, B, word, box_typed}
 use Rattle.std_alloc.proofs.BoxSteps.Steps.{box_out, box_in}

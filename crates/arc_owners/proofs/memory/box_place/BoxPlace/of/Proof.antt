@@ -1,27 +1,17 @@
 -- `of` parts a box from its allocator: what the box owned stands at the place.
-use Rattle.std.proofs.Common.{◌≡◌, List, [], ◌∷◌, ◌++◌, refl, sym, subst}
-use mir.Syntax.{a_type, dcons, dnil}
-use mir.Val.{Val, vstruct, vcons, vnil, of_list}
-use mir.MapTy.{inst_fn}
-use base.Logic.{SProp, ent, emp, id⊢}
-use base.Fml.{ftrue, fsep, feq, flft}
-use prog.Wp.{WpFn}
-use types.Kit.{‵, raw, ◌⊛◌, ◌$◌, ◌∵◌, !, qed, by, move, keep, split, fsplit, fjoin, fpack, suffices}
-use types.Kit.{use0, use1, feq_i}
-use types.Run.{stop, fld, of_opd, no_more, and_then, returns, enter}
+use Rattle.std.proofs.Common.{[], ◌∷◌, ◌++◌, refl}
+use mir.Val.{Val}
+use base.Logic.{emp}
+use base.Fml.{ftrue, fsep, flft}
+use types.Kit.{‵, raw, ◌⊛◌, ◌$◌, ◌∵◌, !, qed, by, move, keep, split, fsplit}
+use types.Kit.{use1}
+use types.Run.{stop, fld, of_opd, no_more, and_then, returns}
 use types.ByLocal.{alloc_all, pass_all, free_all, look_at, get, get_in, sets}
 use types.Part.{agg, sub, whole}
-use contract.Monad.{fact, fact_i}
-use contract.Running.{tables}
-use denote.Exit.{no}
-use denote.RattleType.{RattleType, Valss, owns}
-use denote.Signature.{types_at, plain}
+use contract.Monad.{fact_i}
+use denote.RattleType.{owns}
+use denote.Signature.{types_at}
 use denote.RawPtr.{block_ptr}
-use denote.Steps.{nothing}
-use denote.Param.{bounded}
-use denote.Triple.Walked.{Stays, stay_dropped, walk_of}
-use Rattle.core.proofs.alloc.Calls.{Goes-blank}
-use Rattle.std.proofs.raw_atomic.Walks.{proved_at, leaves}
 use Rattle.std_alloc.proofs.BoxSteps.Form.{Bx, P, B, word as box_word, box_typed}
 use Rattle.std_alloc.proofs.BoxSteps.Steps.{box_out}
 use Rattle.arc_owners.proofs.memory.Allocators.{allocating}

@@ -7,7 +7,7 @@ use base.Logic.{SProp, ent, emp, id⊢}
 use base.Fraction.{full_share}
 use base.Fml.{ftrue, fsep, flft}
 use prog.Wp.{WpFn}
-use types.Kit.{‵, raw, ◌⊛◌, at_ret, ◌$◌, ◌∵◌, !, qed, by, move, keep, split, fsplit, fjoin}
+use types.Kit.{‵, raw, ◌⊛◌, at_ret, ◌$◌, ◌∵◌, !, qed, by, move, keep, split, fsplit}
 use types.Kit.{suffices, use0, use1, use2}
 use types.Run.{init, stop, fld, of_opd, no_more, and_then, assigns_last, first, blocks, exec}
 use types.Run.{returns, enter}
@@ -15,21 +15,16 @@ use types.ByLocal.{alloc_all, pass_all, free_all, look_at, get, get_in, through,
 use types.Part.{agg, sub, whole}
 use contract.Monad.{fact_i}
 use contract.Running.{tables}
-use denote.Exit.{no}
 use denote.Memory.{part_at}
 use denote.RattleType.{owns}
 use denote.RawPtr.{block_ptr}
-use denote.Signature.{types_at, plain}
+use denote.Signature.{types_at}
 use denote.Steps.{nothing}
 use denote.Param.{layouts}
-use denote.Triple.Walked.{Stays, stay_dropped, walk_of}
-use Rattle.core.proofs.alloc.Calls.{Goes-blank}
 use Rattle.core.proofs.alloc.Shapes.{after}
-use Rattle.std.proofs.raw_atomic.Walks.{proved_at}
 use Rattle.std_alloc.proofs.OfLodged.{lodged_al, handle_made}
 use Rattle.std_alloc.proofs.BoxSteps.Form.{Bx, X, R, word as box_word, handle, box_typed}
 use Rattle.std_alloc.proofs.BoxSteps.Steps.{el_in, el_tells, box_in}
-use Rattle.logbook.proofs.Fields.{ends}
 use Rattle.arc_owners.proofs.memory.Endings.{Walk, spends, spent}
 use Rattle.arc_owners.proofs.memory.Boxes.{Row as Bare, boxed, as_bare}
 use Rattle.arc_owners.proofs.memory.HeaderRooms.{Row, word, room_out}

@@ -1,38 +1,31 @@
 -- `of` reads the value, which leaves room.
-use Rattle.std.proofs.Common.{List, [], ◌∷◌, ◌++◌, refl, sym, subst}
+use Rattle.std.proofs.Common.{List, [], ◌∷◌, ◌++◌, refl}
 use mir.Syntax.{a_type}
 use mir.Val.{Val, vstruct, vcons, vnil, of_list}
 use mir.MapTy.{inst_fn}
-use base.Logic.{SProp, ent, emp, id⊢}
+use base.Logic.{SProp, emp}
 use base.Fraction.{full_share}
 use base.Fml.{ftrue, fsep, feq, flft, fat, froom}
-use prog.Wp.{WpFn}
 use types.Kit.{‵, raw, ◌⊛◌, some, given, at_ret, ◌$◌, ◌∵◌, !, qed, by, move, keep, split}
-use types.Kit.{fsplit, fjoin, fpack, feq_i, pick, learn, suffices, use1}
+use types.Kit.{fsplit, fjoin, fpack, feq_i, pick, learn, use1}
 use types.Run.{look, load, stop, fld, of_opd, no_more, and_then, first, blocks, exec, returns}
-use types.Run.{enter}
 use types.ByLocal.{alloc_all, pass_all, free_all, look_at, get, get_in, through, sets, sets_last}
 use types.ByLocal.{env}
 use types.Part.{agg, sub, whole}
 use contract.Monad.{fact_i}
 use contract.Running.{tables}
-use denote.Exit.{no}
 use denote.Param.{layout, layouts}
 use denote.RattleType.{RattleType, Valss, owns}
 use denote.RawPtr.{block_ptr}
-use denote.Signature.{types_at, plain}
+use denote.Signature.{types_at}
 use denote.Steps.{nothing}
 use denote.Struct.Struct.{as_fields}
-use denote.Triple.Walked.{Stays, stay_dropped, walk_of}
-use Rattle.core.proofs.alloc.Calls.{Goes-blank}
 use Rattle.core.proofs.alloc.Shapes.{after}
-use Rattle.std.proofs.raw_atomic.Walks.{proved_at}
 use Rattle.std_alloc.specs.contracts.vec.lodged.Lodged as Lodged
 use Rattle.std_alloc.specs.contracts.vec.lodged.LodgedAllocator.TheImpl.{ghosts}
 use Rattle.std_alloc.proofs.OfLodged.{lodged_al}
 use Rattle.std_alloc.proofs.BoxSteps.Form.{Bx, Good, R, B, τ, own, word as box_word, box_typed}
 use Rattle.std_alloc.proofs.BoxSteps.Steps.{el_out, box_out}
-use Rattle.logbook.proofs.Fields.{ends}
 use Rattle.arc_owners.proofs.memory.Endings.{Walk, spends, enters, spent}
 use Rattle.arc_owners.proofs.memory.Boxes.{boxed, as_box}
 use Rattle.arc_owners.proofs.memory.HeaderRooms.{Row, word, room_in}

@@ -1,30 +1,22 @@
 -- `of` borrows what a box owns, and what comes back for it is laid behind the ticket of the lease.
-use Rattle.std.proofs.Common.{◌≡◌, List, [], ◌∷◌, ◌++◌, refl, sym, subst}
-use mir.Syntax.{a_type, dcons, dnil}
+use Rattle.std.proofs.Common.{List, [], ◌∷◌, ◌++◌, refl, sym}
 use mir.Val.{Val, vptr, vstruct, vcons, vnil, of_list}
-use mir.MapTy.{inst_fn}
-use base.Logic.{SProp, ent, emp, id⊢}
+use base.Logic.{emp}
 use base.Fml.{Fml, Lft, ftrue, fsep, feq, flft, finv}
-use prog.Wp.{WpFn}
 use types.Tokens.{bor_new}
 use types.Kit.{‵, raw, ◌⊛◌, later, ◌$◌, ◌∵◌, !, qed, by, move, keep, drop, split, fsplit, fjoin}
-use types.Kit.{fpack, suffices, use0, use1, await, feq_i, feq_l}
-use types.Run.{stop, fld, of_opd, no_more, and_then, returns, enter}
+use types.Kit.{fpack, use0, use1, await, feq_i, feq_l}
+use types.Run.{stop, fld, of_opd, no_more, and_then, returns}
 use types.ByLocal.{alloc_all, pass_all, free_all, look_at, get, get_in, sets}
 use types.Part.{agg, sub, whole}
-use contract.Monad.{fact, fact_i}
-use contract.Running.{tables}
-use denote.Exit.{yes, no}
+use contract.Monad.{fact_i}
 use denote.RattleType.{RattleType, Valss, owns}
-use denote.Signature.{types_at, plain}
-use denote.Builtin.{RefOf}
-use denote.RawPtr.{Ptr, RawPtr, block_ptr, InBlock}
+use denote.Signature.{types_at}
+use denote.RawPtr.{Ptr, RawPtr, block_ptr}
 use denote.Steps.{nothing}
-use denote.Param.{bounded, param}
+use denote.Param.{param}
 use denote.Struct.Tuple.{Tuple}
-use denote.Triple.Walked.{Stays, stay_dropped, walk_of, Goes-dropped}
-use Rattle.core.proofs.alloc.Calls.{Goes-blank, token as frees}
-use Rattle.std.proofs.raw_atomic.Walks.{proved_at, leaves}
+use Rattle.core.proofs.alloc.Calls.{token as frees}
 use Rattle.std_alloc.specs.Box.Ownership.{box_owns}
 use Rattle.std_alloc.proofs.BoxSteps.Form.{Bx, R, P, B, word, box_typed}
 use Rattle.std_alloc.proofs.BoxSteps.Steps.{box_out}

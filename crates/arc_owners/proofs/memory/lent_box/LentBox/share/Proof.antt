@@ -1,41 +1,33 @@
 -- `share` makes a `&` of what is lent, by the token of the lease that a borrowed owner has. It
 -- touches no memory.
-use Rattle.std.proofs.Common.{◌≡◌, ℕ, Bool, true, List, [], ◌∷◌, ◌++◌, refl, sym, subst}
-use mir.Syntax.{a_type, dcons, dnil}
+use Rattle.std.proofs.Common.{◌≡◌, ℕ, Bool, true, List, [], ◌∷◌, ◌++◌, refl, sym}
 use mir.Val.{Val, vptr}
-use mir.MapTy.{inst_fn}
-use base.Logic.{SProp, ent, emp, id⊢}
+use base.Logic.{emp}
 use base.Fml.{Fml, Lft, Share, ftrue, fsep, fhide, fbor, flft}
-use prog.Wp.{WpFn}
 use types.Within.{tokens_halve}
 use types.Tokens.{shr_bor-open, obor_close}
 use types.Kit.{‵, raw, ◌⊛◌, later, ◌$◌, ◌∵◌, !, qed, by, move, keep, drop, split, split3, fsplit}
-use types.Kit.{fjoin, suffices, use0, use1, use3, await, rewrite, feq_l}
-use types.Run.{no_more, and_then, returns, enter}
+use types.Kit.{fjoin, use0, use1, use3, await, rewrite, feq_l}
+use types.Run.{no_more, and_then, returns}
 use types.ByLocal.{alloc_all, pass_all, free_all, look_at, get, sets}
 use types.Part.{agg}
 use contract.Monad.{fact, fact_i}
 use contract.BorrowLft.{◌⊑◌}
-use contract.Running.{tables}
-use denote.Exit.{yes, no}
 use denote.RattleType.{RattleType, owns}
-use denote.Signature.{types_at, plain}
-use denote.Builtin.{RefOf}
+use denote.Signature.{types_at}
 use denote.Memory.{hidden_shr, lone}
 use denote.Opens.{unhide}
-use denote.Steps.{nothing, heard}
-use denote.Param.{bounded, param}
+use denote.Steps.{heard}
+use denote.Param.{param}
 use denote.Param.Laws.{Laws, param_laws}
 use denote.Struct.Lending.{lent_at, lent_out}
 use denote.Struct.Tuple.{Tuple}
-use denote.Triple.Walked.{Stays, stay_dropped, walk_of, Goes-dropped}
 use mir.Raw.{raw as bare}
 use Rattle.core.specs.contracts.marker.PhantomData as marker
-use Rattle.core.proofs.alloc.Calls.{Goes-blank, token as frees}
-use Rattle.std.proofs.raw_atomic.Walks.{proved_at}
+use Rattle.core.proofs.alloc.Calls.{token as frees}
 use Rattle.std_alloc.specs.Box.Ownership.{box_owns}
 use Rattle.std_alloc.proofs.BoxSteps.Form.{Bx, R, P}
-use Rattle.logbook.proofs.Fields.{token, token_told, Token, token_made, ends}
+use Rattle.logbook.proofs.Fields.{token, token_told, Token, token_made}
 use Rattle.arc_owners.proofs.memory.Allocators.{allocating}
 use Rattle.arc_owners.proofs.memory.Endings.{spends, enters, spent}
 use Rattle.arc_owners.specs.count.Invariant.{right_shares, tokens}
