@@ -1,13 +1,14 @@
 -- What is lent for good is had for any lifetime, and a place without items is lent for good.
 -- Assumes `Logic`.
-use Rattle.std.proofs.Common.{◌≡◌, List, [], ◌∷◌, refl, sym, subst}
+use Rattle.std.proofs.Common.{◌≡◌, ℕ, List, [], ◌∷◌, refl, sym, subst}
 use seplogic.Ra.Ura.{Ura}
 use mir.Val.{Val, vstruct, vcons, vnil}
-use base.Logic.{ent, id⊢}
-use base.Fml.{Lft, Fml}
+use base.Logic.{ent, id⊢, snd∗}
+use base.Fml.{Lft, Fml, fhide}
 use contract.BorrowLft.{⊑_static}
 use types.Logic.{Logic, sem}
 use types.Kit.{‵, ◌$◌, ◌∵◌, !, qed, fjoin, use0, done}
+use denote.Memory.{hidden_shr}
 use denote.RattleType.{RowLaws, RattleType}
 use denote.RawPtr.{Ptr}
 use denote.Shadow.{makes_shadow}
@@ -45,3 +46,13 @@ share_made R 𝓛 d = let fields : Fml = (Struct (shape (StaticShare.the_type R)
     qed 𝓛 (‵ (slice_lent R d.ptr d.items []) ∷ []) ∵
     use0 𝓛 (‵ fields) (makes_shadow 𝓛 fields (λ vss. (tt, ((λ uss. (tt, tt)), tt)))
     ((vstruct vnil ∷ [], tt), (refl, ((tt, (refl, tt)), tt)))) $ fjoin ! $ done !
+
+-- what a `&` to it holds
+pub share_out : (R : RattleType) {M : Type 1} {𝓤 : Ura M} (𝓛 : Logic 𝓤) (κ : Lft)
+    (d : (StaticShare.the_row R).Denot) (b o : ℕ)
+    → ent 𝓤 (sem 𝓛 (hidden_shr (StaticShare.the_row R) κ d b o))
+    (sem 𝓛 (fhide (slice_lent R d.ptr d.items [])))
+share_out R {𝓤 = 𝓤} 𝓛 κ d b o =
+    let fields : Fml = hidden_shr (Struct (shape (StaticShare.the_type R))) κ
+    (to (StaticShare.the_type R) d) b o in
+    snd∗ 𝓤 (sem 𝓛 fields) (sem 𝓛 (fhide (slice_lent R d.ptr d.items [])))

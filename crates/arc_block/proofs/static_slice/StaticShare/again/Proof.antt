@@ -1,35 +1,17 @@
 -- What is lent for good can be had again.
-use Rattle.std.proofs.Common.{◌≡◌, [], ◌∷◌, refl}
-use mir.Syntax.{a_type, named}
-use mir.Val.{Val, vptr}
-use mir.MapTy.{inst_fn}
-use base.Logic.{SProp, emp}
-use base.Fml.{ftrue, fsep, flft, fhide}
-use types.Kit.{‵, raw, ◌⊛◌, ◌$◌, ◌∵◌, !, qed, by, move, keep, drop, split, fsplit, fjoin, use0}
-use types.Kit.{use1}
-use types.Part.{agg}
-use types.Run.{no_more, and_then, returns, enter}
-use types.ByLocal.{alloc_all, pass_all, free_all, look_at, get, sets}
-use contract.Monad.{fact, fact_i}
-use contract.Running.{tables}
-use denote.Exit.{yes}
-use denote.RattleType.{RattleType, owns}
-use denote.Signature.{types_at, plain}
-use denote.Builtin.{RefOf}
-use denote.Ref.{shr_vals, shr_Tells}
-use denote.Memory.{hidden_shr}
+use Rattle.std.proofs.Common.{[], ◌∷◌, refl}
+use base.Logic.{emp}
+use base.Fml.{fhide}
+use types.Kit.{‵, ◌$◌, !, by, keep, use1}
+use types.ByLocal.{alloc_all, pass_all, free_all, look_at}
+use contract.Monad.{fact_i}
+use denote.RattleType.{RattleType}
 use denote.Opens.{unhide}
-use denote.RawPtr.{RawPtr}
-use denote.Steps.{nothing}
-use denote.Param.{param, layouts}
-use denote.Struct.Lending.{lent_out}
-use denote.Struct.Owning.{shape, to}
-use denote.Struct.Struct.{Struct}
-use denote.Triple.Walked.{Stays, stay_dropped, walk_of, Goes-dropped}
-use Rattle.std.specs.contracts.marker.PhantomData as marker
-use Rattle.std.proofs.raw_atomic.Walks.{proved, leaves}
+use denote.Param.{param}
 use Rattle.arc_owners.specs.memory.LentSlices.{slice_lent}
-use Rattle.arc_block.proofs.StaticSlices.{token, share_made}
+use Rattle.arc_owners.proofs.Endings.{one_made, spent}
+use Rattle.arc_owners.proofs.References.{reads}
+use Rattle.arc_block.proofs.StaticSlices.{token, share_made, share_out}
 use Rattle.arc_block.specs.contracts.static_slice.StaticShare as StaticShare
 use Rattle.arc_block.specs.contracts.static_slice.StaticShare.again as f
 use Rattle.arc_block.proofs.static_slice.StaticShare.again.Statement.{statement}
@@ -37,37 +19,14 @@ use Rattle.arc_block.proofs.static_slice.StaticShare.again.Code as code
 
 pub again_spec : {M : Type 1} → statement M
 again_spec 𝓤 𝓛 𝓜 𝓡 wired T L =
-    let H = 𝓛.H in let 𝓣 = tables 𝓤 H 𝓜 𝓡 𝓡.env in let R : RattleType = param 0 T in
+    let R : RattleType = param 0 T in let Row : RattleType = StaticShare.the_row R in
     let En = f.ended T in let c = f.clauses T 𝓛 𝓜.mem 𝓡.returns in
-    let inst = layouts (a_type ∷ []) (T, tt) in let fn = inst_fn inst code.function in
-    let Row : RattleType = StaticShare.the_row R in
-    let hs : Stays En.signature.params En.kept =
-    (stay_dropped (RefOf (0 ∷ []) tt (plain (λ _. Row)) (λ _. tt)) yes, tt) in
-    proved 𝓛 En hs c 𝓜 𝓡 (
-      Goes-dropped 𝓛 2 (RefOf (0 ∷ []) tt (plain (λ _. Row)) (λ _. tt)) yes
-          (λ κs x w. refl),
-      tt,
-    ) (f.Key.name inst) fn (code.unfolded 𝓤 H 𝓜 𝓡 wired (T, tt))
-    (λ κs. (shr_vals, tt)) (λ κs. (shr_Tells (named 0) κs.0 Row, tt)) (λ κs qs bounds a gh are.
-    let me = a.0.now in let b = a.0.ref_ptr.0 in let o = a.0.ref_ptr.1 in
-    let y : (walk_of 𝓛 En hs c).Ghost = ((κs, qs, bounds, a, (vptr b o ∷ [], tt)), gh) in
-    let Post : Val → SProp 𝓤 = (walk_of 𝓛 En hs c).post y in
-    qed 𝓛 ((‵ (fsep (flft κs.0 qs.0) (fsep (flft κs.1.0 qs.1.0) ftrue)) ⊛ ‵
-    (owns (types_at En.signature.params κs) a y.0.4)) ∷ raw ((c κs a).requires gh) ∷ [])
-    ∵ keep ! (0 ∷ []) $ split ! $
-    move ! (1 ∷ []) $ fsplit ! $ fsplit ! $ keep ! (1 ∷ 3 ∷ []) $
-    -- [what is lent of it; the tokens]
-    use1 𝓛 (‵ (hidden_shr (Struct (shape (StaticShare.the_type R))) κs.0
-    (to (StaticShare.the_type R) me) b o) ⊛ ‵ (fhide (slice_lent R me.ptr me.items [])))
-    (lent_out 𝓛 (StaticShare.struct R)
-    (StaticShare.the_codes R.Denot R.coded (marker.the_row RawPtr).coded)
-    (StaticShare.the_heap R) (StaticShare.the_lent R) κs.0 me b o) $ split ! $ drop ! $
-    unhide ! $
+    reads En.signature.outlives Row (λ _. tt) En.signature.result 𝓛 c 𝓜 𝓡 _ _
+    (code.unfolded 𝓤 𝓛.H 𝓜 𝓡 wired (T, tt)) (λ y.
+    let me = y.0.3.0.now in alloc_all ! (λ l. pass_all ! refl ((tt, tt), tt) $
+    use1 𝓛 (‵ (fhide (slice_lent R me.ptr me.items [])))
+    (share_out R 𝓛 y.0.0.0 me y.0.3.0.ref_ptr.0 y.0.3.0.ref_ptr.1) $ unhide ! $
     use1 𝓛 (‵ (Row.own_val me (token ∷ []))) (share_made R 𝓛 me) $
-    enter ! 𝓣.C 𝓣.Λ fn (vptr b o ∷ []) Post $ alloc_all ! (λ l. pass_all ! refl ((tt, tt), tt) $
-    sets ! (agg ! (no_more !)) refl (tt, tt) $ sets ! (agg ! (and_then ! (get ! refl) (no_more !)))
-    refl (tt, (tt, tt)) $
-    let Told : Type 0 = me ≡ me in use0 𝓛 (raw (fact 𝓤 Told)) (fact_i 𝓤 Told (emp 𝓤) refl) $
-    nothing ! $ nothing ! $ fjoin ! $
-    returns ! (look_at ! 0 refl) $ free_all ! refl $ keep ! (3 ∷ 0 ∷ 2 ∷ 1 ∷ []) $
-    by ! (leaves 𝓛 En hs c y token me (tt, tt) (tt, tt))))
+    one_made ! (refl, (tt, tt), refl, refl, (tt, (tt, tt))) (look_at ! 0 refl) (free_all ! refl) $
+    keep ! (1 ∷ 0 ∷ []) $
+    by ! (spent 𝓛 En c y token me (tt, tt) (fact_i 𝓤 _ (emp 𝓤) refl))))

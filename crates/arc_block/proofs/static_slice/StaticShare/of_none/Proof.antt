@@ -25,6 +25,7 @@ use denote.Param.{param, layouts}
 use denote.Triple.Walked.{Stays, stay_dropped, walk_of, Goes-dropped}
 use Rattle.std.proofs.raw_atomic.Walks.{proved, leaves}
 use Rattle.arc_owners.specs.memory.LentSlices.{slice_lent}
+use Rattle.arc_owners.proofs.Endings.{Walk, both_spent}
 use Rattle.arc_block.proofs.StaticSlices.{token, share_made, none_lent}
 use Rattle.arc_block.specs.contracts.static_slice.StaticShare as StaticShare
 use Rattle.arc_block.specs.contracts.static_slice.StaticShare.of_none as f
@@ -49,12 +50,10 @@ of_none_spec 𝓤 𝓛 𝓜 𝓡 wired T L =
     let xs = a.0.now in let b = a.0.ref_ptr.0 in let o = a.0.ref_ptr.1 in
     let at : Ptr = block_ptr b o in let fits = are.0.0.1.0 in let κ : Lft = κs.0 in
     let Asked : Type 0 = xs ≡ [] in
-    let y : (walk_of 𝓛 En hs c).Ghost =
+    let y : (Walk 𝓛 En c).Ghost =
     ((κs, qs, bounds, a, (slice_val (b, o) (length xs) ∷ [], tt)), gh) in
-    let Post : Val → SProp 𝓤 = (walk_of 𝓛 En hs c).post y in
+    let Post : Val → SProp 𝓤 = (Walk 𝓛 En c).post y in
     let made : Row.Denot = record { mark = record {}; ptr = at; items = [] } in
-    let u : Val = vstruct (vcons (vptr b o) (vcons token vnil)) in
-    let Rs : List RattleType = RawPtr ∷ Row ∷ [] in
     qed 𝓛 ((‵ (fsep (flft κs.0 qs.0) (fsep (flft κs.1.0 qs.1.0) ftrue)) ⊛ ‵
     (owns (types_at En.signature.params κs) a y.0.4)) ∷ raw (fact 𝓤 (κs.1.0 ⊑ T.lives)) ∷ raw
     (fact 𝓤 Asked) ∷ []) ∵
@@ -72,13 +71,7 @@ of_none_spec 𝓤 𝓛 𝓜 𝓡 wired T L =
     refl (tt, (tt, tt)) $
     sets ! (agg ! (and_then ! (get ! refl) (and_then ! (get ! refl) (no_more !)))) refl
     (tt, (tt, ((tt, tt), tt))) $
-    nothing ! $ move ! (1 ∷ 0 ∷ []) $ fjoin ! $ feq_i ! (List Val) (vptr b o ∷ []) (vptr b o ∷ [])
-    refl $ fjoin ! $ feq_i ! (List Val) (u ∷ []) (u ∷ []) refl $ fjoin ! $
-    fpack ! (Valss Rs)
-    (λ uss. fsep (feq (List Val) (u ∷ []) (vstruct (of_list (uss.0 ++ (uss.1.0 ++ []))) ∷ []))
-    (owns Rs (at, (made, tt)) uss)) (vptr b o ∷ [], (token ∷ [], tt)) $
-    let none : List R.Denot = [] in let Told : Type 0 = (at ≡ at) × (none ≡ none) in
-    use0 𝓛 (raw (fact 𝓤 Told)) (fact_i 𝓤 Told (emp 𝓤) (refl, refl)) $ nothing ! $ nothing ! $
-    fjoin ! $
-    returns ! (look_at ! 0 refl) $ free_all ! refl $ keep ! (3 ∷ 0 ∷ 2 ∷ 1 ∷ []) $
-    by ! (leaves 𝓛 En hs c y u (at, made) (tt, tt) (tt, tt)))))
+    feq_i ! (List Val) (vptr b o ∷ []) (vptr b o ∷ []) refl $
+    returns ! (look_at ! 0 refl) $ free_all ! refl $ keep ! (0 ∷ 1 ∷ 2 ∷ []) $
+    by ! (both_spent 𝓛 En c y RawPtr Row at made (vptr b o) token (at, made) (tt, tt) refl
+    (fact_i 𝓤 _ (emp 𝓤) (refl, refl))))))

@@ -36,6 +36,8 @@ use Rattle.std.proofs.VecSteps.Shapes.{after}
 use Rattle.std.proofs.raw_atomic.Walks.{proved, leaves}
 use Rattle.arc_owners.specs.memory.LentSlices.{slice_lent}
 use Rattle.arc_owners.proofs.LentSlices.{start_of, prefix_seen}
+use Rattle.arc_owners.proofs.Endings.{Walk, enters, spent}
+use Rattle.arc_block.proofs.StaticSlices.{share_out}
 use Rattle.arc_block.specs.contracts.static_slice.StaticShare as StaticShare
 use Rattle.arc_block.specs.contracts.static_slice.StaticShare.prefix_static as f
 use Rattle.arc_block.proofs.static_slice.StaticShare.prefix_static.Statement.{statement}
@@ -67,10 +69,9 @@ prefix_static_spec 𝓤 𝓛 𝓜 𝓡 wired T L =
     let n = a.1.1.0 in let κ : Lft = κs.0 in
     let pb = block_of me.ptr in let po = count_of me.ptr in let seen = take n me.items in
     let fits = are.1.1.0.1 in
-    let y : (walk_of 𝓛 En hs c).Ghost =
+    let y : (Walk 𝓛 En c).Ghost =
     ((κs, qs, bounds, a, (vptr b o ∷ [], (rawptr_vals base, (uint_vals w64 n, tt)))), gh) in
-    let Post : Val → SProp 𝓤 = (walk_of 𝓛 En hs c).post y in
-    let Run : List Val → SProp 𝓤 = λ ws. WpFn 𝓤 H 𝓣.C 𝓣.Λ fn ws Post in
+    let Post : Val → SProp 𝓤 = (Walk 𝓛 En c).post y in
     let Asked : Type 0 = (base ≡ me.ptr) × (n ≤ length me.items) in
     let Shown : Fml = (ShrSlice static [] R).own_val
     (record { ref_ptr = start_of me.ptr; now = seen }) (slice_val (start_of me.ptr) n ∷ []) in
@@ -80,19 +81,12 @@ prefix_static_spec 𝓤 𝓛 𝓜 𝓡 wired T L =
     move ! (3 ∷ []) $ heard ! Asked (λ asked. keep ! (0 ∷ []) $ split ! $ move ! (1 ∷ []) $
     fsplit ! $ fsplit ! $ keep ! (1 ∷ 3 ∷ []) $
     -- [what is lent of it; the tokens]
-    use1 𝓛 (‵ (hidden_shr (Struct (shape (StaticShare.the_type R))) κ
-    (to (StaticShare.the_type R) me) b o) ⊛ ‵ (fhide (slice_lent R me.ptr me.items [])))
-    (lent_out 𝓛 (StaticShare.struct R)
-    (StaticShare.the_codes R.Denot R.coded (marker.the_row RawPtr).coded)
-    (StaticShare.the_heap R) (StaticShare.the_lent R) κ me b o) $ split ! $ drop ! $ unhide ! $
+    use1 𝓛 (‵ (fhide (slice_lent R me.ptr me.items []))) (share_out R 𝓛 κ me b o) $ unhide ! $
     use1 𝓛 (raw (fact 𝓤 (InBlock me.ptr)) ⊛ ‵ Shown) (prefix_seen R 𝓛 [] static me.ptr me.items n
     asked.1) $ split ! $ heard ! (InBlock me.ptr) (λ inb.
     let here : base ≡ block_ptr pb po = asked.0 ∙ at_block me.ptr inb in
-    suffices ! (Run (vptr b o ∷ vptr pb po ∷ vint w64 n ∷ []))
-    (subst (λ (us : List Val). ent 𝓤 (Run (vptr b o ∷ vptr pb po ∷ vint w64 n ∷ [])) (Run us))
-    (sym (ap (λ (r : Ptr). vptr b o ∷ ptr_val r ∷ vint w64 n ∷ []) here))
-    (id⊢ 𝓤 (Run (vptr b o ∷ vptr pb po ∷ vint w64 n ∷ [])))) $
-    enter ! 𝓣.C 𝓣.Λ fn (vptr b o ∷ vptr pb po ∷ vint w64 n ∷ []) Post $
+    enters ! _ _ _ _ (vptr b o ∷ vptr pb po ∷ vint w64 n ∷ [])
+    (ap (λ (r : Ptr). vptr b o ∷ ptr_val r ∷ vint w64 n ∷ []) here) $
     alloc_all ! (λ l. pass_all ! refl
     ((tt, tt), ((tt, tt), ((tt, record { fits = fits }), tt))) $ let Ev = env fn.locals l in
     first ! $ blocks ! $
@@ -100,9 +94,7 @@ prefix_static_spec 𝓤 𝓛 𝓜 𝓡 wired T L =
     (tt, (tt, (record { fits = fits }, tt))) $ exec ! 𝓣.C 𝓣.Λ Ev (after 1 fn.body)
     (at_ret Ev Post) $
     sets ! (of_opd ! (get ! refl)) refl (tt, (tt, (record { fits = fits }, tt))) $
-    let Told : Type 0 = seen ≡ seen in use0 𝓛 (raw (fact 𝓤 Told)) (fact_i 𝓤 Told (emp 𝓤) refl) $
-    nothing ! $ nothing ! $ fjoin ! $ nothing ! $ fjoin ! $ nothing ! $ fjoin ! $
-    returns ! (look_at ! 0 refl) $ free_all ! refl $ keep ! (3 ∷ 0 ∷ 2 ∷ 1 ∷ []) $
-    by ! (leaves 𝓛 En hs c y (slice_val (start_of me.ptr) n)
+    returns ! (look_at ! 0 refl) $ free_all ! refl $ keep ! (1 ∷ 0 ∷ []) $
+    by ! (spent 𝓛 En c y (slice_val (start_of me.ptr) n)
     (record { ref_ptr = start_of me.ptr; now = seen }) (tt, (tt, (tt, tt)))
-    (tt, (tt, (tt, tt))))))))
+    (fact_i 𝓤 _ (emp 𝓤) refl))))))

@@ -1,6 +1,6 @@
 -- What a reader has of a frozen range can be had again.
 use Rattle.std.proofs.Common.{[], ◌∷◌, refl}
-use base.Logic.{emp}
+use base.Logic.{emp, id⊢}
 use base.Fml.{Fml, fhide}
 use types.Kit.{‵, ◌⊛◌, ◌$◌, !, by, keep, drop, split, use1}
 use types.ByLocal.{alloc_all, pass_all, free_all, look_at}
@@ -9,8 +9,6 @@ use denote.RattleType.{RattleType}
 use denote.Memory.{hidden_shr}
 use denote.Opens.{unhide}
 use denote.Param.{param}
-use denote.Struct.Lending.{lent_out}
-use Rattle.core.specs.contracts.marker.PhantomData as marker
 use Rattle.logbook.proofs.Fields.{token, Token}
 use Rattle.arc_owners.proofs.Endings.{one_made, spent}
 use Rattle.arc_owners.proofs.Markers.{marked}
@@ -31,9 +29,7 @@ again_spec 𝓤 𝓛 𝓜 𝓡 wired T L =
     let Had : Fml = frozen_owns R me.memory me.start me.items in
     alloc_all ! (λ l. pass_all ! refl ((tt, tt), tt) $
     use1 𝓛 (‵ (hidden_shr (Token R) y.0.0.0 (me.marker, tt) b o) ⊛ ‵ (fhide Had))
-    (lent_out 𝓛 (FrozenPlaces.struct R)
-    (FrozenPlaces.the_codes R.Denot R.coded (marker.the_row R).coded) (FrozenPlaces.the_heap R)
-    (FrozenPlaces.the_lent R) y.0.0.0 me b o) $ split ! $ drop ! $ unhide ! $
+    (id⊢ 𝓤 _) $ split ! $ drop ! $ unhide ! $
     one_made ! (refl, (tt, tt), refl, refl, (tt, (tt, tt))) (look_at ! 0 refl) (free_all ! refl) $
     marked R ! $ keep ! (1 ∷ 0 ∷ []) $
     by ! (spent 𝓛 En c y token (record {

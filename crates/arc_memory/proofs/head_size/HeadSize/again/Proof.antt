@@ -1,6 +1,6 @@
 -- What is known of a size can be known again. Assumes `Logic`.
 use Rattle.std.proofs.Common.{ℕ, [], ◌∷◌, refl}
-use base.Logic.{emp}
+use base.Logic.{emp, id⊢}
 use base.Fml.{Fml, feq, fhide}
 use types.Kit.{‵, ◌⊛◌, ◌$◌, !, by, keep, drop, split, use1}
 use types.ByLocal.{alloc_all, pass_all, free_all, look_at}
@@ -9,8 +9,6 @@ use denote.RattleType.{RattleType}
 use denote.Memory.{hidden_shr}
 use denote.Opens.{unhide}
 use denote.Param.{param}
-use denote.Struct.Lending.{lent_out}
-use Rattle.core.specs.contracts.marker.PhantomData as marker
 use Rattle.logbook.proofs.Fields.{token, Token}
 use Rattle.arc_owners.proofs.Endings.{one_made, spent}
 use Rattle.arc_owners.proofs.Markers.{marked}
@@ -31,8 +29,7 @@ again_spec 𝓤 𝓛 𝓜 𝓡 wired X L =
     let Had : Fml = feq (ℕ × ℕ) me.size (head_size R) in
     alloc_all ! (λ l. pass_all ! refl ((tt, tt), tt) $
     use1 𝓛 (‵ (hidden_shr (Token R) y.0.0.0 (me.marker, tt) b o) ⊛ ‵ (fhide Had))
-    (lent_out 𝓛 (HeadSize.struct R) (HeadSize.the_codes R.Denot R.coded (marker.the_row R).coded)
-    (HeadSize.the_heap R) (HeadSize.the_lent R) y.0.0.0 me b o) $ split ! $ drop ! $ unhide ! $
+    (id⊢ 𝓤 _) $ split ! $ drop ! $ unhide ! $
     one_made ! (refl, (tt, tt), refl, refl, (tt, (tt, tt))) (look_at ! 0 refl) (free_all ! refl) $
     marked R ! $ keep ! (1 ∷ 0 ∷ []) $
     by ! (spent 𝓛 En c y token (record { marker = record {}; size = me.size }) (tt, tt)

@@ -1,6 +1,6 @@
 -- What is kept can be had again.
 use Rattle.std.proofs.Common.{[], ◌∷◌, refl}
-use base.Logic.{emp}
+use base.Logic.{emp, id⊢}
 use base.Fml.{Fml, fhide}
 use types.Kit.{‵, ◌⊛◌, ◌$◌, !, by, keep, drop, split, use1}
 use types.ByLocal.{alloc_all, pass_all, free_all, look_at}
@@ -9,9 +9,7 @@ use denote.RattleType.{RattleType}
 use denote.Memory.{hidden_shr}
 use denote.Opens.{unhide}
 use denote.Param.{param}
-use denote.Struct.Lending.{lent_out}
 use denote.Struct.Tuple.{Tuple}
-use Rattle.core.specs.contracts.marker.PhantomData as marker
 use Rattle.std_alloc.specs.Box.Ownership.{box_owns}
 use Rattle.logbook.proofs.Fields.{token, Token}
 use Rattle.arc_owners.proofs.count.Markers.{marked}
@@ -35,9 +33,7 @@ again_spec 𝓤 𝓛 𝓜 𝓡 wired T A L LA g d da allocator glued =
     let Had : Fml = kept (box_owns (g.dealloc_token me.alloc) R me.at me.value) me.lease in
     alloc_all ! (λ l. pass_all ! refl ((tt, tt), tt) $
     use1 𝓛 (‵ (hidden_shr (Token Both) y.0.0.0 (me.marker, tt) b o) ⊛ ‵ (fhide Had))
-    (lent_out 𝓛 (Inheritance.struct R Z g) (Inheritance.the_codes T.Denot A.Denot T.coded A.coded
-    (marker.the_row Both).coded) (Inheritance.the_heap R Z g) (Inheritance.the_lent R Z g) y.0.0.0
-    me b o) $ split ! $ drop ! $ unhide ! $
+    (id⊢ 𝓤 _) $ split ! $ drop ! $ unhide ! $
     one_made ! (refl, (tt, tt), refl, refl, (tt, (tt, tt))) (look_at ! 0 refl) (free_all ! refl) $
     marked Both ! $ keep ! (1 ∷ 0 ∷ []) $
     by ! (spent 𝓛 En c y token

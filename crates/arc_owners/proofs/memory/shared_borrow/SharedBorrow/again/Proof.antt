@@ -1,6 +1,6 @@
 -- What a loan says can be had again.
 use Rattle.std.proofs.Common.{[], ◌∷◌, refl}
-use base.Logic.{emp}
+use base.Logic.{emp, id⊢}
 use base.Fml.{Fml, fhide}
 use types.Kit.{‵, ◌⊛◌, ◌$◌, !, by, keep, drop, split, use1}
 use types.ByLocal.{alloc_all, pass_all, free_all, look_at}
@@ -9,8 +9,7 @@ use denote.RattleType.{RattleType}
 use denote.Memory.{hidden_shr}
 use denote.Opens.{unhide}
 use denote.Param.{param}
-use denote.Struct.Lending.{lent_at, lent_out}
-use Rattle.core.specs.contracts.marker.PhantomData as marker
+use denote.Struct.Lending.{lent_at}
 use Rattle.logbook.proofs.Fields.{token, Token}
 use Rattle.arc_owners.proofs.count.Markers.{marked}
 use Rattle.arc_owners.proofs.memory.Endings.{one_made, spent}
@@ -30,9 +29,7 @@ again_spec 𝓤 𝓛 𝓜 𝓡 wired T L =
     let Had : Fml = lent_at R me.at me.value (me.lifetime ∷ []) in
     alloc_all ! (λ l. pass_all ! refl ((tt, tt), tt) $
     use1 𝓛 (‵ (hidden_shr (Token R) y.0.0.0 (me.marker, tt) b o) ⊛ ‵ (fhide Had))
-    (lent_out 𝓛 (SharedBorrow.struct R)
-    (SharedBorrow.the_codes R.Denot R.coded (marker.the_row R).coded) (SharedBorrow.the_heap R)
-    (SharedBorrow.the_lent R) y.0.0.0 me b o) $ split ! $ drop ! $ unhide ! $
+    (id⊢ 𝓤 _) $ split ! $ drop ! $ unhide ! $
     one_made ! (refl, (tt, tt), refl, refl, (tt, (tt, tt))) (look_at ! 0 refl) (free_all ! refl) $
     marked R ! $ keep ! (1 ∷ 0 ∷ []) $
     by ! (spent 𝓛 En c y token

@@ -1,6 +1,6 @@
 -- What is shown can be had again.
 use Rattle.std.proofs.Common.{[], ◌∷◌, refl}
-use base.Logic.{emp}
+use base.Logic.{emp, id⊢}
 use base.Fml.{Fml, fhide}
 use types.Kit.{‵, ◌⊛◌, ◌$◌, !, by, keep, drop, split, use1}
 use types.ByLocal.{alloc_all, pass_all, free_all, look_at}
@@ -9,8 +9,6 @@ use denote.RattleType.{RattleType}
 use denote.Memory.{hidden_shr}
 use denote.Opens.{unhide}
 use denote.Param.{param}
-use denote.Struct.Lending.{lent_out}
-use Rattle.core.specs.contracts.marker.PhantomData as marker
 use Rattle.logbook.proofs.Fields.{Token, token}
 use Rattle.arc_owners.specs.memory.LentSlices.{shown_lent}
 use Rattle.arc_owners.proofs.memory.Endings.{one_made, spent}
@@ -32,9 +30,7 @@ again_spec 𝓤 𝓛 𝓜 𝓡 wired T V LT LV =
     let Had : Fml = shown_lent R S me.at me.items me.lifetime in
     alloc_all ! (λ l. pass_all ! refl ((tt, tt), tt) $
     use1 𝓛 (‵ (hidden_shr (Token Marks) y.0.0.0 (me.marker, tt) b o) ⊛ ‵ (fhide Had))
-    (lent_out 𝓛 (Shown.struct R S) (Shown.the_codes R.Denot S.Denot R.coded S.coded
-    (marker.the_row Marks).coded) (Shown.the_heap R S) (Shown.the_lent R S) y.0.0.0 me b o) $
-    split ! $ drop ! $ unhide ! $
+    (id⊢ 𝓤 _) $ split ! $ drop ! $ unhide ! $
     use1 𝓛 (‵ (Sh.own_val me (token ∷ []))) (shown_made R S 𝓛 me) $
     one_made ! (refl, (tt, tt), refl, refl, (tt, (tt, tt))) (look_at ! 0 refl) (free_all ! refl) $
     keep ! (1 ∷ 0 ∷ []) $
