@@ -10,4 +10,5 @@ pub mod LentSlices
 pub mod References
 pub mod ShownSlices
 pub mod SoleBoxes
+pub mod Twice
 pub mod ValuePlaces

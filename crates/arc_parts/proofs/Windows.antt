@@ -116,6 +116,20 @@ module _ {T M : Type 0} where
   kept_within (Raw items) from to start end within ordered inside =
       (omega (arith, ordered), omega (arith, inside, within.1))
 
+  -- what is seen of parts, between two ends
+  abbrev between_ends : ℕ → ℕ → PartsView T M → PartsView T M
+  between_ends start end v = record {
+    items = sub v.items start end;
+    place = moved start v.place;
+    role = v.role;
+  }
+
+  kept_by : (inner : StandsBy T M) (from start end : ℕ) {q p : PartsView T M} → q ≡ p
+      → parts_of (window_seen inner (from + start) (from + end)) ≡ between_ends start end q
+      → parts_of (window_seen inner (from + start) (from + end)) ≡ between_ends start end p
+  kept_by inner from start end view = subst (λ (v : PartsView T M).
+      parts_of (window_seen inner (from + start) (from + end)) ≡ between_ends start end v) view
+
   -- and is seen as the items between them, that much further in
   pub kept_seen : (inner : StandsBy T M) (from to start end : ℕ) (p : PartsView T M)
       → parts_of (window_seen inner from to) ≡ p → IsWithin inner from to → start ≤ end
@@ -137,57 +151,26 @@ module _ {T M : Type 0} where
         within.1,
         inside,
       )) in
-      let seen : PartsView T M
-      → Type 0 = λ v. parts_of (window_seen {T = T} (Nothing none) (from + start)
-      (from + end)) ≡ record {
-        items = sub v.items start end;
-        place =
-            moved start v.place;
-        role = v.role;
-      } in
-      subst seen view (ap (λ xs. record { items = xs; place = nowhere; role = reader }) (sym empty))
+      kept_by (Nothing none) from start end view
+      (ap (λ xs. record { items = xs; place = nowhere; role = reader }) (sym empty))
   kept_seen (Static items) from to start end p view within ordered inside =
-      let seen : PartsView T M
-      → Type 0 = λ v. parts_of (window_seen {T = T} (Static items) (from + start)
-      (from + end)) ≡ record {
-        items = sub v.items start end;
-        place =
-            moved start v.place;
-        role = v.role;
-      } in
-      subst seen view (ap (λ xs. record { items = xs; place = static_data; role = reader })
+      kept_by (Static items) from start end view
+      (ap (λ xs. record { items = xs; place = static_data; role = reader })
       (sym (sub-sub items from to start end inside)))
   kept_seen (Native b) from to start end p view within ordered inside =
-      let seen : PartsView T M → Type 0 = λ v.
-      parts_of (window_seen (Native b) (from + start) (from + end)) ≡ record {
-        items = sub v.items start end;
-        place = moved start v.place;
-        role = v.role;
-      } in
       let there : Place (Option Owner) M = on_block (Some b.owner) (from + start) (native_info b) in
-      subst seen view (ap (λ xs. record { items = xs; place = there; role = reader })
+      kept_by (Native b) from start end view
+      (ap (λ xs. record { items = xs; place = there; role = reader })
       (part-of-part b from to start end within.0.from inside))
   kept_seen (Block b) from to start end p view within ordered inside =
-      let seen : PartsView T M
-      → Type 0 = λ v. parts_of (window_seen (Block b) (from + start) (from + end)) ≡ record {
-        items = sub v.items start end;
-        place = moved start v.place;
-        role = v.role;
-      } in
       let there : Place (Option Owner) M = on_block (Some b.owner) (from + start) b.facts in
-      subst seen view (ap (λ xs. record { items = xs; place = there; role = reader })
+      kept_by (Block b) from start end view
+      (ap (λ xs. record { items = xs; place = there; role = reader })
       (sym (sub-sub b.items from to start end inside)))
   kept_seen (Raw items) from to start end p view within ordered inside =
-      let seen : PartsView T M
-      → Type 0 = λ v. parts_of (window_seen {T = T} (Raw items) (from + start)
-      (from + end)) ≡ record {
-        items = sub v.items start end;
-        place =
-            moved start v.place;
-        role = v.role;
-      } in
       let there : Place (Option Owner) M = on_block None (from + start) (raw_info (length items)) in
-      subst seen view (ap (λ xs. record { items = xs; place = there; role = reader })
+      kept_by (Raw items) from start end view
+      (ap (λ xs. record { items = xs; place = there; role = reader })
       (sym (sub-sub items from to start end inside)))
 
 -- the block that another owner stands on: its items and what is known of it are the same

@@ -2,7 +2,7 @@
 -- ends no later. Assumes `Logic`.
 use Rattle.std.proofs.Common.{ℕ, [], ◌∷◌, ◌++◌}
 use seplogic.Ra.Ura.{Ura}
-use base.Logic.{ent, sep, snd∗}
+use base.Logic.{ent, sep}
 use base.Fraction.{full_share}
 use base.Fml.{Lft, Incl, Incl-trans, Share, Fml, fsep, fbor, flft, fshr_bor}
 use contract.BorrowLft.{meet_⊑_left, meet_⊑_right}
@@ -17,6 +17,7 @@ use denote.SharingLaws.{contraction}
 use denote.Param.Laws.{Laws}
 use denote.Struct.Lending.{Lends, Lends-lies, Lends-first, lent_at, lent_at_shr_laws}
 use Rattle.logbook.proofs.Fields.{lends_twice}
+use Rattle.arc_owners.proofs.memory.Twice.{twice_shr}
 
 module _ (T : RattleType) (L : Laws T) (p : Ptr) (x : T.Denot) (a : ℕ) where
   abbrev pub loan : Fml
@@ -30,11 +31,7 @@ module _ (T : RattleType) (L : Laws T) (p : Ptr) (x : T.Denot) (a : ℕ) where
   loan_lends 𝓛 λ' = lends_twice 𝓛 loan (loan_twice 𝓛) λ'
 
   pub loan_shr : ShrLaws (said loan)
-  loan_shr = record {
-    contraction = λ M 𝓤 𝓛 κ. loan_twice 𝓛;
-    mono =
-        λ M 𝓤 𝓛 κ' κ. snd∗ 𝓤 (sem 𝓛 (before κ' κ)) (sem 𝓛 loan);
-  }
+  loan_shr = twice_shr loan (λ M 𝓤 𝓛. loan_twice 𝓛)
 
   -- whoever has shares of the lifetime for as long as κ has it for κ
   pub loan_seen : {M : Type 1} {𝓤 : Ura M} (𝓛 : Logic 𝓤) (κ : Lft)

@@ -2,9 +2,8 @@
 -- `Logic`.
 use Rattle.std.proofs.Common.{Bool, true, false}
 use seplogic.Ra.Ura.{Ura}
-use base.Logic.{ent, sep, snd∗}
+use base.Logic.{ent, sep}
 use base.Fml.{Lft, Fml, finv}
-use base.Before.{before}
 use base.Shift.{Keyless}
 use mir.Raw.{raw}
 use denote.RattleType.{RattleType}
@@ -19,6 +18,7 @@ use Rattle.logbook.proofs.Fields.{lends_twice}
 use Rattle.core.specs.declared.alloc.Allocator.{Ghosts}
 use Rattle.std_alloc.specs.Box.Ownership.{box_owns}
 use Rattle.std_alloc.proofs.SendSync.{lies}
+use Rattle.arc_owners.proofs.memory.Twice.{twice_shr}
 use Rattle.arc_owners.specs.count.Invariant.{Lease, kept_if, kept_for}
 
 module _ (P : Fml) (l : Lease) where
@@ -33,11 +33,7 @@ module _ (P : Fml) (l : Lease) where
   keep_lends 𝓛 λ' = lends_twice 𝓛 keep (keep_twice 𝓛) λ'
 
   pub keep_shr : ShrLaws (said keep)
-  keep_shr = record {
-    contraction = λ M 𝓤 𝓛 κ. keep_twice 𝓛;
-    mono =
-        λ M 𝓤 𝓛 κ' κ. snd∗ 𝓤 (sem 𝓛 (before κ' κ)) (sem 𝓛 keep);
-  }
+  keep_shr = twice_shr keep (λ M 𝓤 𝓛. keep_twice 𝓛)
 
 either_keyless : (P : Fml) (l : Lease) → Keyless P → (y : Bool) → Keyless (kept_if P l y)
 either_keyless P l k true = k

@@ -1,44 +1,32 @@
--- `new` begins a lifetime.
+-- `new` makes a lifetime, and all of its token.
 use Rattle.std.proofs.Common.{[], ◌∷◌, refl}
-use mir.Val.{Val}
 use base.Fraction.{full_share}
-use base.Logic.{SProp, emp}
+use base.Logic.{emp}
 use base.Fml.{ftrue}
 use types.Kit.{‵, raw, ◌⊛◌, ◌$◌, ◌∵◌, !, qed, by, keep, split}
-use types.Run.{no_more, and_then, returns, enter}
-use types.ByLocal.{alloc_all, pass_all, free_all, look_at, get, sets}
-use types.Part.{agg}
+use types.Run.{enter}
 use types.Tokens.{lft_new}
+use types.ByLocal.{alloc_all, pass_all, free_all, look_at}
 use contract.Monad.{fact_i}
-use contract.Running.{tables}
+use denote.Builtin.{unit}
 use denote.RattleType.{owns}
 use denote.Signature.{types_at}
-use denote.Builtin.{unit}
-use denote.Steps.{nothing}
-use denote.Triple.Walked.{Stays, walk_of}
-use Rattle.std.proofs.raw_atomic.Walks.{proved}
-use Rattle.logbook.proofs.Fields.{token, ends}
+use Rattle.logbook.proofs.Fields.{token}
 use Rattle.arc_owners.proofs.count.Markers.{marked}
+use Rattle.arc_owners.proofs.memory.Endings.{spends, one_made, spent}
 use Rattle.arc_owners.specs.contracts.lifetime.LifetimeToken.new as f
 use Rattle.arc_owners.proofs.lifetime.LifetimeToken.new.Statement.{statement}
 use Rattle.arc_owners.proofs.lifetime.LifetimeToken.new.Code as code
 
 pub new_spec : {M : Type 1} → statement M
 new_spec 𝓤 𝓛 𝓜 𝓡 wired =
-    let H = 𝓛.H in let 𝓣 = tables 𝓤 H 𝓜 𝓡 𝓡.env in let fn = code.function in
-    let c = f.clauses 𝓛 𝓜.mem 𝓡.returns in
-    let stayed : Stays f.ended.signature.params f.ended.kept = tt in
-    proved 𝓛 f.ended stayed c 𝓜 𝓡 tt f.Key.name fn (code.unfolded 𝓤 H 𝓜 𝓡 wired) (λ κs. tt)
-    (λ κs. tt) (λ κs qs bounds a gh are.
-    let y : (walk_of 𝓛 f.ended stayed c).Ghost = ((κs, qs, bounds, a, tt), gh) in
-    let Post : Val → SProp 𝓤 = (walk_of 𝓛 f.ended stayed c).post y in
-    qed 𝓛 ((‵ ftrue ⊛ ‵ (owns (types_at f.ended.signature.params κs) a y.0.4)) ∷ raw
-    ((c κs a).requires gh) ∷ []) ∵ keep ! (0 ∷ []) $ split ! $ keep ! (0 ∷ []) $
-    enter ! 𝓣.C 𝓣.Λ fn [] Post $
-    alloc_all ! (λ l. pass_all ! refl tt $ lft_new ! tt (λ α. marked unit ! $
-    sets ! (agg ! (no_more !)) refl (tt, tt) $ sets ! (agg ! (and_then ! (get ! refl) (no_more !)))
-    refl (tt, (tt, tt)) $ nothing ! $
-    returns ! (look_at ! 0 refl) $ free_all ! refl $ keep ! (2 ∷ 0 ∷ 1 ∷ []) $
-    by ! (ends 𝓛 f.ended stayed c y token
-    (record { marker = record {}; lifetime = α; share = full_share }) tt tt
+    let En = f.ended in let c = f.clauses 𝓛 𝓜.mem 𝓡.returns in
+    spends 𝓛 En c 𝓜 𝓡 tt _ _ (code.unfolded 𝓤 𝓛.H 𝓜 𝓡 wired) (λ y are.
+    qed 𝓛 ((‵ ftrue ⊛ ‵ (owns (types_at En.signature.params y.0.0) y.0.3 y.0.4)) ∷ raw
+    ((c y.0.0 y.0.3).requires y.1) ∷ []) ∵ keep ! (0 ∷ []) $ split ! $ keep ! (0 ∷ []) $
+    enter ! _ _ _ _ _ $ alloc_all ! (λ l. pass_all ! refl tt $ lft_new ! tt (λ α. marked unit ! $
+    one_made ! (refl, (tt, tt), refl, refl, (tt, (tt, tt))) (look_at ! 0 refl) (free_all ! refl) $
+    keep ! (1 ∷ 0 ∷ []) $
+    by ! (spent 𝓛 En c y token
+    (record { marker = record {}; lifetime = α; share = full_share }) tt
     (fact_i 𝓤 _ (emp 𝓤) refl)))))
