@@ -9,4 +9,5 @@ pub use Rattle.arc_owners.proofs.count.Markers
 pub use Rattle.arc_owners.proofs.memory.Allocators
 pub use Rattle.arc_owners.proofs.memory.Endings
 pub use Rattle.arc_owners.proofs.memory.LentSlices
+pub use Rattle.arc_owners.proofs.memory.OwnerShares
 pub use Rattle.arc_owners.proofs.memory.References

@@ -1,9 +1,9 @@
 -- `share` makes a `&` of what is lent, by the token of the lease that a borrowed owner has. It
 -- touches no memory.
-use Rattle.std.proofs.Common.{◌≡◌, ℕ, Bool, true, List, [], ◌∷◌, ◌++◌, refl, sym}
+use Rattle.std.proofs.Common.{◌≡◌, ℕ, true, List, [], ◌∷◌, ◌++◌, refl, sym}
 use mir.Val.{Val, vptr}
 use base.Logic.{emp}
-use base.Fml.{Fml, Lft, Share, ftrue, fsep, fhide, fbor, flft}
+use base.Fml.{Fml, Lft, Share, ftrue, fsep, fbor, flft, fshr_bor}
 use types.Within.{tokens_halve}
 use types.Tokens.{shr_bor-open, obor_close}
 use types.Kit.{‵, raw, ◌⊛◌, later, ◌$◌, ◌∵◌, !, qed, by, move, keep, drop, split, split3, fsplit}
@@ -15,23 +15,21 @@ use contract.Monad.{fact, fact_i}
 use contract.BorrowLft.{◌⊑◌}
 use denote.RattleType.{RattleType, owns}
 use denote.Signature.{types_at}
-use denote.Memory.{hidden_shr, lone}
-use denote.Opens.{unhide}
+use denote.Memory.{lone}
 use denote.Steps.{heard}
 use denote.Param.{param}
 use denote.Param.Laws.{Laws, param_laws}
-use denote.Struct.Lending.{lent_at, lent_out}
+use denote.Struct.Lending.{lent_at}
 use denote.Struct.Tuple.{Tuple}
 use mir.Raw.{raw as bare}
-use Rattle.core.specs.contracts.marker.PhantomData as marker
 use Rattle.core.proofs.alloc.Calls.{token as frees}
 use Rattle.std_alloc.specs.Box.Ownership.{box_owns}
 use Rattle.std_alloc.proofs.BoxSteps.Form.{Bx, R, P}
 use Rattle.logbook.proofs.Fields.{token, token_told, Token, token_made}
 use Rattle.arc_owners.proofs.memory.Allocators.{allocating}
 use Rattle.arc_owners.proofs.memory.Endings.{spends, enters, spent}
-use Rattle.arc_owners.specs.count.Invariant.{right_shares, tokens}
 use Rattle.arc_owners.proofs.memory.Borrows.{box_loan}
+use Rattle.arc_owners.proofs.memory.OwnerShares.{shares_seen}
 use Rattle.arc_owners.specs.contracts.count.word.OwnerToken as OwnerToken
 use Rattle.arc_owners.specs.contracts.memory.lent_box.LentBox as LentBox
 use Rattle.arc_owners.specs.contracts.memory.lent_box.LentBox.share as f
@@ -70,14 +68,7 @@ share_spec 𝓤 𝓛 𝓜 𝓡 wired T A Q L LA LQ g d da allocator glued =
     let e₀ : vss.0 ≡ token ∷ [] = token_told (Tuple (R E ∷ P E ∷ [])) vss.0 are.0.0 in
     enters ! _ _ _ _ ws (λ i. e₀ i ++ (e₁ i ++ [])) $
     alloc_all ! (λ l. pass_all ! refl ((tt, (tt, tt)), ((tt, tt), tt)) $
-    use1 𝓛 (‵ (hidden_shr (Token R₂) κ (own.marker, tt) b₁ o₁) ⊛ ‵
-    (fhide (right_shares own.held own.block own.owner own.lease own.born κ)))
-    (lent_out 𝓛 (OwnerToken.struct R₂)
-    (OwnerToken.the_codes R₂.Denot R₂.coded (marker.the_row R₂).coded) (OwnerToken.the_heap R₂)
-    (OwnerToken.the_lent R₂) κ own b₁ o₁) $ split ! $ drop ! $ unhide ! $
-    rewrite ! 0 (λ (k : Bool). ‵ (right_shares k own.block own.owner own.lease own.born κ)) asked.0
-    refl $ fsplit ! $ drop ! $ fsplit ! $ drop ! $
-    rewrite ! 0 (λ (k : Bool). ‵ (tokens k own.lease κ)) asked.1 refl $
+    use1 𝓛 (‵ (fshr_bor κ (λ q. flft α q))) (shares_seen R₂ 𝓛 κ own b₁ o₁ n asked.0 asked.1 refl) $
     rewrite ! 2 (λ (k : ℕ).
     ‵ (fbor (k ∷ []) (box_owns (frees E.al was.alloc) (R E) was.at was.value))) (sym asked.2)
     refl $

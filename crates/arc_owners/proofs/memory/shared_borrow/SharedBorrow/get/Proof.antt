@@ -1,14 +1,13 @@
 -- `get` shows what is lent, for as long as an owner is borrowed.
-use Rattle.std.proofs.Common.{◌≡◌, Bool, true, ℕ, List, [], ◌∷◌, refl, sym, ap, ◌∙◌, subst}
+use Rattle.std.proofs.Common.{◌≡◌, true, List, [], ◌∷◌, refl, sym, ap, ◌∙◌}
 use mir.Syntax.{a_type, named}
 use mir.Val.{Val, vptr}
 use mir.MapTy.{inst_fn}
-use base.Logic.{SProp, ent, emp, id⊢}
+use base.Logic.{SProp, emp}
 use base.Fml.{Fml, Lft, ftrue, fsep, flft, fhide, fshr_bor}
-use prog.Wp.{WpFn}
 use types.Kit.{‵, raw, ◌⊛◌, at_ret, ◌$◌, ◌∵◌, !, qed, by, move, keep, drop, split, fsplit, fjoin}
-use types.Kit.{suffices, use1, use2, rewrite, feq_i}
-use types.Run.{stop, addr, of_opd, first, blocks, exec, returns, enter}
+use types.Kit.{use1, use2, feq_i}
+use types.Run.{stop, addr, of_opd, first, blocks, exec, returns}
 use types.ByLocal.{alloc_all, pass_all, free_all, look_at, get, through, sets, sets_last, env}
 use contract.Monad.{fact, fact_i}
 use contract.BorrowLft.{◌⊑◌}
@@ -22,17 +21,18 @@ use denote.Memory.{hidden_shr}
 use denote.Opens.{unhide, hide}
 use denote.RawPtr.{Ptr, RawPtr, block_ptr, ptr_val, block_of, count_of, at_block, InBlock}
 use denote.RawPtr.{rawptr_vals, rawptr_Tells}
-use denote.Steps.{nothing, heard}
+use denote.Steps.{heard}
 use denote.Param.{param, layouts}
 use denote.Param.Laws.{param_laws}
 use denote.Struct.Lending.{lent_at, lent_out, in_block_says}
-use denote.Triple.Walked.{Stays, stay_dropped, walk_of, Goes-dropped}
+use denote.Triple.Walked.{Stays, stay_dropped, Goes-dropped}
 use Rattle.core.specs.contracts.marker.PhantomData as marker
 use Rattle.core.proofs.alloc.Shapes.{after}
 use Rattle.std.proofs.raw_atomic.Walks.{proved}
-use Rattle.logbook.proofs.Fields.{Token, ends}
-use Rattle.arc_owners.specs.count.Invariant.{right_shares, tokens}
+use Rattle.logbook.proofs.Fields.{Token}
 use Rattle.arc_owners.proofs.memory.Borrows.{loan_seen}
+use Rattle.arc_owners.proofs.memory.Endings.{Walk, enters, spent}
+use Rattle.arc_owners.proofs.memory.OwnerShares.{shares_seen}
 use Rattle.arc_owners.specs.contracts.count.word.OwnerToken as OwnerToken
 use Rattle.arc_owners.specs.contracts.memory.shared_borrow.SharedBorrow as SharedBorrow
 use Rattle.arc_owners.specs.contracts.memory.shared_borrow.SharedBorrow.get as f
@@ -73,10 +73,9 @@ get_spec 𝓤 𝓛 𝓜 𝓡 wired T K L LK =
     let κ : Lft = κs.0 in
     let Had : Fml = lent_at R me.at me.value (me.lifetime ∷ []) in let pb = block_of me.at in
     let po = count_of me.at in
-    let y : (walk_of 𝓛 En hs c).Ghost =
+    let y : (Walk 𝓛 En c).Ghost =
     ((κs, qs, bounds, a, (vptr b o ∷ [], (rawptr_vals place, (vptr b₂ o₂ ∷ [], tt)))), gh) in
-    let Post : Val → SProp 𝓤 = (walk_of 𝓛 En hs c).post y in
-    let Run : List Val → SProp 𝓤 = λ ws. WpFn 𝓤 H 𝓣.C 𝓣.Λ fn ws Post in
+    let Post : Val → SProp 𝓤 = (Walk 𝓛 En c).post y in
     let Asked : Type 0 = (me.at ≡ place) × (own.held ≡ true) × (own.lease.is_lent ≡ true)
     × (own.lease.lifetime ≡ me.lifetime) in
     qed 𝓛 ((‵ (fsep (flft κs.0 qs.0)
@@ -91,33 +90,22 @@ get_spec 𝓤 𝓛 𝓜 𝓡 wired T K L LK =
     (lent_out 𝓛 (SharedBorrow.struct R)
     (SharedBorrow.the_codes R.Denot R.coded (marker.the_row R).coded) (SharedBorrow.the_heap R)
     (SharedBorrow.the_lent R) κ me b o) $ split ! $ drop ! $ unhide ! $ move ! (1 ∷ []) $
-    use1 𝓛 (‵ (hidden_shr (Token Q) κ (own.marker, tt) b₂ o₂) ⊛ ‵
-    (fhide (right_shares own.held own.block own.owner own.lease own.born κ)))
-    (lent_out 𝓛 (OwnerToken.struct Q)
-    (OwnerToken.the_codes Q.Denot Q.coded (marker.the_row Q).coded) (OwnerToken.the_heap Q)
-    (OwnerToken.the_lent Q) κ own b₂ o₂) $ split ! $ drop ! $ unhide ! $
-    rewrite ! 0 (λ (k : Bool). ‵ (right_shares k own.block own.owner own.lease own.born κ)) asked.1
-    refl $ fsplit ! $ drop ! $ fsplit ! $ drop ! $
-    rewrite ! 0 (λ (k : Bool). ‵ (tokens k own.lease κ)) asked.2 refl $
-    rewrite ! 0 (λ (k : ℕ). ‵ (fshr_bor κ (λ q. flft (k ∷ []) q))) asked.3 refl $
+    use1 𝓛 (‵ (fshr_bor κ (λ q. flft (me.lifetime ∷ []) q)))
+    (shares_seen Q 𝓛 κ own b₂ o₂ me.lifetime asked.1 asked.2 asked.3) $
     move ! (1 ∷ 0 ∷ []) $
     use2 𝓛 (‵ (lent_at R me.at me.value κ)) (loan_seen R LR me.at me.value me.lifetime 𝓛 κ) $
     fsplit ! $
     use1 𝓛 (raw (fact 𝓤 (InBlock me.at))) (in_block_says 𝓛 me.at) $
     heard ! (InBlock me.at) (λ inb. hide ! $
     let here : place ≡ block_ptr pb po = sym asked.0 ∙ at_block me.at inb in
-    suffices ! (Run (vptr b o ∷ vptr pb po ∷ vptr b₂ o₂ ∷ []))
-    (subst (λ (us : List Val). ent 𝓤 (Run (vptr b o ∷ vptr pb po ∷ vptr b₂ o₂ ∷ [])) (Run us))
-    (sym (ap (λ (r : Ptr). vptr b o ∷ ptr_val r ∷ vptr b₂ o₂ ∷ []) here))
-    (id⊢ 𝓤 (Run (vptr b o ∷ vptr pb po ∷ vptr b₂ o₂ ∷ [])))) $
-    enter ! 𝓣.C 𝓣.Λ fn (vptr b o ∷ vptr pb po ∷ vptr b₂ o₂ ∷ []) Post $
+    enters ! _ _ _ _ (vptr b o ∷ vptr pb po ∷ vptr b₂ o₂ ∷ [])
+    (ap (λ (r : Ptr). vptr b o ∷ ptr_val r ∷ vptr b₂ o₂ ∷ []) here) $
     alloc_all ! (λ l. pass_all ! refl ((tt, tt), ((tt, tt), ((tt, tt), tt))) $
     let Ev = env fn.locals l in
     first ! $ blocks ! $ sets_last ! (addr ! (through ! refl (stop !))) refl (tt, tt) $
     exec ! 𝓣.C 𝓣.Λ Ev (after 1 fn.body) (at_ret Ev Post) $ sets ! (of_opd ! (get ! refl)) refl
     (tt, tt) $
-    feq_i ! (List Val) (vptr pb po ∷ []) (vptr pb po ∷ []) refl $ fjoin ! $ nothing ! $ nothing ! $
-    fjoin ! $ nothing ! $ fjoin ! $ nothing ! $ fjoin ! $
-    returns ! (look_at ! 0 refl) $ free_all ! refl $ keep ! (2 ∷ 0 ∷ 1 ∷ []) $
-    by ! (ends 𝓛 En hs c y (vptr pb po) (record { ref_ptr = (pb, po); now = me.value })
-    (tt, (tt, (tt, tt))) (tt, (tt, (tt, tt))) (fact_i 𝓤 _ (emp 𝓤) refl))))))
+    feq_i ! (List Val) (vptr pb po ∷ []) (vptr pb po ∷ []) refl $ fjoin ! $
+    returns ! (look_at ! 0 refl) $ free_all ! refl $ keep ! (1 ∷ 0 ∷ []) $
+    by ! (spent 𝓛 En c y (vptr pb po) (record { ref_ptr = (pb, po); now = me.value })
+    (tt, (tt, (tt, tt))) (fact_i 𝓤 _ (emp 𝓤) refl))))))

@@ -1,19 +1,18 @@
 -- `show` asks the value at the lease's own lifetime, of which it has a token while it asks, and
 -- keeps what the slice that comes back says of its items.
-use Rattle.std.proofs.Common.{◌≡◌, Bool, true, ℕ, ◌*◌, ◌^◌, List, [], ◌∷◌, ◌++◌, length, refl, sym}
-use Rattle.std.proofs.Common.{ap, ◌∙◌, subst}
+use Rattle.std.proofs.Common.{◌≡◌, true, ℕ, ◌*◌, ◌^◌, List, [], ◌∷◌, ◌++◌, length, refl, sym}
+use Rattle.std.proofs.Common.{ap, ◌∙◌}
 use mir.Syntax.{a_type, named, dcons, dnil}
-use mir.Val.{Val, vptr, vstruct, vcons, vnil, of_list}
+use mir.Val.{Val, vptr}
 use mir.MapTy.{inst_fn}
-use base.Logic.{SProp, ent, emp, wand, id⊢, apply∗}
-use base.Fml.{Fml, Lft, Incl-trans, Share as Fraction, ftrue, fsep, feq, flft, fhide, fshr_bor}
+use base.Logic.{SProp, emp, wand, id⊢, apply∗}
+use base.Fml.{Fml, Lft, Incl-trans, Share as Fraction, ftrue, fsep, flft, fhide, fshr_bor}
 use base.Share
-use prog.Wp.{WpFn}
 use types.Kit.{‵, raw, ◌⊛◌, some, later, at_ret, ◌$◌, ◌∵◌, !, qed, by, move, keep, drop, split}
-use types.Kit.{split3, join, group, pick, fsplit, fjoin, fpack, suffices, await, use0, use1, use2}
-use types.Kit.{rewrite, feq_i, feq_l, flt_i, flt_l}
+use types.Kit.{split3, join, group, pick, fsplit, fjoin, await, use0, use1, use2}
+use types.Kit.{feq_i, feq_l, flt_i, flt_l}
 use types.Logic.{lfts}
-use types.Run.{stop, fld, hop, from, addr, of_opd, first, blocks, exec, returns, enter, no_more}
+use types.Run.{stop, fld, hop, from, addr, of_opd, first, blocks, exec, returns, no_more}
 use types.Run.{and_then}
 use types.ByLocal.{alloc_all, pass_all, free_all, look_at, look_in_at, get, through, sets}
 use types.ByLocal.{sets_last, lands_as, env}
@@ -40,15 +39,16 @@ use denote.Struct.Lending.{lent_at, lent_at_shr_laws, lent_out, in_block_says}
 use denote.Triple.Call.{calls_at}
 use denote.Triple.Clauses.{Lasts, lasts}
 use denote.Triple.Spec.{triple_of}
-use denote.Triple.Walked.{Stays, stay_dropped, walk_of, Goes-dropped}
+use denote.Triple.Walked.{Stays, stay_dropped, Goes-dropped}
 use Rattle.core.specs.contracts.marker.PhantomData as marker
 use Rattle.core.proofs.alloc.Shapes.{after}
 use Rattle.core.proofs.atomic.Steps.{fm}
 use Rattle.std.proofs.raw_atomic.Walks.{proved}
-use Rattle.logbook.proofs.Fields.{Token, token, ends}
-use Rattle.arc_owners.specs.count.Invariant.{right_shares, tokens}
+use Rattle.logbook.proofs.Fields.{Token, token}
 use Rattle.arc_owners.specs.memory.LentSlices.{shown_for}
 use Rattle.arc_owners.proofs.memory.ShownSlices.{given, one_shown, shown_made}
+use Rattle.arc_owners.proofs.memory.Endings.{Walk, enters, both_spent}
+use Rattle.arc_owners.proofs.memory.OwnerShares.{shares_seen}
 use Rattle.arc_owners.specs.contracts.count.word.OwnerToken as OwnerToken
 use Rattle.arc_owners.specs.contracts.memory.shown.Shown as Shown
 use Rattle.arc_owners.specs.contracts.memory.shown.ask as callee
@@ -94,9 +94,8 @@ show_spec 𝓤 𝓛 𝓜 𝓡 wired V T K LV LT LK g d shows =
     let asked_for : Bor S.Denot = record { ref_ptr = (pb, po); now = me.value } in
     let us : Valss (types_at En.signature.params κs) =
     (vptr b o ∷ [], (rawptr_vals place, (vptr b₂ o₂ ∷ [], tt))) in
-    let y : (walk_of 𝓛 En hs c).Ghost = ((κs, qs, bounds, a, us), gh) in
-    let Post : Val → SProp 𝓤 = (walk_of 𝓛 En hs c).post y in
-    let Run : List Val → SProp 𝓤 = λ ws. WpFn 𝓤 H 𝓣.C 𝓣.Λ fn ws Post in
+    let y : (Walk 𝓛 En c).Ghost = ((κs, qs, bounds, a, us), gh) in
+    let Post : Val → SProp 𝓤 = (Walk 𝓛 En c).post y in
     let Asked : Type 0 = (me.at ≡ place) × (own.held ≡ true) × (own.lease.is_lent ≡ true) ×
     (own.lease.lifetime ≡ n) in
     qed 𝓛 ((‵ (fsep (flft κs.0 qs.0) (fsep (flft κ qs.1.0) (fsep (flft τ qs.1.1.0)
@@ -116,15 +115,8 @@ show_spec 𝓤 𝓛 𝓜 𝓡 wired V T K LV LT LK g d shows =
     (lent_out 𝓛 (SharedBorrow.struct S) (SharedBorrow.the_codes S.Denot S.coded
     (marker.the_row S).coded) (SharedBorrow.the_heap S) (SharedBorrow.the_lent S) κs.0 me b o) $
     split ! $ drop ! $ unhide ! $ move ! (1 ∷ []) $
-    use1 𝓛 (‵ (hidden_shr (Token Q) κ (own.marker, tt) b₂ o₂) ⊛ ‵
-    (fhide (right_shares own.held own.block own.owner own.lease own.born κ)))
-    (lent_out 𝓛 (OwnerToken.struct Q) (OwnerToken.the_codes Q.Denot Q.coded
-    (marker.the_row Q).coded) (OwnerToken.the_heap Q) (OwnerToken.the_lent Q) κ own b₂ o₂) $
-    split ! $ drop ! $ unhide ! $
-    rewrite ! 0 (λ (k : Bool). ‵ (right_shares k own.block own.owner own.lease own.born κ)) asked.1
-    refl $ fsplit ! $ drop ! $ fsplit ! $ drop ! $
-    rewrite ! 0 (λ (k : Bool). ‵ (tokens k own.lease κ)) asked.2 refl $
-    rewrite ! 0 (λ (k : ℕ). ‵ (fshr_bor κ (λ q. flft (k ∷ []) q))) asked.3 refl $ move ! (1 ∷ []) $
+    use1 𝓛 (‵ (fshr_bor κ (λ q. flft (n ∷ []) q)))
+    (shares_seen Q 𝓛 κ own b₂ o₂ n asked.1 asked.2 asked.3) $ move ! (1 ∷ []) $
     use1 𝓛 (‵ (lent_at S me.at me.value l)) (shortens 𝓛 (lent_at S me.at me.value)
     (lent_at_shr_laws S LS.shr_laws me.at me.value) α l (meet_⊑_left α (S.lives ++ R.lives))) $
     fsplit ! $
@@ -134,11 +126,8 @@ show_spec 𝓤 𝓛 𝓜 𝓡 wired V T K LV LT LK g d shows =
     move ! (1 ∷ 0 ∷ []) $ fjoin ! $
     -- [a `&` to the value, at the lease's lifetime; what is lent of the owner; the tokens]
     let here : place ≡ block_ptr pb po = sym asked.0 ∙ at_block me.at inb in
-    suffices ! (Run (vptr b o ∷ vptr pb po ∷ vptr b₂ o₂ ∷ []))
-    (subst (λ (us : List Val). ent 𝓤 (Run (vptr b o ∷ vptr pb po ∷ vptr b₂ o₂ ∷ [])) (Run us))
-    (sym (ap (λ (r : Ptr). vptr b o ∷ ptr_val r ∷ vptr b₂ o₂ ∷ []) here))
-    (id⊢ 𝓤 (Run (vptr b o ∷ vptr pb po ∷ vptr b₂ o₂ ∷ [])))) $
-    enter ! 𝓣.C 𝓣.Λ fn (vptr b o ∷ vptr pb po ∷ vptr b₂ o₂ ∷ []) Post $
+    enters ! _ _ _ _ (vptr b o ∷ vptr pb po ∷ vptr b₂ o₂ ∷ [])
+    (ap (λ (r : Ptr). vptr b o ∷ ptr_val r ∷ vptr b₂ o₂ ∷ []) here) $
     alloc_all ! (λ ls. pass_all ! refl ((tt, tt), ((tt, tt), ((tt, tt), tt))) $
     let Ev = env fn.locals ls in
     first ! $ blocks ! $ sets_last ! (addr ! (through ! refl (stop !))) refl (tt, tt) $
@@ -202,15 +191,8 @@ show_spec 𝓤 𝓛 𝓜 𝓡 wired V T K LV LT LK g d shows =
     -- loan]
     move ! (2 ∷ 5 ∷ []) $ fjoin ! $ move ! (2 ∷ 0 ∷ []) $ fjoin ! $ move ! (1 ∷ 0 ∷ []) $ fjoin ! $
     move ! (3 ∷ 0 ∷ []) $ fjoin ! $ move ! (2 ∷ []) $
-    let u : Val = vstruct (vcons (vptr x.ref_ptr.0 x.ref_ptr.1) (vcons token vnil)) in
-    let Rs : List RattleType = RawPtr ∷ Sh ∷ [] in
-    nothing ! $ move ! (1 ∷ 0 ∷ []) $ fjoin ! $
     feq_i ! (List Val) (vptr x.ref_ptr.0 x.ref_ptr.1 ∷ []) (vptr x.ref_ptr.0 x.ref_ptr.1 ∷ []) refl
-    $ fjoin ! $ feq_i ! (List Val) (u ∷ []) (u ∷ []) refl $ fjoin ! $
-    fpack ! (Valss Rs) (λ uss. fsep (feq (List Val) (u ∷ [])
-    (vstruct (of_list (uss.0 ++ (uss.1.0 ++ []))) ∷ [])) (owns Rs (at, (made, tt)) uss))
-    (vptr x.ref_ptr.0 x.ref_ptr.1 ∷ [], (token ∷ [], tt)) $
-    nothing ! $ nothing ! $ fjoin ! $ nothing ! $ fjoin ! $ nothing ! $ fjoin ! $
-    returns ! (look_at ! 0 refl) $ free_all ! refl $ keep ! (2 ∷ 0 ∷ 1 ∷ []) $
-    by ! (ends 𝓛 En hs c y u (at, made) (tt, (tt, (tt, tt))) (tt, (tt, (tt, tt)))
-    (fact_i 𝓤 _ (emp 𝓤) (same, refl, refl)))))))))))))))))
+    $
+    returns ! (look_at ! 0 refl) $ free_all ! refl $ keep ! (0 ∷ 1 ∷ 2 ∷ []) $
+    by ! (both_spent 𝓛 En c y RawPtr Sh at made (vptr x.ref_ptr.0 x.ref_ptr.1) token (at, made)
+    (tt, (tt, (tt, tt))) refl (fact_i 𝓤 _ (emp 𝓤) (same, refl, refl)))))))))))))))))

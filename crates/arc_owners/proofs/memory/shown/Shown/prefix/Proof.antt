@@ -1,16 +1,15 @@
 -- The items before an end are shown for as long as an owner is borrowed.
-use Rattle.std.proofs.Common.{◌≡◌, Bool, true, ◌≤◌, ℕ, List, [], ◌∷◌, ◌++◌, length, take, refl, sym}
-use Rattle.std.proofs.Common.{ap, ◌∙◌, subst}
+use Rattle.std.proofs.Common.{◌≡◌, true, ◌≤◌, ℕ, List, [], ◌∷◌, ◌++◌, length, take, refl}
+use Rattle.std.proofs.Common.{ap, ◌∙◌}
 use mir.Syntax.{a_type, named, w64}
 use mir.Val.{Val, vptr, vint}
 use mir.MapTy.{inst_fn}
-use base.Logic.{SProp, ent, emp, id⊢}
+use base.Logic.{SProp, emp}
 use base.Fml.{Fml, Lft, Incl-trans, ftrue, fsep, flft, fhide, fshr_bor}
-use prog.Wp.{WpFn}
-use types.Kit.{‵, raw, ◌⊛◌, at_ret, ◌$◌, ◌∵◌, !, qed, by, move, keep, drop, split, fsplit, fjoin}
-use types.Kit.{suffices, use1, use2, rewrite}
+use types.Kit.{‵, raw, ◌⊛◌, at_ret, ◌$◌, ◌∵◌, !, qed, by, move, keep, drop, split, fsplit}
+use types.Kit.{use1, use2}
 use types.Part.{agg}
-use types.Run.{of_opd, first, blocks, exec, returns, enter, no_more, and_then}
+use types.Run.{of_opd, first, blocks, exec, returns, no_more, and_then}
 use types.ByLocal.{alloc_all, pass_all, free_all, look_at, get, sets, sets_last, env}
 use contract.Monad.{fact, fact_i}
 use contract.BorrowLft.{◌⊑◌, ⊑_meet}
@@ -26,19 +25,20 @@ use denote.Plain.{uint_vals, uint_Tells}
 use denote.RawPtr.{Ptr, RawPtr, InBlock, block_ptr, ptr_val, block_of, count_of, at_block}
 use denote.RawPtr.{rawptr_vals, rawptr_Tells}
 use denote.Slice.{ShrSlice, slice_val}
-use denote.Steps.{nothing, heard}
+use denote.Steps.{heard}
 use denote.Param.{param, layouts}
 use denote.Param.Laws.{param_laws}
 use denote.Struct.Lending.{lent_out}
-use denote.Triple.Walked.{Stays, stay_dropped, walk_of, Goes-dropped}
+use denote.Triple.Walked.{Stays, stay_dropped, Goes-dropped}
 use Rattle.core.specs.contracts.marker.PhantomData as marker
 use Rattle.std.proofs.VecSteps.Shapes.{after}
 use Rattle.std.proofs.raw_atomic.Walks.{proved}
-use Rattle.logbook.proofs.Fields.{Token, ends}
-use Rattle.arc_owners.specs.count.Invariant.{right_shares, tokens}
+use Rattle.logbook.proofs.Fields.{Token}
 use Rattle.arc_owners.specs.memory.LentSlices.{slice_lent, shown_lent}
 use Rattle.arc_owners.proofs.memory.LentSlices.{start_of, prefix_seen}
 use Rattle.arc_owners.proofs.memory.ShownSlices.{Marks, shown_seen}
+use Rattle.arc_owners.proofs.memory.Endings.{Walk, enters, spent}
+use Rattle.arc_owners.proofs.memory.OwnerShares.{shares_seen}
 use Rattle.arc_owners.specs.contracts.count.word.OwnerToken as OwnerToken
 use Rattle.arc_owners.specs.contracts.memory.shown.Shown as Shown
 use Rattle.arc_owners.specs.contracts.memory.shown.Shown.prefix as f
@@ -99,9 +99,8 @@ prefix_spec 𝓤 𝓛 𝓜 𝓡 wired T V K LT LV LK =
     let fits = are.1.1.1.0.1 in
     let us : Valss (types_at En.signature.params κs) =
     (vptr b o ∷ [], (rawptr_vals base, (vptr b₂ o₂ ∷ [], (uint_vals w64 n, tt)))) in
-    let y : (walk_of 𝓛 En hs c).Ghost = ((κs, qs, bounds, a, us), gh) in
-    let Post : Val → SProp 𝓤 = (walk_of 𝓛 En hs c).post y in
-    let Run : List Val → SProp 𝓤 = λ ws. WpFn 𝓤 H 𝓣.C 𝓣.Λ fn ws Post in
+    let y : (Walk 𝓛 En c).Ghost = ((κs, qs, bounds, a, us), gh) in
+    let Post : Val → SProp 𝓤 = (Walk 𝓛 En c).post y in
     let Asked : Type 0 = (base ≡ me.at) × (own.held ≡ true) × (own.lease.is_lent ≡ true) ×
     (own.lease.lifetime ≡ me.lifetime) × (n ≤ length me.items) in
     let Had : Fml = shown_lent R S me.at me.items me.lifetime in
@@ -120,15 +119,8 @@ prefix_spec 𝓤 𝓛 𝓜 𝓡 wired T V K LT LV LK =
     (lent_out 𝓛 (Shown.struct R S) (Shown.the_codes R.Denot S.Denot R.coded S.coded
     (marker.the_row Marks).coded) (Shown.the_heap R S) (Shown.the_lent R S) κ me b o) $ split ! $
     drop ! $ unhide ! $ move ! (1 ∷ []) $
-    use1 𝓛 (‵ (hidden_shr (Token Q) κ (own.marker, tt) b₂ o₂) ⊛ ‵
-    (fhide (right_shares own.held own.block own.owner own.lease own.born κ)))
-    (lent_out 𝓛 (OwnerToken.struct Q) (OwnerToken.the_codes Q.Denot Q.coded
-    (marker.the_row Q).coded) (OwnerToken.the_heap Q) (OwnerToken.the_lent Q) κ own b₂ o₂) $
-    split ! $ drop ! $ unhide ! $
-    rewrite ! 0 (λ (k : Bool). ‵ (right_shares k own.block own.owner own.lease own.born κ)) asked.1
-    refl $ fsplit ! $ drop ! $ fsplit ! $ drop ! $
-    rewrite ! 0 (λ (k : Bool). ‵ (tokens k own.lease κ)) asked.2 refl $
-    rewrite ! 0 (λ (k : ℕ). ‵ (fshr_bor κ (λ q. flft (k ∷ []) q))) asked.3 refl $
+    use1 𝓛 (‵ (fshr_bor κ (λ q. flft (me.lifetime ∷ []) q)))
+    (shares_seen Q 𝓛 κ own b₂ o₂ me.lifetime asked.1 asked.2 asked.3) $
     move ! (1 ∷ 0 ∷ []) $
     let inc : κ ⊑ (S.lives ++ R.lives) = ⊑_meet κ S.lives R.lives (Incl-trans bounds.1.0 incV)
     (Incl-trans bounds.0 incT) in
@@ -138,10 +130,8 @@ prefix_spec 𝓤 𝓛 𝓜 𝓡 wired T V K LT LV LK =
     asked.4) $ split ! $ heard ! (InBlock me.at) (λ inb.
     let here : base ≡ block_ptr pb po = asked.0 ∙ at_block me.at inb in
     let ws : Ptr → List Val = λ p. vptr b o ∷ ptr_val p ∷ vptr b₂ o₂ ∷ vint w64 n ∷ [] in
-    suffices ! (Run (ws (block_ptr pb po)))
-    (subst (λ (us : List Val). ent 𝓤 (Run (ws (block_ptr pb po))) (Run us)) (sym (ap ws here))
-    (id⊢ 𝓤 (Run (ws (block_ptr pb po))))) $
-    enter ! 𝓣.C 𝓣.Λ fn (ws (block_ptr pb po)) Post $
+    enters ! _ _ _ _ (ws (block_ptr pb po))
+    (ap ws here) $
     alloc_all ! (λ l. pass_all ! refl
     ((tt, tt), ((tt, tt), ((tt, tt), ((tt, record { fits = fits }), tt)))) $
     let Ev = env fn.locals l in
@@ -150,9 +140,7 @@ prefix_spec 𝓤 𝓛 𝓜 𝓡 wired T V K LT LV LK =
     (tt, (tt, (record { fits = fits }, tt))) $ exec ! 𝓣.C 𝓣.Λ Ev (after 1 fn.body) (at_ret Ev Post)
     $
     sets ! (of_opd ! (get ! refl)) refl (tt, (tt, (record { fits = fits }, tt))) $
-    nothing ! $ nothing ! $ fjoin ! $ nothing ! $ fjoin ! $ nothing ! $ fjoin ! $ nothing ! $
-    fjoin ! $
-    returns ! (look_at ! 0 refl) $ free_all ! refl $ keep ! (2 ∷ 0 ∷ 1 ∷ []) $
-    by ! (ends 𝓛 En hs c y (slice_val (start_of me.at) n)
+    returns ! (look_at ! 0 refl) $ free_all ! refl $ keep ! (1 ∷ 0 ∷ []) $
+    by ! (spent 𝓛 En c y (slice_val (start_of me.at) n)
     (record { ref_ptr = start_of me.at; now = seen }) (tt, (tt, (tt, (tt, tt))))
-    (tt, (tt, (tt, (tt, tt)))) (fact_i 𝓤 _ (emp 𝓤) refl))))))))
+    (fact_i 𝓤 _ (emp 𝓤) refl))))))))
