@@ -1,23 +1,17 @@
 -- The size is one word. Assumes `Logic`.
-use Rattle.std.proofs.Common.{ℕ, ◌≡◌, ◌^◌, List, [], ◌∷◌, refl, w64}
-use mir.Syntax.{a_type}
+use Rattle.std.proofs.Common.{ℕ, ◌^◌, List, [], ◌∷◌, refl, w64}
 use mir.Val.{Val, vint}
-use mir.MapTy.{inst_fn}
-use base.Logic.{SProp, emp}
+use base.Logic.{emp}
 use prog.Memory.{size, capped}
 use prog.Capped.{capped_fits}
-use contract.Monad.{fact, fact_i}
-use contract.Running.{tables}
-use types.Kit.{‵, raw, ◌⊛◌, ◌$◌, ◌∵◌, !, qed, by, move, keep, use0, split, fjoin, feq_i, flt_i}
+use contract.Monad.{fact_i}
+use types.Kit.{‵, raw, ◌⊛◌, ◌$◌, ◌∵◌, !, qed, by, keep, split, fjoin, feq_i, flt_i}
 use types.Run.{size_word, of_opd, returns, enter}
 use types.ByLocal.{alloc_all, pass_all, free_all, look_at, sets}
-use denote.Param.{layout, layouts}
+use denote.Param.{layout}
 use denote.RattleType.{owns}
 use denote.Signature.{types_at}
-use denote.Steps.{nothing}
 use denote.Triple.Entry.{alive}
-use denote.Triple.Walked.{Stays, walk_of}
-use Rattle.std.proofs.raw_atomic.Walks.{proved_at, leaves}
 use Rattle.arc_owners.proofs.Endings.{spends, spent}
 use Rattle.arc_memory.specs.contracts.piece.header_bytes as f
 use Rattle.arc_memory.proofs.piece.header_bytes.Statement.{statement}

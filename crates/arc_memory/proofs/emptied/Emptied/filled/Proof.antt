@@ -1,34 +1,26 @@
 -- `filled` gives the vector back what it waits for.
-use Rattle.std.proofs.Common.{◌≡◌, ℕ, List, [], ◌∷◌, ◌++◌, length, refl, sym, ap, ◌∙◌, subst}
+use Rattle.std.proofs.Common.{◌≡◌, ℕ, List, [], ◌∷◌, ◌++◌, length, refl, sym, ap, ◌∙◌}
 use Rattle.std.proofs.lemmas.List.{with_items_is}
-use mir.Syntax.{a_type, dcons, dnil}
 use mir.Val.{Val, vstruct, of_list}
-use mir.MapTy.{inst_fn}
-use base.Logic.{SProp, ent, emp, id⊢}
+use base.Logic.{emp}
 use base.Fml.{ftrue, fsep, flft}
-use prog.Wp.{WpFn}
 use types.Kit.{‵, raw, ◌⊛◌, ◌$◌, ◌∵◌, !, qed, by, move, keep, drop, split, fsplit, fjoin, fpick}
-use types.Kit.{feq_l, feq_i, suffices, use2, rewrite}
-use types.Run.{stop, fld, of_opd, returns, enter}
+use types.Kit.{feq_l, feq_i, use2, rewrite}
+use types.Run.{stop, fld, of_opd, returns}
 use types.ByLocal.{alloc_all, pass_all, free_all, look_at, get, get_in, sets}
 use types.Part.{sub, whole}
 use contract.Monad.{fact, fact_i}
 use contract.BorrowLft.{◌⊑◌}
-use contract.Running.{tables}
-use denote.Exit.{no}
 use denote.RattleType.{RattleType, owns}
-use denote.Param.{layout, bounded}
+use denote.Param.{layout}
 use denote.RawPtr.{Ptr}
-use denote.Signature.{types_at, plain}
-use denote.Steps.{nothing, heard}
+use denote.Signature.{types_at}
+use denote.Steps.{heard}
 use denote.Struct.Struct.{as_fields}
-use denote.Triple.Walked.{Stays, stay_dropped, walk_of}
-use Rattle.core.proofs.alloc.Calls.{Goes-blank}
-use Rattle.std.proofs.raw_atomic.Walks.{proved_at}
 use Rattle.std.specs.Vec.{with_items}
 use Rattle.std_alloc.proofs.VecSteps.El.{El, R, Vr, el_d, el_x, vec_val, vec_typed}
 use Rattle.std_alloc.proofs.VecSteps.Opens.{vec_had, vec_made}
-use Rattle.logbook.proofs.Fields.{token as marker, token_told, ends}
+use Rattle.logbook.proofs.Fields.{token as marker, token_told}
 use Rattle.arc_owners.proofs.Allocators.{allocating}
 use Rattle.arc_owners.proofs.Endings.{spends, enters, spent}
 use Rattle.arc_owners.proofs.Markers.{told}

@@ -1,34 +1,27 @@
 -- `of` parts a vector from its items: they stay where they lie, and the vector waits for them.
-use Rattle.std.proofs.Common.{◌≡◌, ◌*◌, ◌^◌, List, [], ◌∷◌, ◌++◌, length, refl, sym, ap, ◌∙◌, subst}
+use Rattle.std.proofs.Common.{◌≡◌, ◌*◌, ◌^◌, [], ◌∷◌, ◌++◌, length, refl, sym, ap, ◌∙◌}
 use Rattle.std.proofs.Common.{arith}
-use mir.Syntax.{a_type, dcons, dnil}
-use mir.Val.{Val, vstruct, vcons, vnil, of_list}
-use mir.MapTy.{inst_fn}
-use base.Logic.{SProp, ent, emp, id⊢}
-use base.Fml.{ftrue, fsep, feq, flft}
-use prog.Wp.{WpFn}
-use types.Kit.{‵, raw, ◌⊛◌, ◌$◌, ◌∵◌, !, qed, by, move, keep, split, fsplit, fjoin, fpack, suffices}
-use types.Kit.{use0, use1, use2, rewrite, feq_i, flt_i}
-use types.Run.{of_opd, no_more, and_then, returns, enter}
+use mir.Val.{Val}
+use base.Logic.{emp}
+use base.Fml.{ftrue, fsep, flft}
+use types.Kit.{‵, raw, ◌⊛◌, ◌$◌, ◌∵◌, !, qed, by, move, keep, split, fsplit, fjoin, fpack}
+use types.Kit.{use0, use1, use2, rewrite, flt_i}
+use types.Run.{of_opd, no_more, and_then, returns}
 use types.ByLocal.{alloc_all, pass_all, free_all, look_at, get, sets}
 use types.Part.{agg}
 use contract.Monad.{fact_i}
-use contract.Running.{tables}
-use denote.Exit.{no}
 use denote.Laws.{Typed}
-use denote.RattleType.{RattleType, Valss, owns}
+use denote.RattleType.{owns}
 use denote.RawPtr.{Ptr, block_ptr}
-use denote.Signature.{types_at, plain}
+use denote.Signature.{types_at}
 use denote.Steps.{nothing}
-use denote.Param.{layout, bounded}
+use denote.Param.{layout}
 use denote.Struct.Struct.{as_fields}
-use denote.Triple.Walked.{Stays, stay_dropped, walk_of}
-use Rattle.core.proofs.alloc.Calls.{Goes-blank, token}
+use Rattle.core.proofs.alloc.Calls.{token}
 use Rattle.core.specs.Mem.{type_size}
-use Rattle.std.proofs.raw_atomic.Walks.{proved_at}
 use Rattle.std_alloc.proofs.VecSteps.El.{El, R, P, Vr, el_d, vec_val, vec_typed}
 use Rattle.std_alloc.proofs.VecSteps.Opens.{vec_had}
-use Rattle.logbook.proofs.Fields.{token as marker, Token, token_made, ends}
+use Rattle.logbook.proofs.Fields.{token as marker, Token, token_made}
 use Rattle.arc_owners.proofs.Allocators.{allocating}
 use Rattle.arc_owners.proofs.Endings.{spends, enters, both_spent}
 use Rattle.arc_owners.proofs.Markers.{told}

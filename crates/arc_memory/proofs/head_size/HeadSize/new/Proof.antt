@@ -1,23 +1,15 @@
 -- A number is known of nothing. Assumes `Logic`.
 use Rattle.std.proofs.Common.{ℕ, [], ◌∷◌, refl}
-use mir.Syntax.{a_type}
-use mir.Val.{Val}
-use mir.MapTy.{inst_fn}
-use base.Logic.{SProp, emp}
+use base.Logic.{emp}
 use contract.Monad.{fact_i}
-use contract.Running.{tables}
-use types.Kit.{‵, raw, ◌⊛◌, ◌$◌, ◌∵◌, !, qed, by, keep, split, fjoin, feq_i, use0}
-use types.Part.{agg}
-use types.Run.{no_more, and_then, returns, enter}
-use types.ByLocal.{alloc_all, pass_all, free_all, look_at, get, sets}
-use denote.Param.{param, layouts}
+use types.Kit.{‵, raw, ◌⊛◌, ◌$◌, ◌∵◌, !, qed, by, keep, split, feq_i}
+use types.Run.{enter}
+use types.ByLocal.{alloc_all, pass_all, free_all, look_at}
+use denote.Param.{param}
 use denote.RattleType.{RattleType, owns}
 use denote.Signature.{types_at}
-use denote.Steps.{nothing}
 use denote.Triple.Entry.{alive}
-use denote.Triple.Walked.{Stays, walk_of}
-use Rattle.std.proofs.raw_atomic.Walks.{proved_at}
-use Rattle.logbook.proofs.Fields.{token, Token, token_made, ends}
+use Rattle.logbook.proofs.Fields.{token}
 use Rattle.arc_owners.proofs.Endings.{spends, one_made, spent}
 use Rattle.arc_owners.proofs.Markers.{marked}
 use Rattle.arc_memory.specs.Pieces.{head_size}

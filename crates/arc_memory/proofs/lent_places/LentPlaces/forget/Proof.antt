@@ -1,25 +1,15 @@
 -- `forget` lets the borrows go. It touches no memory.
-use Rattle.std.proofs.Common.{◌≡◌, List, [], ◌∷◌, ◌++◌, refl, sym, subst}
+use Rattle.std.proofs.Common.{◌≡◌, List, [], ◌∷◌, ◌++◌, refl}
 use mir.Val.{Val, vunit}
-use base.Logic.{SProp, ent, emp, id⊢}
+use base.Logic.{emp, id⊢}
 use base.Fml.{ftrue, fsep, flft}
-use types.Kit.{‵, raw, ◌⊛◌, ◌$◌, ◌∵◌, !, qed, by, keep, split, fjoin, feq_i, suffices}
-use types.Run.{of_opd, returns, enter, unit_lit}
-use denote.Exit.{no}
-use denote.Steps.{nothing}
-use mir.Syntax.{a_type}
-use mir.MapTy.{inst_fn}
-use prog.Wp.{WpFn}
+use types.Kit.{‵, raw, ◌⊛◌, ◌$◌, ◌∵◌, !, qed, by, keep, split, feq_i}
+use types.Run.{of_opd, returns, unit_lit}
 use types.ByLocal.{alloc_all, pass_all, free_all, look_at, sets}
-use contract.Running.{tables}
 use denote.RattleType.{RattleType, owns}
-use denote.Signature.{types_at, plain}
-use denote.Param.{layouts}
-use denote.Triple.Walked.{Stays, stay_dropped, walk_of}
-use Rattle.core.proofs.alloc.Calls.{Goes-blank}
-use Rattle.std.proofs.raw_atomic.Walks.{proved_at}
+use denote.Signature.{types_at}
 use Rattle.std_alloc.proofs.VecSteps.El.{El, R, no_al}
-use Rattle.logbook.proofs.Fields.{token, token_told, ends}
+use Rattle.logbook.proofs.Fields.{token, token_told}
 use Rattle.arc_owners.proofs.Endings.{spends, enters, spent}
 use Rattle.arc_memory.specs.contracts.lent_places.LentPlaces as LentPlaces
 use Rattle.arc_memory.specs.contracts.lent_places.LentPlaces.forget as f

@@ -1,39 +1,30 @@
 -- `freeze` shares the item of each place, by a share of the lifetime that is borrowed and a token
 -- of the items' own lifetimes, and settles its name. It touches no memory.
-use Rattle.std.proofs.Common.{◌≡◌, ℕ, ◌+◌, ◌*◌, ◌≤◌, List, [], ◌∷◌, ◌++◌, length, refl, sym, subst}
+use Rattle.std.proofs.Common.{◌≡◌, ℕ, ◌+◌, ◌*◌, ◌≤◌, List, [], ◌∷◌, ◌++◌, length, refl, sym}
 use Rattle.std.proofs.Common.{arith}
 use lib.ListN.{drop as drop_from}
 use mir.Val.{Val, vptr}
-use base.Logic.{SProp, ent, emp, id⊢}
+use base.Logic.{SProp, emp}
 use base.Fml.{GName, Lft, Share, ftrue, fsep, flft, fhide, fshr_bor}
 use types.Kit.{‵, raw, ◌⊛◌, later, ◌$◌, ◌∵◌, !, qed, by, move, keep, drop, split, split3, fsplit}
-use types.Kit.{fjoin, feq_l, suffices, use1, use3, await, rewrite}
+use types.Kit.{fjoin, feq_l, use1, use3, await, rewrite}
 use types.Tokens.{shr_bor-open, obor_close}
 use types.Within.{tokens_halve}
-use types.Run.{no_more, and_then, returns, enter}
+use types.Run.{no_more, and_then, returns}
 use contract.Monad.{fact, fact_i}
-use denote.Builtin.{RefOf, unit}
+use denote.Builtin.{unit}
 use denote.Memory.{hidden_shr}
 use denote.Opens.{unhide}
-use denote.Exit.{yes, no}
-use denote.Steps.{nothing, heard}
-use mir.Syntax.{a_type}
-use mir.MapTy.{inst_fn}
-use prog.Wp.{WpFn}
+use denote.Steps.{heard}
 use types.ByLocal.{alloc_all, pass_all, free_all, look_at, get, sets}
 use types.Part.{agg}
 use contract.BorrowLft.{◌⊑◌}
-use contract.Running.{tables}
 use denote.RattleType.{RattleType, owns}
-use denote.Signature.{types_at, plain}
-use denote.Param.{layouts}
+use denote.Signature.{types_at}
 use denote.Struct.Lending.{lent_out}
-use denote.Triple.Walked.{Stays, stay_dropped, walk_of, Goes-dropped}
 use Rattle.core.specs.contracts.marker.PhantomData as marker
-use Rattle.core.proofs.alloc.Calls.{Goes-blank}
-use Rattle.std.proofs.raw_atomic.Walks.{proved_at}
 use Rattle.std_alloc.proofs.VecSteps.El.{El, R, el_x, sz, no_al}
-use Rattle.logbook.proofs.Fields.{token, Token, token_told, ends}
+use Rattle.logbook.proofs.Fields.{token, Token, token_told}
 use Rattle.arc_owners.proofs.Endings.{Walk, spends, enters, spent}
 use Rattle.arc_owners.proofs.Markers.{marked}
 use Rattle.arc_memory.specs.LentMemory.{LentMemory, contents, borrowed, frozen, names_from}

@@ -1,35 +1,23 @@
 -- `lend_behind` borrows each of the places, and lets the borrows of the first ones go. It touches
 -- no memory.
 use Rattle.std.proofs.Common.{◌≡◌, ℕ, ◌+◌, ◌*◌, List, [], ◌∷◌, ◌++◌, length, take, refl, sym, ap}
-use Rattle.std.proofs.Common.{◌∙◌, subst, arith, length-append, drop-drop}
+use Rattle.std.proofs.Common.{◌∙◌, arith, length-append, drop-drop}
 use lib.ListN.{drop as drop_from}
 use lib.Seq.{drop-append_seam}
-use mir.Syntax.{a_type}
-use mir.Val.{Val, vptr, vstruct, vcons, vnil, of_list}
-use mir.MapTy.{inst_fn}
-use base.Logic.{SProp, ent, emp, id⊢}
-use base.Fml.{GName, ftrue, fsep, feq, fex, flft}
-use prog.Wp.{WpFn}
+use mir.Val.{vptr}
+use base.Logic.{emp}
+use base.Fml.{GName, ftrue, fsep, fex, flft}
 use types.Kit.{‵, raw, ◌⊛◌, later, ◌$◌, ◌∵◌, !, qed, by, move, keep, drop, split, fsplit, fsplit3}
-use types.Kit.{fjoin, fpick, fpack, feq_l, feq_i, suffices, use1, use2, await, rewrite}
-use types.Run.{no_more, and_then, returns, enter}
-use types.ByLocal.{alloc_all, pass_all, free_all, look_at, get, sets}
-use types.Part.{agg}
+use types.Kit.{fpick, feq_l, use1, use2, await, rewrite}
+use types.ByLocal.{alloc_all, pass_all, free_all, look_at}
 use contract.Monad.{fact, fact_i}
 use contract.BorrowLft.{◌⊑◌}
-use contract.Running.{tables}
-use denote.Exit.{yes, no}
-use denote.RattleType.{RattleType, Valss, owns}
+use denote.RattleType.{RattleType, owns}
 use denote.RawPtr.{Ptr, block_ptr, block_of, count_of}
-use denote.Signature.{types_at, plain}
-use denote.Builtin.{RefOf}
-use denote.Steps.{nothing, heard}
-use denote.Param.{layouts}
-use denote.Triple.Walked.{Stays, stay_dropped, walk_of, Goes-dropped}
-use Rattle.core.proofs.alloc.Calls.{Goes-blank}
-use Rattle.std.proofs.raw_atomic.Walks.{proved_at}
+use denote.Signature.{types_at}
+use denote.Steps.{heard}
 use Rattle.std_alloc.proofs.VecSteps.El.{El, R, el_x, sz, no_al}
-use Rattle.logbook.proofs.Fields.{token, token_told, ends}
+use Rattle.logbook.proofs.Fields.{token, token_told}
 use Rattle.arc_owners.proofs.Endings.{spends, enters, two_made, both_spent}
 use Rattle.arc_owners.proofs.Markers.{marked, told}
 use Rattle.arc_memory.specs.Allocations.{IsPart}

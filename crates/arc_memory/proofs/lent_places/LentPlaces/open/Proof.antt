@@ -1,32 +1,20 @@
 -- `open` takes each place out of its borrow, by a share of the lifetime. It touches no memory.
-use Rattle.std.proofs.Common.{◌≡◌, ℕ, ◌+◌, ◌*◌, ◌≤◌, List, [], ◌∷◌, ◌++◌, length, refl, sym, subst}
+use Rattle.std.proofs.Common.{◌≡◌, ℕ, ◌+◌, ◌*◌, ◌≤◌, List, [], ◌∷◌, ◌++◌, length, refl}
 use Rattle.std.proofs.Common.{arith}
 use lib.ListN.{drop as drop_from}
-use mir.Val.{Val, vstruct, vcons, vnil, of_list}
-use base.Logic.{SProp, ent, emp, id⊢}
-use base.Fml.{GName, ftrue, fsep, feq, flft}
-use types.Kit.{‵, raw, ◌⊛◌, later, ◌$◌, ◌∵◌, !, qed, by, move, keep, drop, split, fsplit, fjoin}
-use types.Kit.{fpack, feq_i, suffices, use1, use2, await, rewrite}
-use types.Run.{no_more, and_then, returns, enter}
+use base.Logic.{emp}
+use base.Fml.{GName, ftrue, fsep, flft}
+use types.Kit.{‵, raw, ◌⊛◌, later, ◌$◌, ◌∵◌, !, qed, by, move, keep, drop, split, fsplit}
+use types.Kit.{use1, use2, await, rewrite}
 use contract.Monad.{fact, fact_i}
 use denote.Builtin.{unit}
-use denote.Exit.{yes, no}
-use denote.Steps.{nothing, heard}
-use mir.Syntax.{a_type}
-use mir.MapTy.{inst_fn}
-use prog.Wp.{WpFn}
-use types.ByLocal.{alloc_all, pass_all, free_all, look_at, get, sets}
-use types.Part.{agg}
+use denote.Steps.{heard}
+use types.ByLocal.{alloc_all, pass_all, free_all, look_at}
 use contract.BorrowLft.{◌⊑◌}
-use contract.Running.{tables}
-use denote.RattleType.{RattleType, Valss, owns}
-use denote.Signature.{types_at, plain}
-use denote.Param.{layouts}
-use denote.Triple.Walked.{Stays, stay_dropped, walk_of}
-use Rattle.core.proofs.alloc.Calls.{Goes-blank}
-use Rattle.std.proofs.raw_atomic.Walks.{proved_at}
+use denote.RattleType.{RattleType, owns}
+use denote.Signature.{types_at}
 use Rattle.std_alloc.proofs.VecSteps.El.{El, R, el_x, sz, no_al}
-use Rattle.logbook.proofs.Fields.{token, token_told, ends}
+use Rattle.logbook.proofs.Fields.{token, token_told}
 use Rattle.arc_owners.proofs.Endings.{spends, enters, two_made, both_spent}
 use Rattle.arc_owners.proofs.Markers.{marked, told}
 use Rattle.arc_memory.specs.LentMemory.{LentMemory, contents, borrowed, opened, names_from}

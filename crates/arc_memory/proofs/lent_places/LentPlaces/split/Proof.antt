@@ -1,33 +1,20 @@
 -- `split` parts the borrows. It touches no memory.
 use Rattle.std.proofs.Common.{◌≡◌, ℕ, ◌+◌, ◌-◌, ◌*◌, ◌≤◌, List, [], ◌∷◌, ◌++◌, length, take, refl}
-use Rattle.std.proofs.Common.{sym, subst, arith, w64, length-drop, length-take, drop-drop}
+use Rattle.std.proofs.Common.{sym, arith, w64, length-drop, length-take, drop-drop}
 use lib.ListN.{drop as drop_from}
-use mir.Val.{Val, vint, vstruct, vcons, vnil, of_list}
-use base.Logic.{SProp, ent, emp, id⊢}
-use base.Fml.{GName, ftrue, fsep, feq, flft}
-use types.Kit.{‵, raw, ◌⊛◌, ◌$◌, ◌∵◌, !, qed, by, move, keep, drop, split, fsplit, fjoin, fpack}
-use types.Kit.{feq_l, feq_i, flt_l, suffices, use1, rewrite}
-use types.Run.{no_more, and_then, returns, enter}
+use mir.Val.{vint}
+use base.Logic.{emp}
+use base.Fml.{GName, ftrue, fsep, flft}
+use types.Kit.{‵, raw, ◌⊛◌, ◌$◌, ◌∵◌, !, qed, by, move, keep, drop, split, fsplit}
+use types.Kit.{feq_l, flt_l, use1, rewrite}
 use contract.Monad.{fact, fact_i}
-use denote.Builtin.{usize}
-use denote.Exit.{yes, no}
-use denote.Steps.{nothing, heard}
-use denote.Triple.Walked.{Goes-dropped}
-use mir.Syntax.{a_type}
-use mir.MapTy.{inst_fn}
-use prog.Wp.{WpFn}
-use types.ByLocal.{alloc_all, pass_all, free_all, look_at, get, sets}
-use types.Part.{agg}
+use denote.Steps.{heard}
+use types.ByLocal.{alloc_all, pass_all, free_all, look_at}
 use contract.BorrowLft.{◌⊑◌}
-use contract.Running.{tables}
-use denote.RattleType.{RattleType, Valss, owns}
-use denote.Signature.{types_at, plain}
-use denote.Param.{layouts}
-use denote.Triple.Walked.{Stays, stay_dropped, walk_of}
-use Rattle.core.proofs.alloc.Calls.{Goes-blank}
-use Rattle.std.proofs.raw_atomic.Walks.{proved_at}
+use denote.RattleType.{RattleType, owns}
+use denote.Signature.{types_at}
 use Rattle.std_alloc.proofs.VecSteps.El.{El, R, el_x, sz, no_al}
-use Rattle.logbook.proofs.Fields.{token, token_told, ends}
+use Rattle.logbook.proofs.Fields.{token, token_told}
 use Rattle.arc_owners.proofs.Endings.{spends, enters, two_made, both_spent}
 use Rattle.arc_owners.proofs.Markers.{marked, told}
 use Rattle.arc_memory.specs.LentMemory.{LentMemory, Held, contents, borrowed, names_from}

@@ -1,34 +1,23 @@
 -- `unsplit` puts the borrows of two parts together. It touches no memory.
 use Rattle.std.proofs.Common.{◌≡◌, ℕ, ◌+◌, ◌*◌, ◌≤◌, ◌⊎◌, List, [], ◌∷◌, ◌++◌, length, refl, sym}
-use Rattle.std.proofs.Common.{ap, ◌∙◌, subst, arith, length-append, drop-drop}
+use Rattle.std.proofs.Common.{ap, ◌∙◌, arith, length-append, drop-drop}
 use lib.ListN.{drop as drop_from}
-use mir.Val.{Val}
-use base.Logic.{SProp, ent, emp, id⊢}
+use base.Logic.{emp}
 use base.Fml.{GName, ftrue, fsep, flft}
-use types.Kit.{‵, raw, ◌⊛◌, ◌$◌, ◌∵◌, !, qed, by, move, keep, drop, split, fsplit, fjoin, suffices}
+use types.Kit.{‵, raw, ◌⊛◌, ◌$◌, ◌∵◌, !, qed, by, move, keep, drop, split, fsplit}
 use types.Kit.{use2, rewrite}
-use types.Run.{stop, fld, of_opd, no_more, and_then, returns, enter}
+use types.Run.{stop, fld}
 use types.ByLocal.{get_in}
 use types.Part.{sub, whole}
 use contract.Monad.{fact, fact_i}
-use denote.Exit.{no}
 use denote.RawPtr.{Ptr, block_ptr, block_of, count_of}
-use denote.Steps.{nothing, heard}
-use mir.Syntax.{a_type}
-use mir.MapTy.{inst_fn}
-use prog.Wp.{WpFn}
-use types.ByLocal.{alloc_all, pass_all, free_all, look_at, get, sets}
-use types.Part.{agg}
+use denote.Steps.{heard}
+use types.ByLocal.{alloc_all, pass_all, free_all, look_at}
 use contract.BorrowLft.{◌⊑◌}
-use contract.Running.{tables}
 use denote.RattleType.{RattleType, owns}
-use denote.Signature.{types_at, plain}
-use denote.Param.{layouts}
-use denote.Triple.Walked.{Stays, stay_dropped, walk_of}
-use Rattle.core.proofs.alloc.Calls.{Goes-blank}
-use Rattle.std.proofs.raw_atomic.Walks.{proved_at}
+use denote.Signature.{types_at}
 use Rattle.std_alloc.proofs.VecSteps.El.{El, R, sz, no_al}
-use Rattle.logbook.proofs.Fields.{token, token_told, ends}
+use Rattle.logbook.proofs.Fields.{token, token_told}
 use Rattle.arc_owners.proofs.Endings.{spends, enters, one_moved, spent}
 use Rattle.arc_owners.proofs.Markers.{marked, told}
 use Rattle.arc_memory.specs.LentMemory.{LentMemory, Held, contents, borrowed, names_from}

@@ -1,32 +1,23 @@
 -- `regain_empty` takes each place back, whatever lies in it. It touches no memory.
 use Rattle.std.proofs.Common.{◌≡◌, ℕ, ◌+◌, ◌*◌, List, [], ◌∷◌, ◌++◌, length}
-use Rattle.std.proofs.Common.{refl, sym, subst, arith, length-drop}
+use Rattle.std.proofs.Common.{refl, arith, length-drop}
 use lib.ListN.{drop as drop_from}
-use mir.Syntax.{a_type}
 use mir.Val.{Val}
-use mir.MapTy.{inst_fn}
-use base.Logic.{SProp, ent, emp, id⊢}
+use base.Logic.{emp}
 use base.Fml.{GName, ftrue, fsep, flft, fdead}
-use prog.Wp.{WpFn}
 use types.Kit.{‵, raw, ◌⊛◌, later, ◌$◌, ◌∵◌, !, qed, by, move, keep, drop, split, fsplit}
-use types.Kit.{fjoin, suffices, use2, await, rewrite}
-use types.Run.{no_more, and_then, returns, enter}
+use types.Kit.{use2, await, rewrite}
+use types.Run.{no_more, and_then, returns}
 use types.ByLocal.{alloc_all, pass_all, free_all, look_at, get, sets}
 use types.Part.{agg}
 use contract.Monad.{fact, fact_i}
 use contract.BorrowLft.{◌⊑◌}
-use contract.Running.{tables}
-use denote.Exit.{yes, no}
 use denote.RattleType.{RattleType, owns}
-use denote.Signature.{types_at, plain}
+use denote.Signature.{types_at}
 use denote.Builtin.{unit}
-use denote.Steps.{nothing, heard}
-use denote.Param.{layouts}
-use denote.Triple.Walked.{Stays, stay_dropped, walk_of}
-use Rattle.core.proofs.alloc.Calls.{Goes-blank}
-use Rattle.std.proofs.raw_atomic.Walks.{proved_at}
+use denote.Steps.{heard}
 use Rattle.std_alloc.proofs.VecSteps.El.{El, R, sz, no_al}
-use Rattle.logbook.proofs.Fields.{token, token_told, ends}
+use Rattle.logbook.proofs.Fields.{token, token_told}
 use Rattle.arc_owners.proofs.Endings.{spends, enters, spent}
 use Rattle.arc_owners.proofs.Markers.{told}
 use Rattle.arc_memory.specs.LentMemory.{LentMemory, returning, names_from}

@@ -1,37 +1,28 @@
 -- `regain_frozen` takes each place back, of which a frozen range's names say what lies in it. It
 -- touches no memory.
 use Rattle.std.proofs.Common.{◌≡◌, ℕ, ◌+◌, ◌-◌, ◌≤◌, List, [], ◌∷◌, ◌++◌, length, refl, sym, ap}
-use Rattle.std.proofs.Common.{◌∙◌, subst, arith, length-drop, drop-drop}
+use Rattle.std.proofs.Common.{◌∙◌, arith, length-drop, drop-drop}
 use lib.ListN.{drop as drop_from}
-use mir.Syntax.{a_type}
 use mir.Val.{Val, vptr}
-use mir.MapTy.{inst_fn}
-use base.Logic.{SProp, ent, emp, id⊢}
+use base.Logic.{emp}
 use base.Fml.{GName, ftrue, fsep, flft, fdead, fhide}
-use prog.Wp.{WpFn}
 use types.Kit.{‵, raw, ◌⊛◌, later, ◌$◌, ◌∵◌, !, qed, by, move, keep, drop, split, split3, fsplit}
-use types.Kit.{fjoin, feq_l, suffices, use1, use3, await, rewrite}
-use types.Run.{no_more, and_then, returns, enter}
+use types.Kit.{feq_l, use1, use3, await, rewrite}
+use types.Run.{no_more, and_then, returns}
 use types.ByLocal.{alloc_all, pass_all, free_all, look_at, get, sets}
 use types.Part.{agg}
 use contract.Monad.{fact, fact_i}
 use contract.BorrowLft.{◌⊑◌}
-use contract.Running.{tables}
-use denote.Exit.{yes, no}
 use denote.RattleType.{RattleType, owns}
-use denote.Signature.{types_at, plain}
-use denote.Builtin.{RefOf, unit}
+use denote.Signature.{types_at}
+use denote.Builtin.{unit}
 use denote.Memory.{hidden_shr}
 use denote.Opens.{unhide}
-use denote.Steps.{nothing, heard}
-use denote.Param.{layouts}
+use denote.Steps.{heard}
 use denote.Struct.Lending.{lent_out}
-use denote.Triple.Walked.{Stays, stay_dropped, walk_of, Goes-dropped}
 use Rattle.core.specs.contracts.marker.PhantomData as marker
-use Rattle.core.proofs.alloc.Calls.{Goes-blank}
-use Rattle.std.proofs.raw_atomic.Walks.{proved_at}
 use Rattle.std_alloc.proofs.VecSteps.El.{El, R, el_x, sz, no_al}
-use Rattle.logbook.proofs.Fields.{token, Token, token_told, ends}
+use Rattle.logbook.proofs.Fields.{token, Token, token_told}
 use Rattle.arc_owners.proofs.Endings.{spends, enters, spent}
 use Rattle.arc_owners.proofs.Markers.{told}
 use Rattle.arc_memory.specs.LentMemory.{LentMemory, contents, settles, each_name, frozen}

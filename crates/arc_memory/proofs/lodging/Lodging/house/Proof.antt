@@ -4,32 +4,26 @@ use Rattle.std.proofs.Common.{sym, ap, ◌∙◌, subst, arith, add_comm, w64}
 use mir.Syntax.{a_type}
 use mir.Val.{Val, vptr, vint, vstruct, vcons, vnil, of_list}
 use mir.MapTy.{inst_fn}
-use base.Logic.{SProp, ent, emp, id⊢}
+use base.Logic.{SProp, emp, id⊢}
 use base.Fml.{ftrue, fsep, feq, flft}
-use prog.Wp.{WpFn}
 use types.Kit.{‵, raw, ◌⊛◌, some, later, at_ret, ◌$◌, ◌∵◌, !, qed, by, move, keep, drop, split}
 use types.Kit.{split3, join, pick, fsplit, fjoin, fpack, feq_l, feq_i, flt_l, flt_i, await}
-use types.Kit.{suffices, use0, use1, use2, rewrite}
+use types.Kit.{use0, use1, use2, rewrite}
 use types.Run.{stop, fld, of_opd, bin, size_word, no_more, and_then, first, blocks, exec, returns}
-use types.Run.{enter}
 use types.ByLocal.{alloc_all, pass_all, free_all, look_at, get, get_in, sets, lands_last, is, env}
 use types.Part.{agg, sub, whole}
 use contract.Monad.{fact, fact_i}
 use contract.BorrowLft.{◌⊑◌}
 use contract.Running.{tables}
-use denote.Builtin.{usize}
-use denote.Exit.{yes, no}
 use denote.RattleType.{RattleType, Valss, owns}
-use denote.RawPtr.{Ptr, RawPtr, block_ptr, ptr_val}
-use denote.Signature.{types_at, plain}
+use denote.RawPtr.{Ptr, block_ptr, ptr_val}
+use denote.Signature.{types_at}
 use denote.Steps.{nothing, heard, only}
 use denote.Param.{layout, layouts}
 use denote.Struct.Struct.{as_fields}
 use denote.Triple.Clauses.{Lasts, lasts}
 use denote.Triple.Spec.{triple_of}
 use denote.Triple.Call.{calls_at_last}
-use denote.Triple.Walked.{Stays, stay_dropped, walk_of, Goes-dropped}
-use Rattle.core.proofs.alloc.Calls.{Goes-blank}
 use Rattle.core.proofs.alloc.Shapes.{after}
 use Rattle.core.proofs.atomic.Steps.{fm}
 use Rattle.core.proofs.cell.Inside.{Good}
@@ -37,14 +31,13 @@ use Rattle.core.proofs.ptr.Rows.{times_below}
 use Rattle.core.proofs.slots.Leases.{uncapped}
 use Rattle.core.specs.Allocator.{block_with_items}
 use Rattle.core.specs.Mem.{type_size}
-use Rattle.std.proofs.raw_atomic.Walks.{proved_at}
 use Rattle.std_alloc.specs.Vec.Ownership.{owns_if, has_block}
 use Rattle.std_alloc.specs.contracts.vec.lodge as callee
 use Rattle.std_alloc.proofs.vec.lodge.Met.{met}
 use Rattle.std_alloc.proofs.OfLodged.{lodging}
 use Rattle.std_alloc.proofs.VecSteps.El.{El, R, Vr, el_d, el_x, sz, vec_typed}
 use Rattle.std_alloc.proofs.VecSteps.Opens.{vec_had, vec_made}
-use Rattle.logbook.proofs.Fields.{token, Token, token_told, token_made, ends}
+use Rattle.logbook.proofs.Fields.{token, Token, token_told, token_made}
 use Rattle.arc_owners.proofs.Endings.{Walk, spends, enters, spent}
 use Rattle.arc_owners.proofs.Markers.{told}
 use Rattle.arc_memory.specs.Memory.{place_at}

@@ -1,32 +1,27 @@
 -- `of_slots` has back what lies in the places from the slots that were there, as many items as are
 -- asked for.
 use Rattle.std.proofs.Common.{◌≡◌, ℕ, ◌*◌, ◌^◌, ◌≤◌, Bool, List, [], ◌∷◌, ◌++◌, length, refl, sym}
-use Rattle.std.proofs.Common.{◌∙◌, subst, arith, w64, take, length-take-le}
+use Rattle.std.proofs.Common.{◌∙◌, arith, w64, take, length-take-le}
 use mir.Syntax.{a_type}
 use mir.Val.{Val, WT, vint}
 use mir.MapTy.{inst_fn}
-use base.Logic.{SProp, ent, emp, id⊢}
+use base.Logic.{SProp, emp}
 use base.Fml.{ftrue, flft}
-use prog.Wp.{WpFn}
 use types.Kit.{‵, raw, ◌⊛◌, given, later, at_ret, ◌$◌, ◌∵◌, !, qed, by, move, keep, drop, split}
-use types.Kit.{split3, join, learn, fsplit, fjoin, feq_l, flt_l, flt_i, await, suffices, use0, use1}
+use types.Kit.{split3, join, learn, fsplit, fjoin, feq_l, flt_l, flt_i, await, use0, use1}
 use types.Kit.{use2, rewrite}
-use types.Run.{stop, fld, of_opd, no_more, and_then, first, blocks, exec, returns, enter}
+use types.Run.{stop, fld, of_opd, no_more, and_then, first, blocks, exec, returns}
 use types.ByLocal.{alloc_all, pass_all, free_all, look_at, get, get_in, sets, lands_last, is, env}
 use types.Part.{agg, sub, whole}
 use contract.Monad.{fact, fact_i}
 use contract.BorrowLft.{◌⊑◌}
 use contract.Running.{tables}
-use denote.Builtin.{usize}
-use denote.Exit.{yes, no}
 use denote.RattleType.{RattleType, owns}
 use denote.RawPtr.{Ptr, block_ptr}
-use denote.Signature.{types_at, plain}
+use denote.Signature.{types_at}
 use denote.Steps.{nothing, heard}
 use denote.Param.{layouts}
 use denote.Triple.Call.{calls_at_last}
-use denote.Triple.Walked.{Stays, stay_dropped, walk_of, Goes-dropped}
-use Rattle.core.proofs.alloc.Calls.{Goes-blank}
 use Rattle.core.proofs.alloc.Shapes.{after}
 use Rattle.core.proofs.atomic.Steps.{fm}
 use Rattle.core.proofs.slots.Opens.{row_val}
@@ -34,13 +29,12 @@ use Rattle.core.proofs.slots.Slots.into_raw_parts.Met.{met}
 use Rattle.core.specs.Mem.{type_size}
 use Rattle.core.specs.Mem.Slots.{slots_ptr, slots_len, slots_items, slots_filled, slots_counts}
 use Rattle.core.specs.Mem.Slots.Ownership.{Filled}
-use Rattle.std.proofs.raw_atomic.Walks.{proved_at}
 use Rattle.std_alloc.proofs.OfLodged.{lodging}
 use Rattle.std_alloc.proofs.VecSteps.El.{El, R, el_x, sz}
 use Rattle.std_alloc.proofs.vec.Blocks.{all}
 use Rattle.std_alloc.proofs.vec.Spares.{Row as Slots, parts_typed, Row-seen, Into, at_into}
 use Rattle.std_alloc.proofs.vec.Spares.{Into-goes, Into-gives}
-use Rattle.logbook.proofs.Fields.{token, Token, token_told, token_made, ends}
+use Rattle.logbook.proofs.Fields.{token, Token, token_told, token_made}
 use Rattle.arc_owners.proofs.Endings.{Walk, spends, enters, spent}
 use Rattle.arc_owners.proofs.Markers.{told}
 use Rattle.arc_memory.specs.Memory.{place_at, side_by_side}

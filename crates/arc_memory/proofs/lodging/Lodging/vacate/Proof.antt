@@ -1,36 +1,27 @@
 -- `vacate` has back what lies in the places from the vector that lodged there.
-use Rattle.std.proofs.Common.{◌≡◌, ℕ, ◌*◌, ◌^◌, List, [], ◌∷◌, ◌++◌, refl, sym, ap, ◌∙◌, subst}
+use Rattle.std.proofs.Common.{◌≡◌, ℕ, ◌*◌, ◌^◌, List, [], ◌∷◌, ◌++◌, refl, sym, ap, ◌∙◌}
 use Rattle.std.proofs.Common.{arith}
-use mir.Syntax.{a_type}
 use mir.Val.{Val}
-use mir.MapTy.{inst_fn}
-use base.Logic.{SProp, ent, emp, id⊢, never}
+use base.Logic.{emp, id⊢, never}
 use base.Fml.{ftrue, flft}
-use prog.Wp.{WpFn}
 use types.Kit.{‵, raw, ◌⊛◌, some, later, ◌$◌, ◌∵◌, !, qed, by, move, keep, drop, split, split3}
-use types.Kit.{join, pick, fsplit, fjoin, feq_l, flt_l, flt_i, await, suffices, use0, use1, rewrite}
-use types.Run.{stop, fld, of_opd, no_more, and_then, returns, enter}
+use types.Kit.{join, pick, fsplit, fjoin, feq_l, flt_l, flt_i, await, use0, use1, rewrite}
+use types.Run.{stop, fld, of_opd, no_more, and_then, returns}
 use types.ByLocal.{alloc_all, pass_all, free_all, look_at, get, get_in, sets, lands_as}
 use types.Part.{agg, sub, whole}
 use contract.Monad.{fact, fact_i}
 use contract.BorrowLft.{◌⊑◌}
-use contract.Running.{tables}
 use denote.Builtin.{usize}
-use denote.Exit.{no}
 use denote.RattleType.{RattleType, owns}
 use denote.RawPtr.{Ptr, block_ptr, in_block, in_a_block}
-use denote.Signature.{types_at, plain}
+use denote.Signature.{types_at}
 use denote.Steps.{nothing, heard, only}
-use denote.Param.{layouts}
 use denote.Triple.Clauses.{Lasts, lasts}
 use denote.Triple.Spec.{triple_of}
 use denote.Triple.Call.{calls_at}
-use denote.Triple.Walked.{Stays, stay_dropped, walk_of}
-use Rattle.core.proofs.alloc.Calls.{Goes-blank}
 use Rattle.core.proofs.atomic.Steps.{fm}
 use Rattle.core.specs.Allocator.{block_with_items}
 use Rattle.core.specs.Mem.{type_size}
-use Rattle.std.proofs.raw_atomic.Walks.{proved_at}
 use Rattle.std_alloc.specs.Vec.Ownership.{owns_if, has_block, lodged}
 use Rattle.std_alloc.specs.contracts.vec.Vec as V
 use Rattle.std_alloc.specs.contracts.vec.lodged.Lodged as Lodged
@@ -40,7 +31,7 @@ use Rattle.std_alloc.proofs.vec.lodged.Vec+T+Lodged.dislodge.Met.{met}
 use Rattle.std_alloc.proofs.OfLodged.{lodging}
 use Rattle.std_alloc.proofs.VecSteps.El.{El, R, el_d, el_x, vec_val, vec_typed}
 use Rattle.std_alloc.proofs.VecSteps.Opens.{vec_had, vec_made}
-use Rattle.logbook.proofs.Fields.{token, Token, token_told, token_made, ends}
+use Rattle.logbook.proofs.Fields.{token, Token, token_told, token_made}
 use Rattle.arc_owners.proofs.Endings.{spends, enters, spent}
 use Rattle.arc_owners.proofs.Markers.{told}
 use Rattle.arc_memory.specs.Memory.{place_at, side_by_side}

@@ -5,36 +5,30 @@ use mir.Raw.{raw as bare}
 use mir.Syntax.{Ty, a_type, dcons, dnil}
 use mir.Val.{Val, vint, vptr, vstruct, of_list}
 use mir.MapTy.{inst_fn}
-use base.Logic.{SProp, ent, emp, never, fst∗, id⊢}
+use base.Logic.{SProp, emp, never, fst∗, id⊢}
 use base.Fml.{Fml, fsep, feq, froom}
-use prog.Wp.{WpFn}
 use contract.BorrowLft.{◌⊑◌}
 use contract.Monad.{fact, fact_i}
 use contract.Running.{tables}
 use types.Logic.{sem}
 use types.Kit.{‵, raw, ◌⊛◌, at_ret, ◌$◌, ◌∵◌, !, qed, by, move, keep, drop, split, split3, fsplit}
-use types.Kit.{fjoin, fpack, feq_i, flt_i, suffices, use0, use1, use2, rewrite}
-use types.Run.{stop, fld, of_opd, bin, no_more, and_then, first, blocks, exec, returns, enter}
+use types.Kit.{fjoin, fpack, feq_i, flt_i, use0, use1, use2, rewrite}
+use types.Run.{stop, fld, of_opd, bin, no_more, and_then, first, blocks, exec, returns}
 use types.ByLocal.{alloc_all, pass_all, free_all, look_at, get, get_in, sets, sets_last, env}
 use types.Part.{agg, sub, whole}
-use denote.Builtin.{usize}
-use denote.Exit.{yes, no}
 use denote.Param.{param, bounded, layout}
 use denote.RattleType.{RattleType, Valss, owns}
 use denote.RawPtr.{Ptr, RawPtr, block_ptr, null_ptr, in_a_block}
-use denote.Signature.{types_at, plain}
+use denote.Signature.{types_at}
 use denote.Steps.{nothing, heard}
 use denote.Struct.Struct.{as_fields}
 use denote.Struct.Tuple.{Tuple}
 use denote.Triple.Entry.{alive}
-use denote.Triple.Walked.{Stays, stay_dropped, walk_of, Goes-dropped}
 use Rattle.core.specs.Allocator.{owned_block}
 use Rattle.core.specs.Mem.{type_size}
-use Rattle.core.proofs.alloc.Calls.{Goes-blank}
 use Rattle.core.proofs.alloc.Shapes.{after}
-use Rattle.std.proofs.raw_atomic.Walks.{proved_at}
 use Rattle.std_alloc.proofs.VecSteps.El.{El, R}
-use Rattle.logbook.proofs.Fields.{token, Token, token_made, ends}
+use Rattle.logbook.proofs.Fields.{token, Token, token_made}
 use Rattle.arc_owners.proofs.Allocators.{allocating}
 use Rattle.arc_owners.proofs.Endings.{Walk, spends, enters, spent}
 use Rattle.arc_owners.proofs.Markers.{told}

@@ -1,34 +1,27 @@
 -- `whole` makes one block of the header's room and the places. Assumes `Logic`.
-use Rattle.std.proofs.Common.{◌≡◌, ℕ, ◌+◌, List, [], ◌∷◌, ◌++◌, refl, sym, ap, ◌∙◌, subst, arith}
+use Rattle.std.proofs.Common.{◌≡◌, ℕ, ◌+◌, List, [], ◌∷◌, ◌++◌, refl, sym, ap, ◌∙◌, arith}
 use mir.Raw.{raw as bare}
-use mir.Syntax.{Ty, a_type, dcons, dnil}
+use mir.Syntax.{Ty}
 use mir.Val.{Val}
-use mir.MapTy.{inst_fn}
-use base.Logic.{SProp, ent, emp, id⊢}
+use base.Logic.{emp, id⊢}
 use base.Fml.{Fml}
-use prog.Wp.{WpFn}
 use contract.BorrowLft.{◌⊑◌}
 use contract.Monad.{fact, fact_i}
-use contract.Running.{tables}
 use types.Kit.{‵, raw, ◌⊛◌, ◌$◌, ◌∵◌, !, qed, by, move, keep, drop, split, fsplit, fjoin, fpick}
-use types.Kit.{feq_l, suffices, use0, use1, use3, rewrite}
-use types.Run.{stop, fld, of_opd, no_more, and_then, returns, enter}
+use types.Kit.{feq_l, use0, use1, use3, rewrite}
+use types.Run.{stop, fld, of_opd, no_more, and_then, returns}
 use types.ByLocal.{alloc_all, pass_all, free_all, look_at, get, get_in, sets}
 use types.Part.{agg, sub, whole}
-use denote.Exit.{no}
-use denote.Param.{param, bounded, layout}
+use denote.Param.{param, layout}
 use denote.RattleType.{RattleType, owns}
 use denote.RawPtr.{Ptr, block_ptr, room_for, in_a_block}
-use denote.Signature.{types_at, plain}
-use denote.Steps.{nothing, heard}
+use denote.Signature.{types_at}
+use denote.Steps.{heard}
 use denote.Struct.Tuple.{Tuple}
 use denote.Triple.Entry.{alive}
-use denote.Triple.Walked.{Stays, stay_dropped, walk_of}
 use Rattle.core.specs.Allocator.{owned_block}
-use Rattle.core.proofs.alloc.Calls.{Goes-blank}
-use Rattle.std.proofs.raw_atomic.Walks.{proved_at}
 use Rattle.std_alloc.proofs.VecSteps.El.{El, R}
-use Rattle.logbook.proofs.Fields.{token, token_told, ends}
+use Rattle.logbook.proofs.Fields.{token, token_told}
 use Rattle.arc_owners.proofs.Allocators.{allocating}
 use Rattle.arc_owners.proofs.Endings.{spends, enters, spent}
 use Rattle.arc_owners.proofs.Markers.{told}

@@ -2,31 +2,26 @@
 use Rattle.std.proofs.Common.{◌≡◌, ℕ, ◌+◌, ◌-◌, ◌*◌, ◌^◌, ◌<◌, ◌≤◌, Bool, List, [], ◌∷◌, ◌++◌}
 use Rattle.std.proofs.Common.{length, take, refl, sym, ap, ◌∙◌, subst, arith, w64}
 use mir.Syntax.{a_type}
-use mir.Val.{Val, WT, vptr, vint, vstruct, vcons, vnil, of_list}
+use mir.Val.{Val, WT, vptr, vint}
 use mir.MapTy.{inst_fn}
-use base.Logic.{SProp, ent, emp, id⊢}
-use base.Fml.{ftrue, fsep, feq, flft}
-use prog.Wp.{WpFn}
+use base.Logic.{SProp, emp}
+use base.Fml.{ftrue, flft}
 use types.Kit.{‵, raw, ◌⊛◌, some, given, later, at_ret, ◌$◌, ◌∵◌, !, qed, by, move, keep, drop}
-use types.Kit.{split, split3, join, pick, learn, fsplit, fjoin, fpack, feq_l, feq_i, flt_l, flt_i}
-use types.Kit.{await, suffices, use0, use1, use2, rewrite}
-use types.Run.{stop, fld, of_opd, no_more, and_then, first, blocks, exec, returns, enter}
+use types.Kit.{split, split3, join, pick, learn, fsplit, fjoin, feq_l, feq_i, flt_l, flt_i}
+use types.Kit.{await, use0, use1, use2, rewrite}
+use types.Run.{stop, fld, of_opd, no_more, and_then, first, blocks, exec, returns}
 use types.ByLocal.{alloc_all, pass_all, free_all, look_at, get, get_in, sets, lands_last, is, env}
 use types.Part.{agg, sub, whole}
 use contract.Monad.{fact, fact_i}
 use contract.BorrowLft.{◌⊑◌}
 use contract.Running.{tables}
-use denote.Builtin.{usize}
-use denote.Exit.{yes, no}
-use denote.RattleType.{RattleType, Valss, owns}
-use denote.RawPtr.{Ptr, RawPtr, block_ptr, ptr_val}
-use denote.Signature.{types_at, plain}
+use denote.RattleType.{RattleType, owns}
+use denote.RawPtr.{Ptr, block_ptr, ptr_val}
+use denote.Signature.{types_at}
 use denote.Steps.{nothing, heard}
 use denote.Param.{layout, layouts}
 use denote.Struct.Struct.{as_fields}
 use denote.Triple.Call.{calls_at_last}
-use denote.Triple.Walked.{Stays, stay_dropped, walk_of, Goes-dropped}
-use Rattle.core.proofs.alloc.Calls.{Goes-blank}
 use Rattle.core.proofs.alloc.Shapes.{after}
 use Rattle.core.proofs.atomic.Steps.{fm}
 use Rattle.core.proofs.ptr.Rows.{times_below}
@@ -34,13 +29,12 @@ use Rattle.core.proofs.slots.Opens.{row_val}
 use Rattle.core.specs.Mem.Slots.Ownership.{Filled}
 use Rattle.core.proofs.slots.Slots.from_raw_parts.Met.{met}
 use Rattle.core.specs.Mem.{type_size}
-use Rattle.std.proofs.raw_atomic.Walks.{proved_at}
 use Rattle.std_alloc.proofs.OfLodged.{lodging}
 use Rattle.std_alloc.proofs.VecSteps.El.{El, R, el_x, sz}
 use Rattle.std_alloc.proofs.vec.Blocks.{all, flags, vec_flags, vec_laid}
 use Rattle.std_alloc.proofs.vec.Spares.{Row as Slots, row_Typed, From, at_from, Made, from_goes}
 use Rattle.std_alloc.proofs.vec.Spares.{from_gives}
-use Rattle.logbook.proofs.Fields.{token, Token, token_told, token_made, ends}
+use Rattle.logbook.proofs.Fields.{token, Token, token_told, token_made}
 use Rattle.arc_owners.proofs.Endings.{Walk, spends, enters, both_spent}
 use Rattle.arc_owners.proofs.Markers.{told}
 use Rattle.arc_memory.specs.Memory.{place_at}

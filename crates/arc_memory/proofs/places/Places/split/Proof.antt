@@ -1,32 +1,20 @@
 -- `split` cuts what lies side by side. It touches no memory.
-use Rattle.std.proofs.Common.{◌≡◌, ℕ, ◌+◌, ◌-◌, ◌*◌, ◌≤◌, List, [], ◌∷◌, ◌++◌, length, take, drop}
-use Rattle.std.proofs.Common.{refl, sym, subst, arith, w64, length-drop, length-take}
+use Rattle.std.proofs.Common.{ℕ, ◌+◌, ◌-◌, ◌*◌, ◌≤◌, List, [], ◌∷◌, ◌++◌, length, take, drop}
+use Rattle.std.proofs.Common.{refl, sym, arith, w64, length-drop, length-take}
 use Rattle.std.proofs.lemmas.Bool.{cases_lt}
-use mir.Syntax.{a_type}
-use mir.Val.{Val, vint, vstruct, vcons, vnil, of_list}
-use mir.MapTy.{inst_fn}
-use base.Logic.{SProp, ent, emp, id⊢}
-use base.Fml.{ftrue, fsep, feq, flft}
-use prog.Wp.{WpFn}
+use mir.Val.{vint}
+use base.Logic.{emp}
+use base.Fml.{ftrue, fsep, flft}
 use types.Kit.{‵, raw, ◌⊛◌, ◌$◌, ◌∵◌, !, qed, by, move, keep, drop as drop_entry, split, fsplit}
-use types.Kit.{fjoin, fpack, feq_l, feq_i, flt_l, suffices, use1, rewrite}
-use types.Run.{no_more, and_then, returns, enter}
-use types.ByLocal.{alloc_all, pass_all, free_all, look_at, get, sets}
-use types.Part.{agg}
+use types.Kit.{feq_l, flt_l, use1, rewrite}
+use types.ByLocal.{alloc_all, pass_all, free_all, look_at}
 use contract.Monad.{fact, fact_i}
 use contract.BorrowLft.{◌⊑◌}
-use contract.Running.{tables}
-use denote.Builtin.{usize}
-use denote.Exit.{yes, no}
-use denote.RattleType.{RattleType, Valss, owns}
-use denote.Signature.{types_at, plain}
-use denote.Steps.{nothing, heard}
-use denote.Param.{layouts}
-use denote.Triple.Walked.{Stays, stay_dropped, walk_of, Goes-dropped}
-use Rattle.core.proofs.alloc.Calls.{Goes-blank}
-use Rattle.std.proofs.raw_atomic.Walks.{proved_at}
+use denote.RattleType.{RattleType, owns}
+use denote.Signature.{types_at}
+use denote.Steps.{heard}
 use Rattle.std_alloc.proofs.VecSteps.El.{El, R, el_x, sz, no_al}
-use Rattle.logbook.proofs.Fields.{token, token_told, ends}
+use Rattle.logbook.proofs.Fields.{token, token_told}
 use Rattle.arc_owners.proofs.Endings.{spends, enters, two_made, both_spent}
 use Rattle.arc_owners.proofs.Markers.{told}
 use Rattle.arc_memory.proofs.Cuts.{Side, cut, further}

@@ -1,18 +1,16 @@
 -- `without_array` reads the items of full places as an array, and leaves their room.
 use Rattle.std.proofs.Common.{◌≡◌, ℕ, ◌+◌, ◌-◌, ◌*◌, ◌^◌, ◌<◌, List, [], ◌∷◌, ◌++◌, length, refl}
-use Rattle.std.proofs.Common.{sym, ap, ◌∙◌, subst, arith}
+use Rattle.std.proofs.Common.{sym, ap, ◌∙◌, arith}
 use lib.Dec.{T as IsTrue}
 use mir.Syntax.{a_type, a_number, ty_array}
 use mir.Val.{Val, WT, has_ty, vptr, vstruct, vcons, vnil, of_list}
 use mir.MapTy.{inst_fn}
 use base.Fraction.{full_share}
-use base.Logic.{SProp, ent, emp, id⊢}
+use base.Logic.{SProp, emp, id⊢}
 use base.Fml.{ftrue, fsep, feq, fat, flft}
-use prog.Wp.{WpFn}
 use types.Kit.{‵, raw, ◌⊛◌, some, at_ret, ◌$◌, ◌∵◌, !, qed, by, move, keep, drop, split, pick}
-use types.Kit.{fsplit, fjoin, fpack, feq_l, feq_i, suffices, use0, use1, use2, rewrite}
+use types.Kit.{fsplit, fjoin, fpack, feq_l, feq_i, use0, use1, use2, rewrite}
 use types.Run.{stop, fld, of_opd, load, look, no_more, and_then, first, blocks, exec, returns}
-use types.Run.{enter}
 use types.ByLocal.{alloc_all, pass_all, free_all, look_at, get, get_in, through, sets, sets_last}
 use types.ByLocal.{env}
 use types.Part.{agg, sub, whole}
@@ -20,24 +18,20 @@ use contract.Monad.{fact, fact_i}
 use contract.BorrowLft.{◌⊑◌}
 use contract.Running.{tables}
 use denote.Array.{Array}
-use denote.Exit.{yes, no}
 use denote.Laws.{Is, shows}
 use denote.Memory.{part_at}
 use denote.RattleType.{RattleType, Valss, owns}
-use denote.RawPtr.{Ptr, RawPtr, block_ptr, ptr_val}
-use denote.Signature.{types_at, plain}
+use denote.RawPtr.{Ptr, block_ptr, ptr_val}
+use denote.Signature.{types_at}
 use denote.Steps.{nothing, peeks, heard}
 use denote.Param.{ArrayAt, param, number, layout, layouts}
 use denote.Param.Laws.{param_laws, number_array_laws}
 use denote.Struct.Struct.{as_fields}
-use denote.Triple.Walked.{Stays, stay_dropped, walk_of, Goes-dropped}
 use borrow.Table.OneValue.{part_out}
-use Rattle.core.proofs.alloc.Calls.{Goes-blank}
 use Rattle.core.proofs.alloc.Shapes.{after}
-use Rattle.std.proofs.raw_atomic.Walks.{proved_at}
 use Rattle.std_alloc.proofs.VecSteps.El.{El, R, el_x, elτ, sz, no_al}
 use Rattle.std_alloc.proofs.VecSteps.Rows as rows
-use Rattle.logbook.proofs.Fields.{token, token_told, ends}
+use Rattle.logbook.proofs.Fields.{token, token_told}
 use Rattle.arc_owners.proofs.Endings.{Walk, spends, enters, spent}
 use Rattle.arc_owners.proofs.Markers.{told}
 use Rattle.arc_memory.specs.Memory.{place_at}
