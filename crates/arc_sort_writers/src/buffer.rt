@@ -1,25 +1,21 @@
 //! Parts of a sole writer whose items lie in a caller's buffer.
 //!
 //! The buffer stays where it is, beside the count.
-ghost use Rattle.std.specs.Prelude.{◌≡◌, ◌≤◌, ◌+◌, ◌-◌, true, false, length, IfOk, IfErr};
-ghost use Rattle.std.specs.Prelude.{OnOk, Ok, Err, Some, ℕ};
-ghost use Rattle.std.specs.Mem.{FitsInMemory, type_size};
+ghost use Rattle.std.specs.Prelude.{◌≡◌, ◌≤◌, ◌+◌, ◌-◌, true, false, length, IfOk, IfErr, OnOk, Ok};
+ghost use Rattle.std.specs.Prelude.{Err, ℕ, IsTrue, ◌↔◌};
+ghost use Rattle.std.specs.Mem.{type_size};
 ghost use Rattle.arc_owners.specs.count.Calls.{IsPassOfNone};
 ghost use Rattle.arc_owners.specs.memory.SoleBoxes.{sole_in, sole_value};
-ghost use Rattle.arc_block.specs.Block.{buffer, buffer_info, IsLimited};
-ghost use Rattle.arc_block.specs.Contents.{content_sort, held_in};
+ghost use Rattle.arc_block.specs.Block.{buffer, buffer_info};
+ghost use Rattle.arc_block.specs.Contents.{held_in};
 ghost use Rattle.arc_sort_writers.specs.Growth.{AsksForRoom};
 ghost use Rattle.arc_parts.specs.declared.room.Room.TheVariants.{Front, Growth, Own};
-ghost use Rattle.arc_parts.specs.Room.{IfSpare, IfFresh, IfBehind, IfGrowth, IfFront, IfOwn};
-ghost use Rattle.arc_parts.specs.Room.{IsBuffersRefusal, IsBuffersRoom};
-ghost use Rattle.arc_parts.specs.Steps.{IsPassAt, EndsShownAt, Begins, MakesOver};
-ghost use Rattle.arc_parts.specs.Writers.{capacity_of, room_for, with_room};
-ghost use Rattle.arc_sort_writers.specs.SortParts.{block_part};
-ghost use Rattle.arc_parts.specs.Writers.{MakesRoom, MakesBufferWriter};
+ghost use Rattle.arc_parts.specs.Room.{IfSpare, IfFront, IfOwn, IsBuffersRefusal, IsBuffersRoom};
+ghost use Rattle.arc_parts.specs.Steps.{EndsShownAt};
+ghost use Rattle.arc_parts.specs.Writers.{capacity_of, room_for, with_room, MakesBufferWriter};
 ghost use Rattle.arc_parts.specs.Writers.{IsWriterPlace};
+ghost use Rattle.arc_sort_writers.specs.SortParts.{block_part};
 ghost use Rattle.arc_block.specs.Place.{size_at, offset_at};
-ghost use Rattle.std.specs.Prelude.{IsTrue};
-ghost use Rattle.std.specs.Prelude.{◌↔◌};
 ghost use Rattle.arc_parts.specs.Window.{IsOfBuffer};
 ghost use Rattle.arc_parts.specs.Shared.{is_vector_at};
 

@@ -1,7 +1,7 @@
 //! Parts of a window that writes as the only owner of a native block, or on nothing.
 ghost use Rattle.arc_owners.specs.history.Histories.{Counted};
-ghost use Rattle.std.specs.Prelude.{◌≡◌, ◌≤◌, ◌<◌, ◌+◌, ◌-◌, ◌^◌, ◌++◌, ◌∷◌};
-ghost use Rattle.std.specs.Prelude.{[], length, replicate, true, false, IfOk, IfErr, OnOk, OnErr};
+ghost use Rattle.std.specs.Prelude.{◌≡◌, ◌≤◌, ◌<◌, ◌+◌, ◌-◌, ◌^◌, [], length, replicate};
+ghost use Rattle.std.specs.Prelude.{true, false, IfOk, IfErr, OnOk, OnErr, IsTrue, ◌↔◌};
 ghost use Rattle.std.specs.Mem.{FitsInMemory, type_size};
 ghost use Rattle.arc_owners.specs.count.Calls.{IsPassOfNone};
 ghost use Rattle.arc_owners.specs.memory.SoleCounts.{count_owner};
@@ -9,19 +9,13 @@ ghost use Rattle.arc_memory.specs.Sources.{IsPiece};
 ghost use Rattle.arc_block.specs.declared.block.TheConstants.{MAX_OWNERS};
 ghost use Rattle.arc_parts.specs.declared.room.Room.TheVariants.{Behind, Front, Growth};
 ghost use Rattle.arc_block.specs.Block.{IsLimited, native};
-ghost use Rattle.arc_block.specs.Place.{nowhere};
+ghost use Rattle.arc_block.specs.Place.{nowhere, size_at, offset_at};
 ghost use Rattle.arc_parts.specs.Room.{IfSpare, IfFresh, IfBehind, IfGrowth, IfFront, IfOwn};
 ghost use Rattle.arc_parts.specs.Steps.{IsPassAt, EndsShownAt};
 ghost use Rattle.arc_block.specs.Table.{sole_writer};
-ghost use Rattle.arc_parts.specs.Writers.{capacity_of, room_for, with_room};
-ghost use Rattle.arc_sort_writers.specs.SortParts.{sole_native_part};
-ghost use Rattle.arc_parts.specs.Writers.{IsNewWriter, IsWriterOver, MakesWriter};
-ghost use Rattle.arc_parts.specs.Writers.{MakesRoom};
-ghost use Rattle.arc_sort_writers.specs.SortParts.{CanGrowNative};
-ghost use Rattle.arc_parts.specs.Writers.{IsWriterPlace};
-ghost use Rattle.arc_block.specs.Place.{size_at, offset_at};
-ghost use Rattle.std.specs.Prelude.{IsTrue};
-ghost use Rattle.std.specs.Prelude.{◌↔◌};
+ghost use Rattle.arc_parts.specs.Writers.{capacity_of, room_for, with_room, IsNewWriter};
+ghost use Rattle.arc_parts.specs.Writers.{IsWriterOver, MakesWriter, MakesRoom, IsWriterPlace};
+ghost use Rattle.arc_sort_writers.specs.SortParts.{sole_native_part, CanGrowNative};
 ghost use Rattle.arc_parts.specs.Window.{IsOfBuffer};
 ghost use Rattle.arc_parts.specs.Shared.{is_vector_at};
 

@@ -37,7 +37,6 @@ pub struct SharedNative<T: Drop, A: Allocator + Copy = Global, H: Mark = Open> {
 }
 
 impl<T: Drop, A: Allocator + Copy, H: Mark> Model for SharedNative<T, A, H> {
-    ghost use Rattle.arc_owners.specs.count.Calls.{Owner};
     ghost use Rattle.arc_memory.specs.SharedWriters.{writer_owner, writer_value, writer_range};
     ghost use Rattle.arc_block.specs.Block.{IsLimited};
     ghost use Rattle.arc_sort_writers.specs.NativeWriters.{NativeWriter, native_writer_seen};

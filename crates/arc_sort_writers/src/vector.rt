@@ -1,7 +1,7 @@
 //! Parts of a window that writes as the only owner of a vector.
 ghost use Rattle.arc_owners.specs.history.Histories.{Counted};
-ghost use Rattle.std.specs.Prelude.{◌≡◌, ◌≤◌, ◌<◌, ◌+◌, ◌-◌, ◌^◌, ◌++◌, ◌∷◌};
-ghost use Rattle.std.specs.Prelude.{[], length, false, IfOk, IfErr, OnOk, OnErr};
+ghost use Rattle.std.specs.Prelude.{◌≡◌, ◌≤◌, ◌<◌, ◌+◌, ◌-◌, ◌^◌, length, false};
+ghost use Rattle.std.specs.Prelude.{IfOk, IfErr, OnOk, OnErr, IsTrue, ◌↔◌};
 ghost use Rattle.std.specs.Mem.{FitsInMemory, type_size};
 ghost use Rattle.std.specs.Vec.{vec_capacity, vec_len};
 ghost use Rattle.arc_owners.specs.memory.SoleBoxes.{sole_in};
@@ -10,14 +10,10 @@ ghost use Rattle.arc_parts.specs.declared.room.Room.TheVariants.{Front, Growth};
 ghost use Rattle.arc_block.specs.Block.{IsLimited, vector};
 ghost use Rattle.arc_parts.specs.Room.{IfSpare, IfFresh, IfBehind, IfGrowth, IfFront, IfOwn};
 ghost use Rattle.arc_parts.specs.Steps.{IsPassAt, EndsShownAt};
-ghost use Rattle.arc_parts.specs.Writers.{capacity_of, room_for, with_room};
-ghost use Rattle.arc_sort_writers.specs.SortParts.{vector_part};
-ghost use Rattle.arc_parts.specs.Writers.{IsWriterOver, MakesRoom};
-ghost use Rattle.arc_sort_writers.specs.SortParts.{CanGrow};
-ghost use Rattle.arc_parts.specs.Writers.{IsWriterPlace};
+ghost use Rattle.arc_parts.specs.Writers.{capacity_of, room_for, with_room, IsWriterOver};
+ghost use Rattle.arc_parts.specs.Writers.{MakesRoom, IsWriterPlace};
+ghost use Rattle.arc_sort_writers.specs.SortParts.{vector_part, CanGrow};
 ghost use Rattle.arc_block.specs.Place.{size_at, offset_at};
-ghost use Rattle.std.specs.Prelude.{IsTrue};
-ghost use Rattle.std.specs.Prelude.{◌↔◌};
 ghost use Rattle.arc_parts.specs.Window.{IsOfBuffer};
 ghost use Rattle.arc_parts.specs.Shared.{is_vector_at};
 

@@ -1,17 +1,16 @@
 //! Parts over a caller's buffer, or over an `Arc` of one: made of them, and taken back.
 ghost use Rattle.arc_owners.specs.history.Histories.{Counted};
-ghost use Rattle.std.specs.Prelude.{◌≡◌, ◌↔◌, false, length, Some, None};
-ghost use Rattle.std.specs.Prelude.{IfOk, IfErr, IfSome, IfNone, IsTrue};
+ghost use Rattle.std.specs.Prelude.{◌≡◌, ◌↔◌, false, length, Some, None, IfOk, IfErr, IfSome};
+ghost use Rattle.std.specs.Prelude.{IfNone, IsTrue};
 ghost use Rattle.std.specs.Arc.{arc_value};
 ghost use Rattle.arc_owners.specs.count.Calls.{IsPassOfNone};
 ghost use Rattle.arc_block.specs.Block.{buffer_info, raw_info};
 ghost use Rattle.arc_block.specs.Metadata.{IsMetadataAt, IsOnCallers};
-ghost use Rattle.arc_block.specs.Place.{on_block, metadata_at};
+ghost use Rattle.arc_block.specs.Place.{on_block, metadata_at, size_at};
 ghost use Rattle.arc_block.specs.Table.{reader};
 ghost use Rattle.arc_parts.specs.Window.{IsBufferWhole, IsRawWhole, window_of};
-ghost use Rattle.arc_block.specs.Place.{size_at};
-ghost use Rattle.arc_parts.specs.Steps.{IsPassAt, MakesOver, MakesOverRaw, Begins};
-ghost use Rattle.arc_parts.specs.Steps.{TakesAt, RefusesTaking};
+ghost use Rattle.arc_parts.specs.Steps.{IsPassAt, MakesOver, MakesOverRaw, Begins, TakesAt};
+ghost use Rattle.arc_parts.specs.Steps.{RefusesTaking};
 
 use super::Parts;
 use crate::shared_buffer::SharedBuffer;

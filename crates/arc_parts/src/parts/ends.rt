@@ -60,21 +60,11 @@ impl<S: Slice, B: Buffer<S::Item> + Drop, M: Drop, A: Allocator + Copy, H: Mark>
         if !self.is_whole(N) {
             return Err(self);
         }
-        let Parts {
-            on,
-            start,
-            end,
-            alloc,
-        } = self;
+        let (on, start, end, alloc) = self.into_storage();
         match on {
             Storage::Native(block) => match block.try_into_memory_as(start, end, pass) {
                 Ok(memory) => Ok(memory.into_array()),
-                Err(block) => Err(Parts {
-                    on: Storage::Native(block),
-                    start,
-                    end,
-                    alloc,
-                }),
+                Err(block) => Err(Parts::over(Storage::Native(block), start, end, alloc)),
             },
             Storage::Block(block) => {
                 block.known_sort();
@@ -95,12 +85,7 @@ impl<S: Slice, B: Buffer<S::Item> + Drop, M: Drop, A: Allocator + Copy, H: Mark>
         ensures entry { at_owner self.place (pass.new ≡ pass.old) (λ o. (last : Bool)
             × Leaves o pass.old pass.new last) }
     {
-        let Parts {
-            on,
-            start: _,
-            end: _,
-            alloc: _,
-        } = self;
+        let (on, _, _, _) = self.into_storage();
         match on {
             Storage::Native(block) => {
                 let _ = block.release_as(pass);
@@ -124,12 +109,7 @@ impl<S: Slice, B: Buffer<S::Item> + Drop, M: Drop, A: Allocator + Copy, H: Mark>
         ensures forgotten { H.whole ≡ true → IsPassOfNone result }
         ensures ended { H.whole ≡ false → EndsAt self.place result }
     {
-        let Parts {
-            on,
-            start: _,
-            end: _,
-            alloc: _,
-        } = self;
+        let (on, _, _, _) = self.into_storage();
         match on {
             Storage::Native(block) => block.let_go(),
             Storage::Block(block) => block.let_go(),
@@ -149,12 +129,7 @@ impl<S: Slice, B: Buffer<S::Item> + Drop, M: Drop, A: Allocator + Copy, H: Mark>
         ensures entries { at_owner self.place (pass.new ≡ pass.old) (λ o.
             AsksAndLeaves o pass.old pass.new) }
     {
-        let Parts {
-            on,
-            start: _,
-            end: _,
-            alloc: _,
-        } = self;
+        let (on, _, _, _) = self.into_storage();
         match on {
             Storage::Native(block) => block.drop_with_unique_hint_as(pass),
             Storage::Block(block) => match block.try_into_content_as(pass) {
@@ -172,12 +147,7 @@ impl<S: Slice, B: Buffer<S::Item> + Drop, M: Drop, A: Allocator + Copy, H: Mark>
         requires { K.DROPS ≡ S.DROPS }
         ensures { result ≡ self }
     {
-        let Parts {
-            on,
-            start,
-            end,
-            alloc,
-        } = self;
+        let (on, start, end, alloc) = self.into_storage();
         let on = match on {
             Storage::Native(block) => Storage::Native(block.into_kind()),
             Storage::Block(block) => Storage::Block(block.into_kind()),
@@ -185,12 +155,7 @@ impl<S: Slice, B: Buffer<S::Item> + Drop, M: Drop, A: Allocator + Copy, H: Mark>
             Storage::Nothing(items) => Storage::Nothing(items),
             Storage::Raw(shared) => Storage::Raw(shared),
         };
-        Parts {
-            on,
-            start,
-            end,
-            alloc,
-        }
+        Parts::over(on, start, end, alloc)
     }
 
     /// The items as a slice that is there for good, where they stand on one, or on nothing. Else

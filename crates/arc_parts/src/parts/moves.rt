@@ -7,7 +7,7 @@ ghost use Rattle.arc_block.specs.Moves.{IsRefused, layout_move};
 ghost use Rattle.arc_block.specs.Place.{IsCounted};
 ghost use Rattle.arc_parts.specs.Steps.{IsPassAt};
 ghost use Rattle.arc_block.specs.Table.{reader};
-ghost use Rattle.arc_parts.specs.Window.{IsHeld, IsBlockHeld, IsOfSort};
+ghost use Rattle.arc_parts.specs.Window.{IsHeld, IsOfSort};
 ghost use Rattle.arc_block.specs.declared.layout.Move.TheVariants.{NewCount, LeavesCount};
 
 use super::Parts;
@@ -106,31 +106,21 @@ impl<S: Slice, B: Buffer<S::Item> + Drop, M: Drop, A: Allocator + Copy, H: Mark>
             Moves NewCount S.DROPS H.whole self parts pass.old pass.new) }
         ensures refused { IfErr result (λ back. (back ≡ self) × (pass.new ≡ pass.old)) }
     {
-        let Parts {
-            on,
-            start,
-            end,
-            alloc,
-        } = self;
+        let (on, start, end, alloc) = self.into_storage();
         let Storage::Raw(shared) = on else {
             unreachable!()
         };
         match Block::try_from_raw(alloc, shared.into_arc()) {
             Ok((block, new)) => {
                 *pass = new;
-                Ok(Parts {
-                    on: Storage::Block(block),
-                    start,
-                    end,
-                    alloc,
-                })
+                Ok(Parts::over(Storage::Block(block), start, end, alloc))
             }
-            Err(shared) => Err(Parts {
-                on: Storage::Raw(SharedBuffer::new(shared)),
+            Err(shared) => Err(Parts::over(
+                Storage::Raw(SharedBuffer::new(shared)),
                 start,
                 end,
                 alloc,
-            }),
+            )),
         }
     }
 
@@ -153,29 +143,14 @@ impl<S: Slice, B: Buffer<S::Item> + Drop, M: Drop, A: Allocator + Copy, H: Mark>
             Moves LeavesCount S.DROPS H.whole self parts pass.old pass.new) }
         ensures refused { IfErr result (λ back. (back ≡ self) × (pass.new ≡ pass.old)) }
     {
-        let Parts {
-            on,
-            start,
-            end,
-            alloc,
-        } = self;
+        let (on, start, end, alloc) = self.into_storage();
         let Storage::Block(block) = on else {
             unreachable!()
         };
         let Ok(shared) = block.try_clone_raw() else {
-            return Err(Parts {
-                on: Storage::Block(block),
-                start,
-                end,
-                alloc,
-            });
+            return Err(Parts::over(Storage::Block(block), start, end, alloc));
         };
         let _ = block.release_as(pass);
-        Ok(Parts {
-            on: Storage::Raw(SharedBuffer::new(shared)),
-            start,
-            end,
-            alloc,
-        })
+        Ok(Parts::over(Storage::Raw(SharedBuffer::new(shared)), start, end, alloc))
     }
 }

@@ -1,15 +1,14 @@
 //! Parts over a vector: made of one, and taken back as one.
-ghost use Rattle.std.specs.Prelude.{◌≡◌, ◌≤◌, ◌↔◌, false, length, IfOk, IfErr, IsTrue};
+ghost use Rattle.std.specs.Prelude.{◌≡◌, ◌≤◌, ◌↔◌, false, IfOk, IfErr, IsTrue};
 ghost use Rattle.std.specs.Vec.{vec_capacity, vec_len};
 ghost use Rattle.arc_buffer.specs.Slice.{sub};
 ghost use Rattle.arc_owners.specs.count.Calls.{IsPassOfNone, Asks};
-ghost use Rattle.arc_block.specs.Place.{at_owner};
+ghost use Rattle.arc_block.specs.Place.{at_owner, size_at};
 ghost use Rattle.arc_block.specs.Table.{reader};
 ghost use Rattle.arc_parts.specs.Window.{IsOfSort, IsVecPart, IsBoxWhole, window_of};
-ghost use Rattle.arc_block.specs.Place.{size_at};
 ghost use Rattle.arc_block.specs.Block.{vector};
-ghost use Rattle.arc_parts.specs.Steps.{IsPassAt, MakesOfVec, NeedsVecBlock, Begins};
-ghost use Rattle.arc_parts.specs.Steps.{TakesAt, RefusesTaking};
+ghost use Rattle.arc_parts.specs.Steps.{IsPassAt, MakesOfVec, NeedsVecBlock, Begins, TakesAt};
+ghost use Rattle.arc_parts.specs.Steps.{RefusesTaking};
 
 use super::Parts;
 use crate::storage::Storage;

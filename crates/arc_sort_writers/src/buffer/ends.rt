@@ -1,22 +1,19 @@
 //! How a sole writer's parts in a caller's buffer end, and what they become.
-ghost use Rattle.std.specs.Prelude.{◌≡◌, ◌≤◌, ◌↔◌, true, false, length, Some, None, ℕ};
-ghost use Rattle.std.specs.Prelude.{IfOk, IfErr, IfSome, IfNone, IsTrue};
-ghost use Rattle.arc_owners.specs.count.Calls.{Leaves, Learns, IsNewPass, IsPassOfNone};
-ghost use Rattle.arc_owners.specs.count.Calls.{SeesAlone};
+ghost use Rattle.std.specs.Prelude.{◌≡◌, ◌↔◌, true, false, Some, None, ℕ, IfOk, IfErr};
+ghost use Rattle.std.specs.Prelude.{IfSome, IfNone, IsTrue};
+ghost use Rattle.arc_owners.specs.count.Calls.{Leaves, Learns, IsNewPass, IsPassOfNone, SeesAlone};
 ghost use Rattle.arc_owners.specs.memory.SoleBoxes.{sole_in, sole_value};
 ghost use Rattle.arc_block.specs.LayoutFacts.{layout_facts};
 ghost use Rattle.arc_block.specs.Contents.{held_in};
-ghost use Rattle.arc_block.specs.Metadata.{IsMetadataAt, IsOnCallers};
+ghost use Rattle.arc_block.specs.Metadata.{IsMetadataAt};
 ghost use Rattle.arc_block.specs.Moves.{IsRefused, layout_move};
-ghost use Rattle.arc_block.specs.Place.{at_owner, metadata_at, IsOnBlock};
+ghost use Rattle.arc_block.specs.Place.{at_owner, metadata_at, IsOnBlock, size_at};
 ghost use Rattle.arc_parts.specs.Steps.{IsPassAt, EndsAt, Makes, Begins};
 ghost use Rattle.arc_block.specs.Table.{reader};
-ghost use Rattle.arc_parts.specs.Window.{IsBufferWhole, IsVecPart, IsBoxWhole, IsHeld};
-ghost use Rattle.arc_parts.specs.Window.{IsBlockHeld, window_of};
-ghost use Rattle.arc_parts.specs.Writers.{as_reader};
+ghost use Rattle.arc_parts.specs.Window.{IsBufferWhole, IsVecPart, IsBoxWhole, IsHeld, IsBlockHeld};
+ghost use Rattle.arc_parts.specs.Window.{window_of};
+ghost use Rattle.arc_parts.specs.Writers.{as_reader, Freezes, IsWholeWriter};
 ghost use Rattle.arc_sort_writers.specs.SortParts.{block_part, IsBufferWithin};
-ghost use Rattle.arc_block.specs.Place.{size_at};
-ghost use Rattle.arc_parts.specs.Writers.{Freezes, IsWholeWriter};
 
 use super::SoleBuffer;
 use arc_block::block::{Block, Content, MAX_OWNERS, SoleCount};

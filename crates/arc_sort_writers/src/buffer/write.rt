@@ -2,7 +2,7 @@
 ghost use Rattle.std.specs.Prelude.{◌≡◌, ◌≤◌, ◌<◌, ◌+◌, ◌++◌, ◌∷◌, [], length, take, drop};
 ghost use Rattle.std.specs.Prelude.{IfErr, OnOk, Err};
 ghost use Rattle.std.specs.Borrow.{sem};
-ghost use Rattle.std.specs.Mem.{FitsInMemory, type_size};
+ghost use Rattle.std.specs.Mem.{type_size};
 ghost use Rattle.arc_sort_writers.specs.Growth.{IfAsked, AsksForRoom, without_item};
 ghost use Rattle.arc_parts.specs.Steps.{IsPassAt};
 ghost use Rattle.arc_parts.specs.Writers.{capacity_of, room_for, MakesRoom, Pushes, Reclaims};

@@ -1,8 +1,7 @@
 //! How a sole writer's parts on a vector end, and what they become.
-ghost use Rattle.std.specs.Prelude.{◌≡◌, ◌↔◌, ℕ, true, false, IfOk, IfErr, IsTrue};
-ghost use Rattle.std.specs.Prelude.{IfSome, IfNone, Some, None};
-ghost use Rattle.arc_owners.specs.count.Calls.{Leaves, Learns, IsNewPass, IsPassOfNone};
-ghost use Rattle.arc_owners.specs.count.Calls.{SeesAlone};
+ghost use Rattle.std.specs.Prelude.{◌≡◌, ◌↔◌, ℕ, true, false, IfOk, IfErr, IsTrue, IfSome, IfNone};
+ghost use Rattle.std.specs.Prelude.{Some, None};
+ghost use Rattle.arc_owners.specs.count.Calls.{Leaves, Learns, IsNewPass, IsPassOfNone, SeesAlone};
 ghost use Rattle.arc_block.specs.LayoutFacts.{layout_facts};
 ghost use Rattle.arc_block.specs.Metadata.{IsMetadataAt, IsOnCallers};
 ghost use Rattle.arc_block.specs.Place.{at_owner, metadata_at, IsOnBlock};
