@@ -1,17 +1,20 @@
 //! Blocks of a caller's making: a vector, a buffer or an `Arc` of one, which stays where it is
 //! while a window stands on it.
-ghost use Rattle.std.specs.Prelude.{◌≡◌, ◌≤◌, ◌↔◌, length, true, false, Bool, IsTrue, IfOk, IfErr};
-ghost use Rattle.std.specs.Prelude.{OnErr, IfSome, IfNone, Some, None};
+ghost use Rattle.std.specs.Prelude.{◌≡◌, ◌≤◌, ◌↔◌, length, true, false, Bool, IsTrue};
+ghost use Rattle.std.specs.Prelude.{IfOk, IfErr, OnErr, IfSome, IfNone};
 ghost use Rattle.std.specs.Vec.{vec_capacity};
 ghost use Rattle.arc_owners.specs.count.Calls.{IsFirst, IsPassFor, IsFreshPass, IsNewPass, Learns};
 ghost use Rattle.arc_owners.specs.count.Calls.{Asks, RefusesOwner, MakesAnother, Leaves};
-ghost use Rattle.arc_owners.specs.count.Calls.{TakesBlock, IsPassOfNone, EndsByItself, EndsShown};
+ghost use Rattle.arc_owners.specs.count.Calls.{TakesBlock};
 ghost use Rattle.arc_owners.specs.history.Histories.{Counted};
+ghost use Rattle.arc_owners.specs.count.Calls.{IsPassOfNone, EndsByItself, EndsShown};
 ghost use Rattle.arc_buffer.specs.Slice.{sub};
-ghost use Rattle.arc_block.specs.Block.{native, vector, buffer, raw, IsLimited, IsWritable};
-ghost use Rattle.arc_block.specs.Block.{held_as, buffer_block, raw_block, raw_info, IsBuffer};
-ghost use Rattle.arc_block.specs.Block.{IsBufferOf, full_places};
+ghost use Rattle.arc_block.specs.Block.{native, vector, buffer, raw, IsLimited};
+ghost use Rattle.arc_block.specs.Block.{IsWritable, held_as, buffer_block, raw_block};
+ghost use Rattle.arc_block.specs.Block.{raw_info};
 ghost use Rattle.std.specs.Arc.{arc_value};
+ghost use Rattle.std.specs.Prelude.{Some, None};
+ghost use Rattle.arc_block.specs.Block.{IsBuffer, IsBufferOf, full_places};
 ghost use Rattle.arc_block.specs.Contents.{held_in};
 ghost use Rattle.arc_block.specs.Unique.{AsksUnique, AsksOwn, IsOwnAnswer};
 ghost use Rattle.arc_block.specs.LayoutFacts.{layout_facts};

@@ -1,6 +1,7 @@
 //! Slice kinds: markers that say what a window's items are, and which lists of them are legal.
 ghost use Rattle.std.specs.Prelude.{◌≡◌, ℕ, ◌+◌, ◌≤◌, ◌↔◌, ◌==◌, if◌then◌else◌, Bool, IsOk, IfErr};
-ghost use Rattle.std.specs.Prelude.{false, List, [], ◌∷◌, ◌++◌, replicate, length};
+ghost use Rattle.std.specs.Prelude.{false};
+ghost use Rattle.std.specs.Prelude.{List, [], ◌∷◌, ◌++◌, replicate, length};
 ghost use Rattle.std.specs.Mem.{FitsInMemory, type_size};
 ghost use Rattle.arc_buffer.specs.Slice.{IsEdge, IsRange, sub};
 

@@ -1,5 +1,5 @@
 //! How bytes are printed: as a byte string, and in hexadecimal digits.
-ghost use Rattle.std.specs.Prelude.{◌≡◌, ◌<◌, flat_map};
+ghost use Rattle.std.specs.Prelude.{◌≡◌, ◌<◌, Bool, flat_map};
 ghost use Rattle.std.specs.Fmt.{WritesOnOk, digit_glyph};
 ghost use Rattle.arc_buffer.specs.Printed.{debug_byte, debug_bytes, hex_byte, hex_bytes};
 

@@ -1,5 +1,6 @@
 //! Items in lent places that nobody changes again, for several readers.
-ghost use Rattle.std.specs.Prelude.{◌≡◌, ℕ, ◌+◌, ◌-◌, ◌^◌, ◌<◌, ◌≤◌, List, length, take, drop};
+ghost use Rattle.std.specs.Prelude.{◌≡◌, ℕ, ◌+◌, ◌-◌, ◌^◌, ◌<◌, ◌≤◌, List};
+ghost use Rattle.std.specs.Prelude.{length, take, drop};
 ghost use Rattle.arc_memory.specs.LentMemory.{LentMemory, lent_memory_code, frozen_owns};
 
 use arc_owners::lifetime::LifetimeToken;

@@ -1,5 +1,5 @@
 //! Metadata that lies in a caller's buffer.
-ghost use Rattle.std.specs.Prelude.{IfSome, IfNone};
+ghost use Rattle.std.specs.Prelude.{◌≡◌, IfSome, IfNone};
 ghost use Rattle.arc_block.specs.Metadata.{IsCallers, IsOwnMetadata};
 
 use super::{Block, Content};

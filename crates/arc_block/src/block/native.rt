@@ -4,17 +4,19 @@
 //! What its counted box keeps is that the memory comes back at the end. The box lies in front of
 //! the items, in the same piece of memory. An owner reads by where the items begin, and touches
 //! neither the count nor what is kept.
-ghost use Rattle.std.specs.Prelude.{◌≡◌, ◌≤◌, ◌+◌, ◌-◌, ◌↔◌, Bool, true, false, IsTrue, IfOk};
-ghost use Rattle.std.specs.Prelude.{IfErr, IfSome, IfNone, is_some, length, is_ok};
-ghost use Rattle.arc_owners.specs.count.Calls.{IsPassFor, IsNewPass, Learns, Asks, RefusesOwner};
-ghost use Rattle.arc_owners.specs.count.Calls.{MakesAnother, Leaves, AsksAndLeaves, EndsByItself};
-ghost use Rattle.arc_owners.specs.count.Calls.{IsPassOfNone, EndsShown, TakesBlock, Owner, IsFirst};
-ghost use Rattle.arc_owners.specs.count.Calls.{IsFreshPass};
+ghost use Rattle.std.specs.Prelude.{◌≡◌, ◌≤◌, ◌+◌, ◌-◌, ◌↔◌, Bool, true, false, IsTrue};
+ghost use Rattle.std.specs.Prelude.{IfOk, IfErr, IfSome, IfNone, is_some};
+ghost use Rattle.arc_owners.specs.count.Calls.{IsPassFor, IsNewPass, Learns, Asks};
+ghost use Rattle.arc_owners.specs.count.Calls.{RefusesOwner};
 ghost use Rattle.arc_owners.specs.history.Histories.{Counted};
+ghost use Rattle.arc_owners.specs.count.Calls.{MakesAnother, Leaves, AsksAndLeaves, EndsByItself};
+ghost use Rattle.arc_owners.specs.count.Calls.{IsPassOfNone, EndsShown, TakesBlock};
 ghost use Rattle.arc_memory.specs.KeptPlaces.{kept_in};
 ghost use Rattle.arc_memory.specs.PieceParts.{IsRoomOf};
 ghost use Rattle.arc_memory.specs.Sources.{IsPiece};
 ghost use Rattle.arc_buffer.specs.Slice.{sub};
+ghost use Rattle.std.specs.Prelude.{length, is_ok};
+ghost use Rattle.arc_owners.specs.count.Calls.{Owner, IsFirst, IsFreshPass};
 ghost use Rattle.arc_owners.specs.memory.Boxes.{owner_in, value_of, place_in};
 ghost use Rattle.arc_owners.specs.memory.SoleCounts.{count_owner};
 ghost use Rattle.arc_block.specs.Block.{IsLimited};

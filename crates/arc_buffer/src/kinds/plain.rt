@@ -1,5 +1,5 @@
 //! Items that are plain data.
-ghost use Rattle.std.specs.Prelude.{false, refl};
+ghost use Rattle.std.specs.Prelude.{◌≡◌, false, refl};
 ghost use Rattle.arc_buffer.specs.Slice.{anywhere};
 ghost use Rattle.arc_buffer.specs.Laws.{anywhere_at_ends};
 
