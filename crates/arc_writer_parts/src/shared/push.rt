@@ -1,5 +1,6 @@
 //! Items that one of several writers puts behind his own.
-ghost use Rattle.std.specs.Prelude.{◌≡◌, ◌≤◌, ◌+◌, ◌++◌, ◌∷◌, [], length, false, IfErr, OnOk, Err};
+ghost use Rattle.std.specs.Prelude.{◌≡◌, ◌≤◌, ◌+◌, ◌++◌, ◌∷◌, [], length, false};
+ghost use Rattle.std.specs.Prelude.{IfErr, OnOk, Err};
 ghost use Rattle.std.specs.Mem.{FitsInMemory, type_size};
 ghost use Rattle.arc_parts.specs.Shared.{MakesSharedRoom, PushesShared, asks_alone, extended};
 ghost use Rattle.arc_parts.specs.Steps.{IsPassAt};

@@ -4,7 +4,7 @@ ghost use Rattle.std.specs.Mem.{FitsInMemory, type_size};
 ghost use Rattle.arc_parts.specs.Shared.{MakesSharedRoom, MakesRoomBeside, ReclaimsShared};
 ghost use Rattle.arc_parts.specs.Shared.{asks_alone, as_shared, is_on_block};
 ghost use Rattle.arc_parts.specs.Steps.{IsPassAt};
-ghost use Rattle.arc_parts.specs.Window.{IsOfBuffer};
+ghost use Rattle.arc_parts.specs.Window.{IsOfBuffer, PartsView};
 ghost use Rattle.arc_parts.specs.Writers.{capacity_of, room_for};
 
 use super::{SharedParts, SharedStorage};

@@ -1,5 +1,5 @@
 //! What one of several writers takes back, where he is alone: a vector's items, or an array.
-ghost use Rattle.std.specs.Prelude.{◌≡◌, IfOk, IfErr};
+ghost use Rattle.std.specs.Prelude.{◌≡◌, ◌↔◌, false, IfOk, IfErr, IsTrue};
 ghost use Rattle.std.specs.Vec.{vec_capacity};
 ghost use Rattle.arc_parts.specs.Steps.{IsPassAt, TakesAt, RefusesTaking};
 ghost use Rattle.arc_parts.specs.Window.{IsVecPart, IsBoxWhole};

@@ -1,7 +1,8 @@
 //! What one of several writers does to its items, in the places that it has.
-ghost use Rattle.std.specs.Prelude.{◌≡◌, ◌≤◌, ◌+◌, length, false};
+ghost use Rattle.std.specs.Prelude.{◌≡◌, ◌≤◌, ◌+◌, ◌∷◌, [], length, false};
 ghost use Rattle.std.specs.Borrow.{sem};
-ghost use Rattle.arc_parts.specs.Writers.{after_advance, after_truncate};
+ghost use Rattle.arc_parts.specs.Shared.{extended};
+ghost use Rattle.arc_parts.specs.Writers.{capacity_of, after_advance, after_truncate};
 
 use super::{SharedParts, SharedStorage};
 use arc_buffer::buffer::BufferMut;

@@ -1,17 +1,18 @@
 //! How a sole writer's parts end, and what they become.
-ghost use Rattle.std.specs.Prelude.{◌≡◌, ◌↔◌, true, false, IfOk, IfErr, IsTrue, is_ok};
+ghost use Rattle.std.specs.Prelude.{◌≡◌, ◌≤◌, ◌↔◌, true, false, length, IfOk, IfErr, IsTrue, is_ok};
 ghost use Rattle.arc_owners.specs.count.Calls.{Asks, Leaves, Learns, IsNewPass, IsPassOfNone};
-ghost use Rattle.arc_owners.specs.count.Calls.{SeesAlone, IsPassFor};
 ghost use Rattle.arc_block.specs.LayoutFacts.{layout_facts};
-ghost use Rattle.arc_parts.specs.declared.storage.Storage.TheVariants.{Block as In, Native as On};
+ghost use Rattle.arc_owners.specs.count.Calls.{SeesAlone, IsPassFor};
+ghost use Rattle.arc_parts.specs.declared.storage.Storage.TheVariants.{Block as In};
+ghost use Rattle.arc_parts.specs.declared.storage.Storage.TheVariants.{Native as On};
 ghost use Rattle.arc_block.specs.Block.{IsWritable};
 ghost use Rattle.arc_block.specs.Place.{at_owner, IsOnBlock};
 ghost use Rattle.arc_block.specs.Table.{reader};
 ghost use Rattle.arc_parts.specs.Steps.{IsPassAt, EndsAt, Makes, Begins};
-ghost use Rattle.arc_parts.specs.Writers.{as_reader, as_sole, Freezes, IsWholeWriter, BecomesSole};
-ghost use Rattle.arc_parts.specs.Writers.{RefusesSole};
-ghost use Rattle.arc_parts.specs.Window.{IsHeld, IsBlockHeld, window_of, IsWithin, parts_of};
-ghost use Rattle.arc_parts.specs.Window.{window_seen};
+ghost use Rattle.arc_parts.specs.Writers.{as_reader, as_sole, Freezes, IsWholeWriter};
+ghost use Rattle.arc_parts.specs.Writers.{BecomesSole, RefusesSole};
+ghost use Rattle.arc_parts.specs.Window.{IsHeld, IsBlockHeld, window_of};
+ghost use Rattle.arc_parts.specs.Window.{IsWithin, parts_of, window_seen};
 ghost use Rattle.arc_block.specs.Moves.{IsRefused, layout_move};
 
 use super::{SoleParts, SoleStorage};

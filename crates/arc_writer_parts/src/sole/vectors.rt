@@ -4,10 +4,11 @@ ghost use Rattle.std.specs.Prelude.{◌≡◌, ◌≤◌, true, IfOk, IfErr};
 ghost use Rattle.std.specs.Vec.{vec_capacity};
 ghost use Rattle.arc_owners.specs.count.Calls.{IsPassOfNone, Leaves};
 ghost use Rattle.arc_block.specs.Block.{vector};
-ghost use Rattle.arc_block.specs.Place.{at_owner, size_at};
+ghost use Rattle.arc_block.specs.Place.{at_owner};
 ghost use Rattle.arc_parts.specs.Steps.{IsPassAt};
 ghost use Rattle.arc_parts.specs.Window.{IsVecPart, IsBoxWhole};
 ghost use Rattle.arc_parts.specs.Writers.{MakesWriterOver};
+ghost use Rattle.arc_block.specs.Place.{size_at};
 
 use super::{SoleParts, SoleStorage};
 use arc_buffer::buffer::BufferMut;
