@@ -263,15 +263,7 @@ impl<S: Slice, B: Buffer<S::Item> + Drop, M: Drop, A: Allocator + Copy, H: Mark>
         let (block, new) = NativeBlock::try_from_array(alloc, array)?;
         Ok(Self::over_new::<L>(alloc, block, end, new, pass))
     }
-}
 
-impl<S: Slice, B: Buffer<S::Item> + Drop, M: Drop, A: Allocator + Copy, H: Mark> Parts<
-    S,
-    B,
-    M,
-    A,
-    H,
-> {
     /// How many items there are.
     #[inline(always)]
     pub fn len(&self) -> usize

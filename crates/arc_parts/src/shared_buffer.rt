@@ -78,9 +78,7 @@ impl<T, B: Buffer<T> + Drop, A: Allocator> SharedBuffer<T, B, A> {
         let SharedBuffer { none: _, shared } = self;
         shared
     }
-}
 
-impl<T, B: Buffer<T> + Drop, A: Allocator> SharedBuffer<T, B, A> {
     /// The metadata that lies in the buffer.
     pub(crate) fn borrowed_metadata(&self) -> &B::Metadata
     where

@@ -45,6 +45,16 @@ pub struct SoleVector<
     alloc: A,
 }
 
+/// What they are of: the count, the vector, from where to before where of it the items are, and the
+/// allocator.
+type VectorFields<T, B, M, A, H> = (
+    SoleCount<T, B, M, A, MAX_OWNERS, H>,
+    Vec<T, A>,
+    usize,
+    usize,
+    A,
+);
+
 impl<S: Slice, B: Buffer<S::Item> + Drop, M: Drop, A: Allocator + Copy, H: Mark> Model
     for SoleVector<S, B, M, A, H> {
     ghost use Rattle.arc_owners.specs.memory.SoleBoxes.{sole_in};

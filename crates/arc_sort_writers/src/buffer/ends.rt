@@ -53,9 +53,16 @@ impl<S: Slice, B: BufferMut<S::Item> + Drop, M: Drop, A: Allocator + Copy, H: Ma
         }
     }
 
-    /// The same items and places, which others may read from now on.
-    pub fn freeze(self) -> Parts<S, B, M, A, H>
-        ensures { result ≡ as_reader self }
+    /// The count, which has the buffer, from where to before where the items are, and the
+    /// allocator.
+    #[inline(always)]
+    fn into_count(self) -> (SoleCount<S::Item, B, M, A, MAX_OWNERS, H>, usize, usize, A)
+        ensures within { IsBufferWithin H.whole
+            (held_in B.list B.places S.DROPS (sole_in result.0) (sole_value result.0))
+            result.1 result.2 }
+        ensures parts { self ≡ block_part S.DROPS
+            (held_in B.list B.places S.DROPS (sole_in result.0) (sole_value result.0))
+            result.1 result.2 }
     {
         let SoleBuffer {
             count,
@@ -63,6 +70,14 @@ impl<S: Slice, B: BufferMut<S::Item> + Drop, M: Drop, A: Allocator + Copy, H: Ma
             end,
             alloc,
         } = self;
+        (count, start, end, alloc)
+    }
+
+    /// The same items and places, which others may read from now on.
+    pub fn freeze(self) -> Parts<S, B, M, A, H>
+        ensures { result ≡ as_reader self }
+    {
+        let (count, start, end, alloc) = self.into_count();
         Parts::over(
             Storage::Block(Block::of_sole_buffer(count)),
             start,
@@ -136,12 +151,7 @@ impl<S: Slice, B: BufferMut<S::Item> + Drop, M: Drop, A: Allocator + Copy, H: Ma
         if !self.is_whole() {
             return Err(self);
         }
-        let SoleBuffer {
-            count,
-            start: _,
-            end: _,
-            alloc: _,
-        } = self;
+        let (count, _, _, _) = self.into_count();
         let held = count.into_value_as(pass).into_buffer();
         drop(held.metadata);
         Ok(held.buffer)
@@ -175,18 +185,8 @@ impl<S: Slice, B: BufferMut<S::Item> + Drop, M: Drop, A: Allocator + Copy, H: Ma
         requires { K.DROPS ≡ S.DROPS }
         ensures { result ≡ self }
     {
-        let SoleBuffer {
-            count,
-            start,
-            end,
-            alloc,
-        } = self;
-        SoleBuffer {
-            count,
-            start,
-            end,
-            alloc,
-        }
+        let (count, start, end, alloc) = self.into_count();
+        SoleBuffer::over(alloc, count, start, end)
     }
 
     /// Ends the parts, and gives the block back.
@@ -195,12 +195,7 @@ impl<S: Slice, B: BufferMut<S::Item> + Drop, M: Drop, A: Allocator + Copy, H: Ma
         ensures entry { at_owner self.place (pass.new ≡ pass.old) (λ o.
             Leaves o pass.old pass.new true) }
     {
-        let SoleBuffer {
-            count,
-            start: _,
-            end: _,
-            alloc: _,
-        } = self;
+        let (count, _, _, _) = self.into_count();
         drop(count.into_value_as(pass));
     }
 
@@ -209,12 +204,7 @@ impl<S: Slice, B: BufferMut<S::Item> + Drop, M: Drop, A: Allocator + Copy, H: Ma
         ensures forgotten { H.whole ≡ true → IsPassOfNone result }
         ensures ended { H.whole ≡ false → EndsAt self.place result }
     {
-        let SoleBuffer {
-            count,
-            start: _,
-            end: _,
-            alloc: _,
-        } = self;
+        let (count, _, _, _) = self.into_count();
         let (content, pass) = count.let_go();
         drop(content);
         pass

@@ -55,32 +55,23 @@ impl<S: Slice, M: Drop, A: Allocator + Copy, H: Mark> SoleNative<S, M, A, H> {
         ensures shared { IfOk result (λ writer. native_row writer ≡ as_shared self) }
         ensures idle { IfErr result (λ back. (back ≡ self) × IsAlonePlace self.place) }
     {
+        if self.count.is_none() {
+            return Err(self);
+        }
         let SoleNative {
             count,
             memory,
             start,
-            behind,
+            behind: _,
             beyond,
-            alloc,
-            marker,
+            alloc: _,
+            marker: _,
         } = self;
-        match count {
-            Some(count) => {
-                let capacity = memory.capacity() - beyond;
-                let mut writer = SharedNative::of_sole(count, memory, capacity);
-                writer.advance(start);
-                Ok(writer)
-            }
-            None => Err(SoleNative {
-                count: None,
-                memory,
-                start,
-                behind,
-                beyond,
-                alloc,
-                marker,
-            }),
-        }
+        let Some(count) = count else { unreachable!() };
+        let capacity = memory.capacity() - beyond;
+        let mut writer = SharedNative::of_sole(count, memory, capacity);
+        writer.advance(start);
+        Ok(writer)
     }
 
     /// All items of a block's memory, whose only owner this is, with the first `capacity` of the

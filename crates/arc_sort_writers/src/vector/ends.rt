@@ -2,6 +2,7 @@
 ghost use Rattle.std.specs.Prelude.{◌≡◌, ◌↔◌, ℕ, true, false, IfOk, IfErr, IsTrue, IfSome, IfNone};
 ghost use Rattle.std.specs.Prelude.{Some, None};
 ghost use Rattle.arc_owners.specs.count.Calls.{Leaves, Learns, IsNewPass, IsPassOfNone, SeesAlone};
+ghost use Rattle.arc_owners.specs.memory.SoleBoxes.{sole_in};
 ghost use Rattle.arc_block.specs.LayoutFacts.{layout_facts};
 ghost use Rattle.arc_block.specs.Metadata.{IsMetadataAt, IsOnCallers};
 ghost use Rattle.arc_block.specs.Place.{at_owner, metadata_at, IsOnBlock};
@@ -10,8 +11,9 @@ ghost use Rattle.arc_parts.specs.Steps.{IsPassAt, EndsAt, Makes, Begins};
 ghost use Rattle.arc_parts.specs.Writers.{as_reader, Freezes, IsWholeWriter};
 ghost use Rattle.arc_parts.specs.Window.{IsHeld, IsBlockHeld, IsBufferWhole, window_of};
 ghost use Rattle.arc_block.specs.Moves.{IsRefused, layout_move};
+ghost use Rattle.arc_sort_writers.specs.SortParts.{vector_part, IsVectorWithin};
 
-use super::SoleVector;
+use super::{SoleVector, VectorFields};
 use arc_block::block::{Block, end_sole};
 use arc_block::layout::Layout;
 use arc_buffer::buffer::{BorrowMetadata, Buffer};
@@ -29,10 +31,11 @@ impl<S: Slice, B: Buffer<S::Item> + Drop, M: Drop, A: Allocator + Copy, H: Mark>
     A,
     H,
 > {
-    /// The same items and places, which others may read from now on. It adds nothing and takes no
-    /// memory.
-    pub fn freeze(self) -> Parts<S, B, M, A, H>
-        ensures { result ≡ as_reader self }
+    /// The count, the vector, from where to before where of it the items are, and the allocator.
+    #[inline(always)]
+    pub(super) fn into_memory(self) -> VectorFields<S::Item, B, M, A, H>
+        ensures within { IsVectorWithin S.DROPS H.whole (sole_in result.0) result.1 result.2 result.3 }
+        ensures parts { self ≡ vector_part S.DROPS (sole_in result.0) result.1 result.2 result.3 }
     {
         let SoleVector {
             count,
@@ -41,6 +44,15 @@ impl<S: Slice, B: Buffer<S::Item> + Drop, M: Drop, A: Allocator + Copy, H: Mark>
             end,
             alloc,
         } = self;
+        (count, items, start, end, alloc)
+    }
+
+    /// The same items and places, which others may read from now on. It adds nothing and takes no
+    /// memory.
+    pub fn freeze(self) -> Parts<S, B, M, A, H>
+        ensures { result ≡ as_reader self }
+    {
+        let (count, items, start, end, alloc) = self.into_memory();
         Parts::over(
             Storage::Block(Block::of_sole(count, items)),
             start,
@@ -124,13 +136,7 @@ impl<S: Slice, B: Buffer<S::Item> + Drop, M: Drop, A: Allocator + Copy, H: Mark>
         requires { K.DROPS ≡ S.DROPS }
         ensures { result ≡ self }
     {
-        let SoleVector {
-            count,
-            items,
-            start,
-            end,
-            alloc,
-        } = self;
+        let (count, items, start, end, alloc) = self.into_memory();
         SoleVector {
             count,
             items,
@@ -150,13 +156,7 @@ impl<S: Slice, B: Buffer<S::Item> + Drop, M: Drop, A: Allocator + Copy, H: Mark>
         ensures entry { at_owner self.place (pass.new ≡ pass.old) (λ o.
             Leaves o pass.old pass.new true) }
     {
-        let SoleVector {
-            count,
-            items,
-            start: _,
-            end: _,
-            alloc: _,
-        } = self;
+        let (count, items, _, _, _) = self.into_memory();
         drop(count.into_value_as(pass));
         drop(items);
     }
@@ -172,13 +172,7 @@ impl<S: Slice, B: Buffer<S::Item> + Drop, M: Drop, A: Allocator + Copy, H: Mark>
         ensures forgotten { H.whole ≡ true → IsPassOfNone result }
         ensures ended { H.whole ≡ false → EndsAt self.place result }
     {
-        let SoleVector {
-            count,
-            items,
-            start: _,
-            end: _,
-            alloc: _,
-        } = self;
+        let (count, items, _, _, _) = self.into_memory();
         end_sole(count, items)
     }
 

@@ -93,13 +93,7 @@ impl<S: Slice, B: Buffer<S::Item> + Drop, M: Drop, A: Allocator + Copy, H: Mark>
         ensures taken { (result.items ≡ self.items) × (vec_capacity result ≡ size_at self.place) }
         ensures entry { at_owner self.place ⊥ (λ o. Leaves o pass.old pass.new true) }
     {
-        let SoleVector {
-            count,
-            items,
-            start,
-            end,
-            alloc: _,
-        } = self;
+        let (count, items, start, end, _) = self.into_memory();
         drop(count.into_value_as(pass));
         cut_to(items, start, end)
     }

@@ -1,5 +1,5 @@
 -- The items are all of the memory's.
-use Rattle.std.proofs.Common.{◌∙◌, rules}
+use Rattle.std.proofs.Common.{sym, ◌∙◌, rules}
 use Rattle.std.specs.Option.{option_map}
 use Rattle.arc_owners.specs.memory.SoleCounts.{count_owner}
 use Rattle.arc_parts.specs.Writers.{IsWholeWriter}
@@ -8,10 +8,11 @@ use Rattle.arc_sort_writers.proofs.native.SoleNative.try_into_array_as.Goals as 
 
 pub returns-clause-taken : goal.returns-clause-taken
 returns-clause-taken g c =
-    let whole : IsWholeWriter g.row.N c.args.self = c.is_whole.ensures.0 (search rules) in (
+    let whole : IsWholeWriter g.row.N c.args.self = c.is_whole.ensures.0 (search rules) in
+    let fields = c.into_fields-count.result in let was = c.into_fields-count.ensures in (
       whole,
       c.into_array.ensures
-          ∙ whole_native g.S.Slice.DROPS g.H.Mark.whole (option_map count_owner c.self.inside.count)
-          c.self.inside.memory c.self.inside.start c.self.inside.behind c.self.inside.beyond
-          g.row.N c.args.self c.self.view_is c.self.invariant.0 c.self.invariant.1 whole,
+          ∙ whole_native g.S.Slice.DROPS g.H.Mark.whole (option_map count_owner fields.0)
+          fields.1 fields.2 fields.3 fields.4 g.row.N c.args.self (sym was.parts) was.within
+          was.left whole,
     )
