@@ -106,7 +106,8 @@ impl<S: Slice, B: Buffer<S::Item> + Drop, M: Drop, A: Allocator + Copy, H: Mark>
             Moves NewCount S.DROPS H.whole self parts pass.old pass.new) }
         ensures refused { IfErr result (λ back. (back ≡ self) × (pass.new ≡ pass.old)) }
     {
-        let (Storage::Raw(shared), start, end, alloc) = self.into_storage() else {
+        let (on, start, end, alloc) = self.into_storage();
+        let Storage::Raw(shared) = on else {
             unreachable!()
         };
         match Block::try_from_raw(alloc, shared.into_arc()) {
@@ -142,7 +143,8 @@ impl<S: Slice, B: Buffer<S::Item> + Drop, M: Drop, A: Allocator + Copy, H: Mark>
             Moves LeavesCount S.DROPS H.whole self parts pass.old pass.new) }
         ensures refused { IfErr result (λ back. (back ≡ self) × (pass.new ≡ pass.old)) }
     {
-        let (Storage::Block(block), start, end, alloc) = self.into_storage() else {
+        let (on, start, end, alloc) = self.into_storage();
+        let Storage::Block(block) = on else {
             unreachable!()
         };
         let Ok(shared) = block.try_clone_raw() else {
