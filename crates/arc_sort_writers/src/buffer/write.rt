@@ -51,14 +51,8 @@ impl<S: Slice, B: BufferMut<S::Item> + Drop, M: Drop, A: Allocator + Copy, H: Ma
     /// The items, to be changed in their places: what is written there they are afterwards.
     pub fn as_mut_slice(&mut self) -> &mut [S::Item]
         ensures* writes_back { sem 𝓛 (lends_buffer_items S.row B.row M.row A.row H.row S.Item.row
-            S.TryFromSliceError.row H.Mark S.Slice
-            (record {
-              with_list = B.with_list;
-              with_part = B.with_part;
-              refuses = B.refuses;
-              grows = B.grows;
-            })
-            B.Buffer A.Allocator self.entry result) }
+            S.TryFromSliceError.row H.Mark S.Slice B.BufferMut.own B.Buffer
+            A.Allocator self.entry result) }
         ensures value { result.now ≡ self.old.items }
     {
         let (start, end) = (self.start, self.end);
