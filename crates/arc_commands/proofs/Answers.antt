@@ -410,31 +410,20 @@ module _ {T M : Type 0} (setting : Setting T) where
     same-move around row to.LeavesCount = refl
     same-move around row to.NewEmpty = refl
 
-  -- what is written, as far as there is room for it
+  -- what is written, as far as there is room for it: by the only writer, or by one of several
   same-filled : (around : Around) (row : Row T M) (items : List T) (c : ListCmd T M)
       (room : RoomFrom)
-      → filled setting (shortage (filled setting no_shortage around row items room).reply c) around
-      row items room ≡ filled setting no_shortage around row items room
-  same-filled around row items c (from.Refused e) = refl
-  same-filled around row items c (from.Own additional) = refl
-  same-filled around row items c (from.Fresh places) = refl
-  same-filled around row items c from.Spare = refl
-  same-filled around row items c from.Behind = refl
-  same-filled around row items c from.Front = refl
-  same-filled around row items c (from.Growth places) = refl
-
-  same-alone : (around : Around) (row : Row T M) (items : List T) (c : ListCmd T M)
-      (room : RoomFrom)
-      → filled_alone setting (shortage
-      (filled_alone setting no_shortage around items room row).reply
-      c) around items room row ≡ filled_alone setting no_shortage around items room row
-  same-alone around row items c (from.Refused e) = refl
-  same-alone around row items c (from.Own additional) = refl
-  same-alone around row items c (from.Fresh places) = refl
-  same-alone around row items c from.Spare = refl
-  same-alone around row items c from.Behind = refl
-  same-alone around row items c from.Front = refl
-  same-alone around row items c (from.Growth places) = refl
+      → let sole = λ (short : Shortage). filled setting short around row items room in
+      let shared = λ (short : Shortage). filled_alone setting short around items room row in
+      (sole (shortage (sole no_shortage).reply c) ≡ sole no_shortage)
+      × (shared (shortage (shared no_shortage).reply c) ≡ shared no_shortage)
+  same-filled around row items c (from.Refused e) = (refl, refl)
+  same-filled around row items c (from.Own additional) = (refl, refl)
+  same-filled around row items c (from.Fresh places) = (refl, refl)
+  same-filled around row items c from.Spare = (refl, refl)
+  same-filled around row items c from.Behind = (refl, refl)
+  same-filled around row items c from.Front = (refl, refl)
+  same-filled around row items c (from.Growth places) = (refl, refl)
 
   -- or where one of several isn't alone
   same-beside : (around : Around) (row : Row T M) (items : List T) (c : ListCmd T M) (k : ℕ)
@@ -444,7 +433,8 @@ module _ {T M : Type 0} (setting : Setting T) where
       filled_alone setting s around items (room_of setting row k) row in
       fills (shortage (fills no_shortage).reply c) ≡ fills no_shortage
   same-beside around row items c k true = refl
-  same-beside around row items c k false = same-alone around row items c (room_of setting row k)
+  same-beside around row items c k false =
+      (same-filled around row items c (room_of setting row k)).1
 
   same-as : (around : Around) (row : Row T M) (items : List T) (c : ListCmd T M) (k : ℕ) (b : Bool)
       → let fills = λ (s : Shortage).
@@ -453,7 +443,8 @@ module _ {T M : Type 0} (setting : Setting T) where
       fills (shortage (fills no_shortage).reply c) ≡ fills no_shortage
   same-as around row items c k true =
       same-beside around row items c k (is_beside around k row)
-  same-as around row items c k false = same-filled around row items c (room_of setting row k)
+  same-as around row items c k false =
+      (same-filled around row items c (room_of setting row k)).0
 
   same-written : (around : Around) (row : Row T M) (items : List T) (c : ListCmd T M) (k : ℕ)
       → written setting (shortage (written setting no_shortage around items k row).reply c) around

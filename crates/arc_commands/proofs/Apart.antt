@@ -26,7 +26,7 @@ use Rattle.arc_commands.specs.Step.{shortage, Step, Run, answer}
 use Rattle.arc_commands.specs.Step.{count_brought}
 use Rattle.arc_commands.proofs.Answers.{answer_each}
 use Rattle.arc_commands.proofs.Blocks.{begins, moved-to, only-here, only-lone, put-there}
-use Rattle.arc_commands.proofs.Blocks.{step_agrees}
+use Rattle.arc_commands.proofs.Blocks.{OnBlock, step_agrees}
 use Rattle.arc_commands.proofs.EachRow.{each-set, this}
 use Rattle.arc_commands.proofs.FitsStep.{not-apart, step_fits}
 use Rattle.arc_commands.proofs.Lists.{there}
@@ -113,9 +113,6 @@ on-row static_data (on_block n offset info) stays block on = absurd stays
 on-row (on_block one here old) (on_block n offset info) stays block on = stays.0 ∙ on
 
 module _ {T M : Type 0} where
-  abbrev OnBlock : ℕ → Row T M → Type 0
-  OnBlock block row = block_of row.place ≡ Some block
-
   abbrev Writes : Row T M → Type 0
   Writes row = is_writer row.role ≡ true
 

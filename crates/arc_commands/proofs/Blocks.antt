@@ -64,7 +64,7 @@ module _ {T M : Type 0} where
   ]
 
   -- a row on a block, and a row that stands on it as a sole writer's
-  abbrev OnBlock : ℕ → Row T M → Type 0
+  abbrev pub OnBlock : ℕ → Row T M → Type 0
   OnBlock block row = block_of row.place ≡ Some block
 
   abbrev Writes : Row T M → Type 0

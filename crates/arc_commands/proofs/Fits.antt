@@ -294,24 +294,23 @@ module _ {T M : Type 0} (drops : Bool) where
   pub sole-fits : (row : Row T M) → RowFits drops row → RowFits drops (as_sole drops row)
   sole-fits row f = at-fits (is_small row.role) row.items row.place f.within
 
+  -- a row of these items, which fill a new block; of none on no block, where it is to be so
+  abbrev filling : Role → (block : ℕ) → List T → (nothing : Bool) → Row T M
+  filling role block items nothing = record {
+    items = items;
+    place = if nothing then nowhere else
+        on_block (Some block) 0 (native_facts drops (length items));
+    role = role;
+  }
+
   -- a window that is made of a list
   pub founded-fits : (block : ℕ) (items : List T) (nothing : Bool)
-      → (nothing ≡ true → length items ≡ 0)
-      → RowFits {M = M} drops (record {
-        items = items;
-        place = if nothing then nowhere else
-            on_block (Some block) 0 (native_facts drops (length items));
-        role = reader;
-      })
+      → (nothing ≡ true → length items ≡ 0) → RowFits drops (filling reader block items nothing)
   founded-fits block items nothing none =
       let n = length items in
       let ends = ends-at drops n n (omega arith) in
       let place : Place (Option ℕ) M = on_block (Some block) 0 (native_facts drops n) in
-      reads-fit (record {
-        items = items;
-        place = if nothing then nowhere else place;
-        role = reader;
-      }) refl
+      reads-fit (filling reader block items nothing) refl
       (within-if drops false nothing place n none (counted drops n, omega (arith, ends.0), ends.1))
 
   -- a small window that has its items in itself, or stands where a reader would
@@ -322,18 +321,11 @@ module _ {T M : Type 0} (drops : Bool) where
       (λ none. absurd (false≢true (sym none)))
 
   pub small-fits : (block : ℕ) (items : List T) (nothing : Bool)
-      → (nothing ≡ true → length items ≡ 0)
-      → RowFits {M = M} drops (record {
-        items = items;
-        place = if nothing then nowhere else
-            on_block (Some block) 0 (native_facts drops (length items));
-        role = inline;
-      })
+      → (nothing ≡ true → length items ≡ 0) → RowFits drops (filling inline block items nothing)
   small-fits block items nothing none =
-      let place : Place (Option ℕ) M = if nothing then nowhere else
-      on_block (Some block) 0 (native_facts drops (length items)) in
-      reads-fit (record { items = items; place = place; role = inline }) refl
-      (within-small drops place (length items) (founded-fits block items nothing none).within)
+      let row = filling inline block items nothing in
+      reads-fit row refl
+      (within-small drops row.place (length items) (founded-fits block items nothing none).within)
 
   -- a window over a vector with so many places
   pub vector-fits : (block : ℕ) (items : List T) (places : ℕ) → length items ≤ places

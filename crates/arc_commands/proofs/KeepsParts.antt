@@ -21,7 +21,8 @@ use Rattle.arc_commands.specs.Fits.{RowFits}
 use Rattle.arc_commands.proofs.Among.{back-fits, extended-fits, front-fits}
 use Rattle.arc_commands.proofs.Parts.{KeepsPart, Parts, sole-with, stays-moved, stays-same}
 use Rattle.arc_commands.proofs.Parts.{writes-with}
-use Rattle.arc_commands.proofs.Roles.{several-is, several-small, several-sole, several-with}
+use Rattle.arc_commands.proofs.Roles.{several_each, several-is, several-small, several-sole}
+use Rattle.arc_commands.proofs.Roles.{several-with}
 use Rattle.arc_commands.proofs.Several.{split_parted}
 
 -- ---- places
@@ -131,11 +132,9 @@ truncate-part false row n less = record {
 -- one writer of several has a place for each item at least
 enough : (role : Role) (len : ℕ) → is_several role ≡ true → len ≤ capacity_of role
     → len ≤ role_places role len
-enough reader len several room = absurd (false≢true several)
-enough (sole_writer places) len several room = absurd (false≢true several)
-enough (one_writer_of_several places) len several room = room
-enough inline len several room = absurd (false≢true several)
-enough forgotten len several room = absurd (false≢true several)
+enough role len several =
+    several_each (λ r. len ≤ capacity_of r → len ≤ role_places r len) (λ places room. room) role
+    several
 
 -- as a reader one of several has the places of his items
 pub freeze-part : {T M : Type 0} (drops : Bool) (row : Row T M) → is_several row.role ≡ true
@@ -162,6 +161,13 @@ with-places role places len several =
 
 module _ {T M : Type 0} (drops : Bool) (row : Row T M) (several : is_several row.role ≡ true)
   where
+    -- all places are his, and with so many of them he has these
+    all : role_places row.role (length row.items) ≡ capacity_of row.role
+    all = among-places row.role (length row.items) several
+
+    own : (places len : ℕ) → role_places (with_capacity row.role places) len ≡ places
+    own places len = with-places row.role places len several
+
     pub extended-part : (items : List T)
         → (RowFits drops row → length row.items + length items ≤ capacity_of row.role)
         → KeepsPart drops row (extended items row)
@@ -171,11 +177,7 @@ module _ {T M : Type 0} (drops : Bool) (row : Row T M) (several : is_several row
       places = λ sole f n covers.
           covers-less row.place (role_places row.role (length (row.items ++ items)))
           (role_places row.role (length row.items)) n
-          (omega (
-            arith,
-            among-places row.role (length (row.items ++ items)) several,
-            among-places row.role (length row.items) several,
-          )) covers;
+          (omega (arith, among-places row.role (length (row.items ++ items)) several, all)) covers;
     }
 
     module _ (at : ℕ) (within : RowFits drops row → at ≤ capacity_of row.role) where
@@ -187,12 +189,7 @@ module _ {T M : Type 0} (drops : Bool) (row : Row T M) (several : is_several row
             covers-less row.place
             (role_places (with_capacity row.role at) (length (take at row.items)))
             (role_places row.role (length row.items)) n
-            (omega (
-              arith,
-              with-places row.role at (length (take at row.items)) several,
-              among-places row.role (length row.items) several,
-              within f,
-            )) covers;
+            (omega (arith, own at (length (take at row.items)), all, within f)) covers;
       }
 
       back-part : KeepsPart drops row (after_advance at row)
@@ -204,12 +201,7 @@ module _ {T M : Type 0} (drops : Bool) (row : Row T M) (several : is_several row
             covers-moved row.place at
             (role_places (with_capacity row.role behind) (length (drop at row.items)))
             (role_places row.role (length row.items)) n
-            (omega (
-              arith,
-              with-places row.role behind (length (drop at row.items)) several,
-              among-places row.role (length row.items) several,
-              within f,
-            )) covers;
+            (omega (arith, own behind (length (drop at row.items)), all, within f)) covers;
       }
 
       pub off-parts : Parts drops row (front_of at row) (after_advance at row)

@@ -24,11 +24,10 @@ use Rattle.arc_parts.specs.Shared.{split_answer}
 use Rattle.arc_block.specs.Table.{Row, Role, block_of}
 use Rattle.arc_block.specs.Table.{reader, sole_writer, one_writer_of_several, inline, forgotten}
 use Rattle.arc_parts.specs.Writers.{with_capacity, capacity_of, as_sole, after_advance}
-use Rattle.arc_parts.specs.Writers.{with_room, with_more, as_reader}
+use Rattle.arc_parts.specs.Writers.{with_full, with_room, with_more, as_reader}
 use Rattle.arc_block.specs.Place.{offset_at}
 use Rattle.arc_parts.specs.declared.room.Room.{Room as RoomFrom}
 use Rattle.arc_parts.specs.declared.room.Room.TheVariants as from
-use Rattle.arc_parts.proofs.More.{more_none}
 use Rattle.arc_commands.specs.Blocks.{is_several, is_sole, is_writer}
 use Rattle.arc_commands.specs.Changes.{Setting, Shortage, no_shortage, of_table, of_clones}
 use Rattle.arc_commands.specs.Changes.{of_blocks}
@@ -331,40 +330,39 @@ module _ {T M : Type 0} (setting : Setting T) (short : Shortage) (around : Aroun
   no-room reserve.Unsupported fine writes = inr (inr (inr writes))
   no-room reserve.CapacityOverflow fine writes = inr (inr (inr writes))
 
-  -- the row has room on its own block, and these items behind its others
-  stays-put : (r : RoomFrom) (items : List T) (place : Place (Option ℕ) M) (role : Role)
-      → block_of (with_more items (with_room r (record {
+  -- room on its own block leaves a row on it
+  room-put : (r : RoomFrom) (place : Place (Option ℕ) M) (role : Role)
+      → block_of (with_room r (record {
         items = row.items;
         place = place;
         role = role;
-      }))).place ≡ block_of place
-  stays-put from.Spare items nowhere role = refl
-  stays-put from.Spare items static_data role = refl
-  stays-put from.Spare items (on_block block offset info) role = refl
-  stays-put (from.Fresh places) items nowhere role = refl
-  stays-put (from.Fresh places) items static_data role = refl
-  stays-put (from.Fresh places) items (on_block block offset info) role = refl
-  stays-put from.Behind items nowhere role = refl
-  stays-put from.Behind items static_data role = refl
-  stays-put from.Behind items (on_block block offset info) role = refl
-  stays-put from.Front items nowhere role = refl
-  stays-put from.Front items static_data role = refl
-  stays-put from.Front items (on_block block offset info) role = refl
-  stays-put (from.Growth places) items nowhere role = refl
-  stays-put (from.Growth places) items static_data role = refl
-  stays-put (from.Growth places) items (on_block block offset info) role = refl
-  stays-put (from.Own additional) items nowhere role = refl
-  stays-put (from.Own additional) items static_data role = refl
-  stays-put (from.Own additional) items (on_block block offset info) role = refl
-  stays-put (from.Refused e) items nowhere role = refl
-  stays-put (from.Refused e) items static_data role = refl
-  stays-put (from.Refused e) items (on_block block offset info) role = refl
+      })).place ≡ block_of place
+  room-put from.Spare place role = refl
+  room-put from.Behind place role = refl
+  room-put (from.Fresh places) place role = refl
+  room-put (from.Own additional) place role = refl
+  room-put (from.Refused e) place role = refl
+  room-put from.Front nowhere role = refl
+  room-put from.Front static_data role = refl
+  room-put from.Front (on_block block offset info) role = refl
+  room-put (from.Growth places) nowhere role = refl
+  room-put (from.Growth places) static_data role = refl
+  room-put (from.Growth places) (on_block block offset info) role = refl
 
-  -- so it stays without items too
+  -- and so do more items behind its others
+  more-put : (full more : ℕ) (place : Place (Option ℕ) M)
+      → block_of (with_full full more place) ≡ block_of place
+  more-put full more nowhere = refl
+  more-put full more static_data = refl
+  more-put full more (on_block block offset info) = refl
+
   stays-alone : (r : RoomFrom) → StaysPut row (with_room r row)
-  stays-alone r =
-      ap (λ (x : Row T M). block_of x.place) (sym (more_none (with_room r row)))
-      ∙ stays-put r [] row.place row.role
+  stays-alone r = room-put r row.place row.role
+
+  stays-put : (r : RoomFrom) (items : List T) → StaysPut row (with_more items (with_room r row))
+  stays-put r items =
+      let new = with_room r row in
+      more-put (length new.items) (length items) new.place ∙ stays-alone r
 
   -- with this room it is one of several writers' where it was
   room-several : (r : RoomFrom) → is_several (with_room r row).role ≡ true
@@ -387,7 +385,7 @@ module _ {T M : Type 0} (setting : Setting T) (short : Shortage) (around : Aroun
       on-block r is made =
           each.refits (with_more items (with_room r row)) reply.Ok (inl refl) (inl sole)
           (room-turns r)
-          (stays-put r items row.place row.role)
+          (stays-put r items)
           (λ f. subst (λ x. RowFits setting.drops (with_more items (with_room x row))) (sym is)
           (room-fits setting.drops _ setting.item_size row items k enough sole f
           (subst IsMade is made)))
@@ -408,7 +406,7 @@ module _ {T M : Type 0} (setting : Setting T) (short : Shortage) (around : Aroun
           let made = max wanted around.places in
           each.refits (with_more items (with_room (from.Growth made) row)) reply.Ok (inl refl)
           (inl sole) (room-turns (from.Growth made))
-          (stays-put (from.Growth made) items row.place row.role)
+          (stays-put (from.Growth made) items)
           (λ f. own-fits setting.drops _ setting.item_size row items k j made enough sole f
           (sym is) (omega arith))
 

@@ -37,17 +37,28 @@ module _ {M : Type 0} where
 abbrev pub IsPart : {T M : Type 0} → Row T M → Row T M → Type 0
 IsPart row part = StaysOn row.place part.place × (is_sole part.role ≡ is_sole row.role)
 
+-- with other places a role is a sole writer's, or any writer's, as before
+same-with : (role : Role) (places : ℕ)
+    → (is_sole (with_capacity role places) ≡ is_sole role)
+    × (is_writer (with_capacity role places) ≡ is_writer role)
+same-with reader places = (refl, refl)
+same-with (sole_writer before) places = (refl, refl)
+same-with (one_writer_of_several before) places = (refl, refl)
+same-with inline places = (refl, refl)
+same-with forgotten places = (refl, refl)
+
 pub sole-with : (role : Role) (places : ℕ) → is_sole (with_capacity role places) ≡ is_sole role
-sole-with reader places = refl
-sole-with (sole_writer before) places = refl
-sole-with (one_writer_of_several before) places = refl
-sole-with inline places = refl
-sole-with forgotten places = refl
+sole-with role places = (same-with role places).0
+
+-- either of two roles of which this is the same
+same-either : (what : Role → Bool) (b : Bool) (role other : Role) → what other ≡ what role
+    → what (if b then other else role) ≡ what role
+same-either what true role other same = same
+same-either what false role other same = refl
 
 pub sole-either : (b : Bool) (role other : Role) → is_sole other ≡ is_sole role
     → is_sole (if b then other else role) ≡ is_sole role
-sole-either true role other same = same
-sole-either false role other same = refl
+sole-either = same-either is_sole
 
 -- where a row fits its place, what comes of it does too
 abbrev pub KeepsFit : {T M : Type 0} → Bool → Row T M → Row T M → Type 0
@@ -70,16 +81,11 @@ part-itself drops row = record {
 
 pub writes-with : (role : Role) (places : ℕ) → is_writer (with_capacity role places) ≡ is_writer
     role
-writes-with reader places = refl
-writes-with (sole_writer before) places = refl
-writes-with (one_writer_of_several before) places = refl
-writes-with inline places = refl
-writes-with forgotten places = refl
+writes-with role places = (same-with role places).1
 
 pub writes-either : (b : Bool) (role other : Role) → is_writer other ≡ is_writer role
     → is_writer (if b then other else role) ≡ is_writer role
-writes-either true role other same = same
-writes-either false role other same = refl
+writes-either = same-either is_writer
 
 -- Two parts of a row that isn't a sole writer's: of a writer's they share no place.
 pub record Parts {T M : Type 0} (drops : Bool) (row one other : Row T M) : Type 0 where

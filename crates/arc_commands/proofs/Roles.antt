@@ -15,6 +15,15 @@ sole_each P each (one_writer_of_several places) sole = absurd (false≢true sole
 sole_each P each inline sole = absurd (false≢true sole)
 sole_each P each forgotten sole = absurd (false≢true sole)
 
+-- and so of the role of each writer of several
+pub several_each : (P : Role → Type 0) → ((places : ℕ) → P (one_writer_of_several places))
+    → (role : Role) → is_several role ≡ true → P role
+several_each P each reader several = absurd (false≢true several)
+several_each P each (sole_writer places) several = absurd (false≢true several)
+several_each P each (one_writer_of_several places) several = each places
+several_each P each inline several = absurd (false≢true several)
+several_each P each forgotten several = absurd (false≢true several)
+
 -- what isn't a writer's role is that of no writer of either sort
 pub reads-sole : (role : Role) → is_writer role ≡ false → is_sole role ≡ false
 reads-sole reader reads = refl
@@ -32,11 +41,7 @@ reads-several forgotten reads = refl
 
 -- a sole writer is no writer of several
 pub sole-several : (role : Role) → is_sole role ≡ true → is_several role ≡ false
-sole-several reader sole = refl
-sole-several (sole_writer places) sole = refl
-sole-several (one_writer_of_several places) sole = absurd (false≢true sole)
-sole-several inline sole = refl
-sole-several forgotten sole = refl
+sole-several role sole = sole_each (λ r. is_several r ≡ false) (λ places. refl) role sole
 
 -- a writer who isn't the only one is one of several
 pub writes-several : (role : Role) → is_writer role ≡ true → is_sole role ≡ false
@@ -49,35 +54,22 @@ writes-several forgotten writes shares = absurd (false≢true writes)
 
 -- a writer's role is no small window's
 pub sole-small : (role : Role) → is_sole role ≡ true → is_small role ≡ false
-sole-small reader sole = refl
-sole-small (sole_writer places) sole = refl
-sole-small (one_writer_of_several places) sole = refl
-sole-small inline sole = absurd (false≢true sole)
-sole-small forgotten sole = refl
+sole-small role sole = sole_each (λ r. is_small r ≡ false) (λ places. refl) role sole
 
 pub several-small : (role : Role) → is_several role ≡ true → is_small role ≡ false
-several-small reader several = refl
-several-small (sole_writer places) several = refl
-several-small (one_writer_of_several places) several = refl
-several-small inline several = absurd (false≢true several)
-several-small forgotten several = refl
+several-small role several = several_each (λ r. is_small r ≡ false) (λ places. refl) role several
 
 -- one of several has this role, and with other places that
 pub several-is : (role : Role) → is_several role ≡ true
     → role ≡ one_writer_of_several (capacity_of role)
-several-is reader several = absurd (false≢true several)
-several-is (sole_writer places) several = absurd (false≢true several)
-several-is (one_writer_of_several places) several = refl
-several-is inline several = absurd (false≢true several)
-several-is forgotten several = absurd (false≢true several)
+several-is role several =
+    several_each (λ r. r ≡ one_writer_of_several (capacity_of r)) (λ places. refl) role several
 
 pub several-with : (role : Role) (places : ℕ) → is_several role ≡ true
     → with_capacity role places ≡ one_writer_of_several places
-several-with reader places several = absurd (false≢true several)
-several-with (sole_writer before) places several = absurd (false≢true several)
-several-with (one_writer_of_several before) places several = refl
-several-with inline places several = absurd (false≢true several)
-several-with forgotten places several = absurd (false≢true several)
+several-with role places several =
+    several_each (λ r. with_capacity r places ≡ one_writer_of_several places) (λ before. refl) role
+    several
 
 -- he is a writer, and not the only one
 pub several-writes : (role : Role) → is_several role ≡ true → is_writer role ≡ true

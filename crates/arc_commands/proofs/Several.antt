@@ -5,20 +5,11 @@ use Rattle.std.specs.Prelude.{nat_lt}
 use Rattle.std.proofs.lemmas.Bool.{and_parts, cases_Bool, eqb-true, false≢true, ltb-false, ltb-true}
 use Rattle.arc_block.specs.Place.{Place, nowhere, static_data, on_block, moved}
 use Rattle.arc_parts.specs.Shared.{can_join, ends_at, front_of, joined_row}
-use Rattle.arc_block.specs.Table.{Row, Role, reader, sole_writer, one_writer_of_several, inline}
-use Rattle.arc_block.specs.Table.{forgotten}
+use Rattle.arc_block.specs.Table.{Row, one_writer_of_several}
 use Rattle.arc_parts.specs.Writers.{after_advance, capacity_of}
 use Rattle.arc_commands.specs.Apart.{CoversAt, IsParted}
 use Rattle.arc_commands.specs.Blocks.{is_several}
-
--- what holds of the role of each writer of several holds of one that is
-several_each : (P : Role → Type 0) → ((places : ℕ) → P (one_writer_of_several places))
-    → (role : Role) → is_several role ≡ true → P role
-several_each P each reader several = absurd (false≢true several)
-several_each P each (sole_writer places) several = absurd (false≢true several)
-several_each P each (one_writer_of_several places) several = each places
-several_each P each inline several = absurd (false≢true several)
-several_each P each forgotten several = absurd (false≢true several)
+use Rattle.arc_commands.proofs.Roles.{several_each}
 
 -- ---- places
 
