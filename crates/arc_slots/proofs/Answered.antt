@@ -1,5 +1,5 @@
 -- What each call of a slot leads to, as what its window is answered to a command.
-use Rattle.std.proofs.Common.{◌≡◌, ℕ, ◌+◌, Bool, true, false, if◌then◌else◌, List, [], ◌∷◌}
+use Rattle.std.proofs.Common.{◌≡◌, ℕ, ◌+◌, ◌==◌, Bool, true, false, if◌then◌else◌, List, [], ◌∷◌}
 use Rattle.std.proofs.Common.{length, Option, Some, None, Result, Ok, Err, is_some, refl, sym, ap}
 use Rattle.std.proofs.Common.{◌∙◌, subst, arith}
 use Rattle.std.specs.Prelude.{max}
@@ -37,7 +37,7 @@ use Rattle.arc_commands.specs.Commands.{ListCmd, ListReply}
 use Rattle.arc_commands.specs.declared.command.Cmd.TheVariants as command
 use Rattle.arc_commands.specs.declared.command.Reply.TheVariants as reply
 use Rattle.arc_commands.proofs.Roles.{sole_each, sole-several}
-use Rattle.arc_slots.specs.Answers.{Answers, around_in}
+use Rattle.arc_slots.specs.Answers.{around_in}
 use Rattle.arc_slots.specs.Calls.{Along}
 use Rattle.arc_slots.specs.Slots.{IsSlotRole, SlotView, row_of, stand_of}
 use Rattle.arc_slots.specs.Stands.{numbered, stand_at}
@@ -48,17 +48,30 @@ use Rattle.arc_slots.specs.declared.slot.Writing.{Writing}
 use Rattle.arc_slots.specs.declared.slot.Writing.TheVariants as writing
 use Rattle.arc_slots.proofs.ByForm.{write-adds, write-none}
 use Rattle.arc_slots.proofs.Added.{Ended, ended-comes, enters-along}
+use Rattle.arc_slots.proofs.Filled.{fresh-stands}
 use Rattle.arc_commands.specs.Changes.{of_growth}
 use Rattle.arc_parts.specs.Room.{IsBuffersRefusal}
 use Rattle.arc_block.specs.Place.{offset_at}
 use Rattle.arc_slots.proofs.Told.{many_along}
 use Rattle.arc_slots.proofs.Told.{many-founded, row-begins}
 use Rattle.arc_slots.proofs.Told.{stand_block}
+use Rattle.arc_slots.proofs.Before.{before_of}
 
 -- what is refused for one reason is refused for no other
 pub refused-same : (e f : TryReserveError)
     → ◌≡◌ {A = Result (Unit {0}) TryReserveError} (Err e) (Err f) → e ≡ f
 refused-same e f is = same_Some e f (ap result_err is)
+
+-- what holds where a first block is made holds of room that is one
+pub fresh_each : (P : Room → Type 0) → ((places : ℕ) → P (from.Fresh places)) → (room : Room)
+    → is_fresh room ≡ true → P room
+fresh_each P fresh (from.Fresh places) is = fresh places
+fresh_each P fresh (from.Own additional) is = absurd (false≢true is)
+fresh_each P fresh (from.Refused e) is = absurd (false≢true is)
+fresh_each P fresh from.Spare is = absurd (false≢true is)
+fresh_each P fresh from.Behind is = absurd (false≢true is)
+fresh_each P fresh from.Front is = absurd (false≢true is)
+fresh_each P fresh (from.Growth places) is = absurd (false≢true is)
 
 -- what holds of each role that a slot's window has holds of one that is
 pub slot_each : (P : Role → Type 0) → P reader → ((places : ℕ) → P (sole_writer places))
@@ -72,21 +85,10 @@ slot_each P reads writes beside small forgotten known = absurd known
 
 module _ {T M : Type 0} (setting : Setting T) (windows : ℕ) (s : SlotView T M)
     (passes : List (Pass Whole)) where
-  abbrev here : Stand
-  here = stand_of (Some s)
-
-  abbrev row : Row T M
-  row = row_of s
-
-  abbrev around : Around
-  around = around_in 0 windows passes here
+  open before_of setting windows s passes use {here, row, around, Said}
 
   abbrev Command : Type 0
   Command = ListCmd T M
-
-  abbrev Said : Command → ListReply T M → Option (SlotView T M)
-      → Option (SlotView T M) → List (Pass Whole) → Type 0
-  Said c r new made passes' = Answers setting windows c s passes r new made passes'
 
   abbrev allowed : Command → Role → Bool
   allowed c role = is_allowed setting.calls c role
@@ -116,17 +118,24 @@ module _ {T M : Type 0} (setting : Setting T) (windows : ℕ) (s : SlotView T M)
       → ((places : ℕ) → allowed c (sole_writer places) ≡ b) → allowed c s.role ≡ b
   writes-for writes c b each = sole_each (λ role. allowed c role ≡ b) each s.role writes
 
+  -- the window stays as it is, whatever was asked of its block
+  pub stays : (passes' : List (Pass Whole)) (c : Command) (r : ListReply T M)
+      → answer_any setting (shortage r c) around c row ≡ is_now r row
+      → length passes' ≡ length passes
+      → RowAdds here here None passes passes' setting row c r → Said c r (Some s) None passes'
+  stays passes' c r is many adds = record {
+    begins = false;
+    places = 0;
+    change = is;
+    blocks = many;
+    adds = adds;
+  }
+
   -- nothing changes
   pub same : (c : Command) (r : ListReply T M)
       → answer_any setting (shortage r c) around c row ≡ is_now r row
       → RowAdds here here None passes passes setting row c r → Said c r (Some s) None passes
-  same c r is adds = record {
-    begins = false;
-    places = 0;
-    change = is;
-    blocks = refl;
-    adds = adds;
-  }
+  same c r is adds = stays passes c r is refl adds
 
   -- ---- the end of the window
 
@@ -196,7 +205,7 @@ module _ {T M : Type 0} (setting : Setting T) (windows : ℕ) (s : SlotView T M)
   }
 
   -- what is for a reader, for each writer and for a small window is for a slot's window
-  pub for-each : IsSlotRole s.role → (c : Command) → allowed c reader ≡ true
+  for-each : IsSlotRole s.role → (c : Command) → allowed c reader ≡ true
       → ((places : ℕ) → allowed c (sole_writer places) ≡ true)
       → ((places : ℕ) → allowed c (one_writer_of_several places) ≡ true)
       → allowed c inline ≡ true → IsFor c
@@ -233,17 +242,21 @@ module _ {T M : Type 0} (setting : Setting T) (windows : ℕ) (s : SlotView T M)
 
   -- ---- what is only told
 
-  pub shown : (i : ℕ) → IsFor (command.Show i)
+  pub shown : (i : ℕ) → IsSlotRole s.role → setting.calls.copies ≡ true
       → Said (command.Show i) (reply.Items s.window.items) (Some s) None passes
-  shown i for =
+  shown i known has =
       same (command.Show i) (reply.Items s.window.items)
-      (for-role no_shortage (command.Show i) for) (refl, refl, refl)
+      (for-role no_shortage (command.Show i)
+      (for-each known (command.Show i) has (λ places. has) (λ places. has) has))
+      (refl, refl, refl)
 
-  pub counted : (i : ℕ) → IsFor (command.Len i)
+  pub counted : (i : ℕ) → IsSlotRole s.role
       → Said (command.Len i) (reply.Number (length s.window.items)) (Some s) None passes
-  counted i for =
+  counted i known =
       same (command.Len i) (reply.Number (length s.window.items))
-      (for-role no_shortage (command.Len i) for) (refl, refl, refl)
+      (for-role no_shortage (command.Len i)
+      (for-each known (command.Len i) refl (λ places. refl) (λ places. refl) refl))
+      (refl, refl, refl)
 
   -- ---- what is written into a window
 
@@ -359,7 +372,7 @@ module _ {T M : Type 0} (setting : Setting T) (windows : ℕ) (s : SlotView T M)
           })
 
       -- what was written stands in the window
-      pub wrote-in : (room : Room) → room ≡ room_of setting row (additional_of what)
+      wrote-in : (room : Room) → room ≡ room_of setting row (additional_of what)
           → (is_fresh room ≡ true → here ≡ None) → (new : SlotView T M)
           (passes' : List (Pass Whole))
           → Fills setting.drops room (items_of what) s new passes passes' (Ok tt)
@@ -417,7 +430,7 @@ module _ {T M : Type 0} (setting : Setting T) (windows : ℕ) (s : SlotView T M)
           write-is what can (of_growth reserve.CapacityOverflow) (from.Own j) is
 
       -- it was refused, and nothing changed
-      pub unwritten-in : (room : Room) → room ≡ room_of setting row (additional_of what)
+      unwritten-in : (room : Room) → room ≡ room_of setting row (additional_of what)
           → (e : TryReserveError) (new : SlotView T M) (passes' : List (Pass Whole))
           → Fills setting.drops room (items_of what) s new passes passes' (Err e)
           → Said (w what) (reply.Reserve e) (Some new) None passes'
@@ -442,21 +455,35 @@ module _ {T M : Type 0} (setting : Setting T) (windows : ℕ) (s : SlotView T M)
           let fine : ◌≡◌ {A = Result (Unit {0}) TryReserveError} (Err e) (Ok tt) = did.0 in
           absurd (cc)
 
+      abbrev needed : Room
+      needed = room_of setting row (additional_of what)
+
+      -- what was answered is known by how the writing went
+      pub wrote-by : (new : SlotView T M) (passes' : List (Pass Whole))
+          (answer : Result (Unit {0}) TryReserveError) → answer ≡ Ok tt
+          → Fills setting.drops needed (items_of what) s new passes passes' answer
+          → Said (w what) reply.Ok (Some new) None passes'
+      wrote-by new passes' answer is did =
+          wrote-in needed refl
+          (fresh-stands setting.drops (if setting.item_size == 1 then 8 else 4) setting.item_size s
+          (additional_of what)) new passes'
+          (subst (Fills setting.drops needed (items_of what) s new passes passes') is did)
+
+      pub unwrote-by : (e : TryReserveError) (new : SlotView T M) (passes' : List (Pass Whole))
+          (answer : Result (Unit {0}) TryReserveError) → answer ≡ Err e
+          → Fills setting.drops needed (items_of what) s new passes passes' answer
+          → Said (w what) (reply.Reserve e) (Some new) None passes'
+      unwrote-by e new passes' answer is did =
+          unwritten-in needed refl e new passes'
+          (subst (Fills setting.drops needed (items_of what) s new passes passes') is did)
+
       -- memory for a first block's pass was refused
-      pub no-pass : (room : Room) → room ≡ room_of setting row (additional_of what)
-          → is_fresh room ≡ true
+      pub no-pass : (k : ℕ) → k ≡ additional_of what → is_fresh (room_of setting row k) ≡ true
           → Said (w what) (reply.Reserve reserve.AllocError) (Some s) None passes
-      no-pass room is fresh =
+      no-pass k is fresh =
           same (w what) (reply.Reserve reserve.AllocError)
-          (write-is what can of_blocks room is ∙ short room fresh)
+          (write-is what can of_blocks needed refl
+          ∙ fresh_each (λ x. outcome what of_blocks x
+          ≡ is_now (reply.Reserve reserve.AllocError) row) (λ places. refl) needed
+          (ap (λ n. is_fresh (room_of setting row n)) (sym is) ∙ fresh))
           (write-none setting i here passes row one what reserve.AllocError)
-        where
-          short : (x : Room) → is_fresh x ≡ true
-              → outcome what of_blocks x ≡ is_now (reply.Reserve reserve.AllocError) row
-          short (from.Fresh places) some = refl
-          short (from.Own additional) some = absurd (false≢true some)
-          short (from.Refused e) some = absurd (false≢true some)
-          short from.Spare some = absurd (false≢true some)
-          short from.Behind some = absurd (false≢true some)
-          short from.Front some = absurd (false≢true some)
-          short (from.Growth places) some = absurd (false≢true some)

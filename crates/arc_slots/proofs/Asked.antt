@@ -13,14 +13,14 @@ use Rattle.arc_block.specs.Block.{Sort, BlockInfo, native, vector, buffer, raw}
 use Rattle.arc_block.specs.Owned.{Stand}
 use Rattle.arc_block.specs.Place.{Place, nowhere, static_data, on_block}
 use Rattle.arc_parts.specs.Shared.{as_unique}
-use Rattle.arc_block.specs.Table.{Row, one_writer_of_several, reader, sole_writer}
+use Rattle.arc_block.specs.Table.{one_writer_of_several, reader, sole_writer}
 use Rattle.arc_parts.specs.Writers.{as_sole}
 use Rattle.arc_commands.specs.Additions.{RowAdds, AddsAt, Enters}
 use Rattle.arc_commands.specs.Additions.{AsksIf, AsksInVain, AsksInVainAt, Goes, Takes, TakesAs}
 use Rattle.arc_commands.specs.Additions.{ended}
 use Rattle.arc_commands.specs.Additions.{asked as History_asked}
 use Rattle.arc_commands.specs.Changes.{Setting, Shortage, no_shortage}
-use Rattle.arc_commands.specs.Changes.{Around, Change}
+use Rattle.arc_commands.specs.Changes.{Change}
 use Rattle.arc_commands.specs.Step.{answer_any}
 use Rattle.arc_commands.specs.Changes.{is_now}
 use Rattle.arc_commands.specs.Step.{is_allowed}
@@ -33,7 +33,7 @@ use Rattle.arc_commands.specs.Blocks.{is_several, is_sole}
 use Rattle.arc_commands.specs.Commands.{ListCmd, ListReply}
 use Rattle.arc_commands.specs.declared.command.Cmd.TheVariants as command
 use Rattle.arc_commands.specs.declared.command.Reply.TheVariants as reply
-use Rattle.arc_slots.specs.Answers.{Answers, around_in}
+use Rattle.arc_slots.specs.Answers.{around_in}
 use Rattle.arc_slots.specs.Calls.{Along, AsksPlace, AsksSort, MayAsk}
 use Rattle.arc_slots.specs.Calls.{RefusesOut, TakesOut, Through}
 use Rattle.arc_slots.specs.Slots.{SlotView, row_of, stand_of}
@@ -46,29 +46,15 @@ use Rattle.arc_block.proofs.Lists.{get-set}
 use Rattle.arc_slots.proofs.Native.{and_none}
 use Rattle.arc_slots.proofs.Taken.{set-twice}
 use Rattle.arc_slots.proofs.Told.{alone-told, many_along}
-use Rattle.arc_slots.proofs.Answered.{for-role, not-for, reads-for, same, writes-for}
+use Rattle.arc_slots.proofs.Answered.{for-role, not-for, reads-for, same, stays, writes-for}
 use Rattle.arc_slots.specs.Several.{AsksAt}
-use Rattle.arc_slots.proofs.Roles.{several_each}
-use Rattle.arc_commands.proofs.Roles.{several-sole}
+use Rattle.arc_commands.proofs.Roles.{several-sole, several_each}
 use Rattle.arc_slots.proofs.Have.{have-on}
+use Rattle.arc_slots.proofs.Before.{before_of}
 
 module _ {T M : Type 0} (setting : Setting T) (windows : ℕ) (s : SlotView T M)
     (passes : List (Pass Whole)) where
-  abbrev here : Stand
-  here = stand_of (Some s)
-
-  abbrev row : Row T M
-  row = row_of s
-
-  abbrev around : Around
-  around = around_in 0 windows passes here
-
-  abbrev Command : Type 0
-  Command = ListCmd T M
-
-  abbrev Said : Command → ListReply T M → Option (SlotView T M) → Option (SlotView T M)
-      → List (Pass Whole) → Type 0
-  Said c r new made passes' = Answers setting windows c s passes r new made passes'
+  open before_of setting windows s passes use {here, row, around, Said}
 
   -- ---- whether the window is alone
 
@@ -213,26 +199,22 @@ module _ {T M : Type 0} (setting : Setting T) (windows : ℕ) (s : SlotView T M)
           (reads-for setting windows s passes reads (command.Uniq i) true refl)
           ∙ ap (λ b. is_now (if b then reply.Yes else reply.No) row) told.0
 
-      pub uniq : (i : ℕ) (found : Bool) → AsksPlace row.place here passes passes' found
+      uniq-as : (i : ℕ) (found : Bool) → UniqTold found here row.place
           → Said (command.Uniq i) (if found then reply.Yes else reply.No) (Some s) None passes'
-      uniq i true asks =
-          let told = uniq-told true s.block s.window.place has asks in
-          record {
-            begins = false;
-            places = 0;
-            change = uniq-says i true told;
-            blocks = told.1;
-            adds = told.2;
-          }
-      uniq i false asks =
-          let told = uniq-told false s.block s.window.place has asks in
-          record {
-            begins = false;
-            places = 0;
-            change = uniq-says i false told;
-            blocks = told.1;
-            adds = told.2;
-          }
+      uniq-as i true told =
+          stays setting windows s passes passes' (command.Uniq i) reply.Yes (uniq-says i true told)
+          told.1 told.2
+      uniq-as i false told =
+          stays setting windows s passes passes' (command.Uniq i) reply.No (uniq-says i false told)
+          told.1 told.2
+
+      pub uniq : (i : ℕ) (found said : Bool) → said ≡ found
+          → AsksPlace row.place here passes passes' said
+          → Said (command.Uniq i) (if found then reply.Yes else reply.No) (Some s) None passes'
+      uniq i found said is asks =
+          uniq-as i found
+          (uniq-told found s.block s.window.place has
+          (subst (AsksPlace row.place here passes passes') is asks))
 
     -- it may be written where it is alone, or stands on nothing without items
     module _ (any : Bool) (len : ℕ) where
@@ -472,7 +454,7 @@ module _ {T M : Type 0} (setting : Setting T) (windows : ℕ) (s : SlotView T M)
     not-free (Some n) (on_block (Some o) offset info) has asks counted =
         told-alone n o has false asks
 
-    module _ (has : HasPassFor passes here) (one : is_sole s.role ≡ false) (c : Command)
+    module _ (has : HasPassFor passes here) (one : is_sole s.role ≡ false) (c : ListCmd T M)
         (wanted : Bool) (answer : ListReply T M)
         (is : (short : Shortage) → answer_any setting short around c row
         ≡ taken_as wanted around row answer) where
@@ -529,7 +511,7 @@ module _ {T M : Type 0} (setting : Setting T) (windows : ℕ) (s : SlotView T M)
     abbrev had : ListReply T M
     had = take_reply what row.items
 
-    abbrev takes : Command
+    abbrev takes : ListCmd T M
     takes = take_command i what
 
   take-is : (i : ℕ) (what : Taking) → is_allowed setting.calls (takes i what) s.role ≡ true

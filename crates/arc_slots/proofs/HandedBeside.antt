@@ -15,7 +15,7 @@ use Rattle.arc_parts.specs.Writers.{capacity_of}
 use Rattle.arc_commands.specs.Additions.{Enters, Joins, MovesAndJoins, RowAdds, Splits}
 use Rattle.arc_commands.specs.Additions.{ended, refused}
 use Rattle.arc_commands.specs.Blocks.{is_several}
-use Rattle.arc_commands.specs.Changes.{Around, Change, Setting, Shortage, in_range}
+use Rattle.arc_commands.specs.Changes.{Change, Setting, Shortage, in_range}
 use Rattle.arc_commands.specs.Changes.{no_shortage, of_clones, of_table, with_made}
 use Rattle.arc_commands.specs.Commands.{ListCmd, ListReply}
 use Rattle.arc_commands.specs.Several.{is_vector_at as on_vector, parts_change}
@@ -23,7 +23,7 @@ use Rattle.arc_commands.specs.Step.{answer_any, is_allowed, with_block}
 use Rattle.arc_commands.specs.declared.command.Cmd.TheVariants as command
 use Rattle.arc_commands.specs.declared.command.Reply.TheVariants as reply
 use Rattle.arc_commands.proofs.Roles.{several-is}
-use Rattle.arc_slots.specs.Answers.{Answers, around_in}
+use Rattle.arc_slots.specs.Answers.{around_in}
 use Rattle.arc_slots.specs.Calls.{AddsNothing, Along, FindsFullAt}
 use Rattle.arc_slots.specs.Parts.{part_command}
 use Rattle.arc_slots.specs.Several.{RefusesBeside, RefusesIf, SplitsBeside, SplitsIf, SplitsMoved}
@@ -39,6 +39,7 @@ use Rattle.arc_slots.proofs.Answered.{for-role, not-for, same}
 use Rattle.arc_slots.proofs.Parted.{handed-block, vector-both}
 use Rattle.arc_slots.proofs.Told.{full-at, full-told, many-beside, many-founded, many-refused}
 use Rattle.arc_slots.proofs.Told.{many_along, room-beside, row-block, stand_block}
+use Rattle.arc_slots.proofs.Before.{before_of}
 
 -- which of two comes of a test
 picked : {X : Type 0} {b : Bool} {x : X} (y : X) → b ≡ true → (if b then x else y) ≡ x
@@ -54,18 +55,7 @@ some-block (Some here) = refl
 
 module _ {T M : Type 0} (setting : Setting T) (windows : ℕ) (s : SlotView T M)
     (passes : List (Pass Whole)) (several : is_several s.role ≡ true) (i : ℕ) where
-  abbrev here : Stand
-  here = stand_of (Some s)
-
-  abbrev row : Row T M
-  row = row_of s
-
-  abbrev around : Around
-  around = around_in 0 windows passes here
-
-  abbrev Said : ListCmd T M → ListReply T M → Option (SlotView T M)
-      → Option (SlotView T M) → List (Pass Whole) → Type 0
-  Said c r new made passes' = Answers setting windows c s passes r new made passes'
+  open before_of setting windows s passes use {here, row, around, Said}
 
   abbrev RowHas : (there : Stand) → (made : Option Stand) → (passes' : List (Pass Whole))
       → ListCmd T M → ListReply T M → Type 0

@@ -14,6 +14,8 @@ pub mod Ended
 pub mod Added
 pub mod ByForm
 pub mod Told
+pub mod Before
+pub mod Same
 pub mod Answered
 pub mod HandedOut
 pub mod Parted

@@ -4,7 +4,6 @@ use Rattle.std.proofs.Common.{None, refl, sym, ap, ◌∙◌, subst}
 use Rattle.std.proofs.lemmas.Bool.{false≢true}
 use Rattle.arc_owners.specs.declared.mark.Whole.{Whole}
 use Rattle.arc_owners.specs.declared.count.tokens.Pass.{Pass}
-use Rattle.arc_block.specs.Owned.{Stand}
 use Rattle.arc_parts.specs.Shared.{asks_alone}
 use Rattle.arc_block.specs.Table.{Row}
 use Rattle.arc_parts.specs.Writers.{Reclaims}
@@ -12,7 +11,7 @@ use Rattle.arc_parts.specs.declared.room.Room.{Room}
 use Rattle.arc_parts.specs.declared.room.Room.TheVariants as from
 use Rattle.arc_commands.specs.Additions.{AsksFirst, asks_first}
 use Rattle.arc_commands.specs.Blocks.{is_several, is_sole}
-use Rattle.arc_commands.specs.Changes.{Around, Setting, is_now, no_shortage, reclaimed}
+use Rattle.arc_commands.specs.Changes.{Setting, is_now, no_shortage, reclaimed}
 use Rattle.arc_commands.specs.Changes.{room_of}
 use Rattle.arc_commands.specs.Commands.{ListCmd, ListReply}
 use Rattle.arc_commands.specs.Several.{reclaimed_shared}
@@ -20,9 +19,10 @@ use Rattle.arc_commands.specs.Step.{answer_any}
 use Rattle.arc_commands.specs.declared.command.Cmd.TheVariants as command
 use Rattle.arc_commands.specs.declared.command.Reply.TheVariants as reply
 use Rattle.arc_commands.proofs.Roles.{sole-several}
-use Rattle.arc_slots.specs.Answers.{Answers, around_in}
+use Rattle.arc_slots.specs.Answers.{Answers}
 use Rattle.arc_slots.specs.Slots.{SlotView, row_of, stand_of}
 use Rattle.arc_slots.proofs.Answered.{changes, for-role, writes-for}
+use Rattle.arc_slots.proofs.Before.{before_of}
 
 -- what room without memory comes to, as it was found
 module _ {T M : Type 0} (row new : Row T M) where
@@ -48,14 +48,7 @@ module _ {T M : Type 0} (row new : Row T M) where
 
 module _ {T M : Type 0} (setting : Setting T) (windows : ℕ) (s : SlotView T M)
     (passes : List (Pass Whole)) (writes : is_sole s.role ≡ true) (i k : ℕ) where
-  abbrev here : Stand
-  here = stand_of (Some s)
-
-  abbrev row : Row T M
-  row = row_of s
-
-  abbrev around : Around
-  around = around_in 0 windows passes here
+  open before_of setting windows s passes use {here, row, around}
 
   abbrev rec : ListCmd T M
   rec = command.Rec i k

@@ -23,7 +23,7 @@ use Rattle.arc_commands.specs.Additions.{AddsAt, AsksFirst, Enters, HasMade, Has
 use Rattle.arc_commands.specs.Additions.{asks_first}
 use Rattle.arc_commands.specs.Additions.{asked as History_asked}
 use Rattle.arc_commands.specs.Blocks.{is_several}
-use Rattle.arc_commands.specs.Changes.{Around, Setting, Shortage, filled, is_now, no_shortage}
+use Rattle.arc_commands.specs.Changes.{Setting, Shortage, filled, is_now, no_shortage}
 use Rattle.arc_commands.specs.Changes.{of_blocks, reclaimed, room_of}
 use Rattle.arc_commands.specs.Commands.{ListCmd, ListReply}
 use Rattle.arc_commands.specs.Several.{filled_alone, filled_shared, is_beside, reclaimed_shared}
@@ -40,10 +40,11 @@ use Rattle.arc_slots.specs.Writing.{write_command}
 use Rattle.arc_slots.specs.declared.slot.Writing.{Writing}
 use Rattle.arc_slots.specs.declared.slot.Writing.TheVariants as writing
 use Rattle.arc_slots.proofs.Added.{asked-comes, enters-along}
-use Rattle.arc_slots.proofs.Answered.{begins-as, for-role, refused-same, stays-there}
-use Rattle.arc_slots.proofs.Filled.{room_each}
+use Rattle.arc_slots.proofs.Answered.{begins-as, for-role, fresh_each, refused-same, stays-there}
+use Rattle.arc_slots.proofs.Filled.{fresh-stands, room_each}
 use Rattle.arc_slots.proofs.Reclaimed.{no-as, yes-as}
 use Rattle.arc_slots.proofs.Told.{alone-told, many_along}
+use Rattle.arc_slots.proofs.Before.{before_of}
 
 -- why room is refused: for no other owner, of whom the count alone tells
 abbrev NamesNoOwner : Room → Type 0
@@ -57,14 +58,7 @@ NamesNoOwner (from.Refused e) = IsBuffersRefusal e
 
 module _ {T M : Type 0} (setting : Setting T) (windows : ℕ) (s : SlotView T M)
     (passes : List (Pass Whole)) (several : is_several s.role ≡ true) where
-  abbrev here : Stand
-  here = stand_of (Some s)
-
-  abbrev row : Row T M
-  row = row_of s
-
-  abbrev around : Around
-  around = around_in 0 windows passes here
+  open before_of setting windows s passes use {here, row, around}
 
   -- what is for each writer of several is for him
   several-for : (c : ListCmd T M) (b : Bool)
@@ -378,12 +372,17 @@ module _ {T M : Type 0} (setting : Setting T) (windows : ℕ) (s : SlotView T M)
             did.0 in
             absurd (cc)
 
-        pub wrote-beside : (is_fresh (needed k) ≡ true → here ≡ None) → (new : SlotView T M)
-            (passes' : List (Pass Whole))
-            → FillsBeside (asks_alone row k) (needed k) items s new passes passes' (Ok tt)
+        pub wrote-beside : (new : SlotView T M) (passes' : List (Pass Whole))
+            (answer : Result (Unit {0}) TryReserveError) → answer ≡ Ok tt
+            → FillsBeside (asks_alone row k) (needed k) items s new passes passes' answer
             → Said reply.Ok new passes'
-        wrote-beside on-none new passes' = by (asks_alone row k) refl
+        wrote-beside new passes' answer is did =
+            by (asks_alone row k) refl
+            (subst (FillsBeside (asks_alone row k) (needed k) items s new passes passes') is did)
           where
+            on-none : is_fresh (needed k) ≡ true → here ≡ None
+            on-none = fresh-stands setting.drops first setting.item_size s k
+
             by : (asks : Bool) → asks_alone row k ≡ asks
                 → FillsBeside asks (needed k) items s new passes passes' (Ok tt)
                 → Said reply.Ok new passes'
@@ -407,10 +406,13 @@ module _ {T M : Type 0} (setting : Setting T) (windows : ℕ) (s : SlotView T M)
             (beside-refused asks has between asked new passes' did.1)
 
         pub unwrote-beside : (e : TryReserveError) (new : SlotView T M)
-            (passes' : List (Pass Whole))
-            → FillsBeside (asks_alone row k) (needed k) items s new passes passes' (Err e)
+            (passes' : List (Pass Whole)) (answer : Result (Unit {0}) TryReserveError)
+            → answer ≡ Err e
+            → FillsBeside (asks_alone row k) (needed k) items s new passes passes' answer
             → Said (reply.Reserve e) new passes'
-        unwrote-beside e new passes' = by (asks_alone row k) refl
+        unwrote-beside e new passes' answer is did =
+            by (asks_alone row k) refl
+            (subst (FillsBeside (asks_alone row k) (needed k) items s new passes passes') is did)
           where
             by : (asks : Bool) → asks_alone row k ≡ asks
                 → FillsBeside asks (needed k) items s new passes passes' (Err e)
@@ -421,27 +423,21 @@ module _ {T M : Type 0} (setting : Setting T) (windows : ℕ) (s : SlotView T M)
                 did
 
       -- memory for a first block's pass was refused
-      pub no-pass-beside : is_fresh (needed k) ≡ true
+      pub no-pass-beside : (n : ℕ) → n ≡ k → is_fresh (needed n) ≡ true
           → Said (reply.Reserve reserve.AllocError) s passes
-      no-pass-beside fresh = by (asks_alone row k) refl
+      no-pass-beside n is some = by (asks_alone row k) refl
         where
-          short : (x : Room) → is_fresh x ≡ true
-              → filled_alone setting of_blocks around items x row
-              ≡ is_now (reply.Reserve reserve.AllocError) row
-          short (from.Fresh places) some = refl
-          short (from.Own additional) some = absurd (false≢true some)
-          short (from.Refused e) some = absurd (false≢true some)
-          short from.Spare some = absurd (false≢true some)
-          short from.Behind some = absurd (false≢true some)
-          short from.Front some = absurd (false≢true some)
-          short (from.Growth places) some = absurd (false≢true some)
+          fresh : is_fresh (needed k) ≡ true
+          fresh = ap (λ m. is_fresh (needed m)) (sym is) ∙ some
 
           by : (asks : Bool) → asks_alone row k ≡ asks
               → Said (reply.Reserve reserve.AllocError) s passes
           by true asks = absurd (fresh-alone k asks fresh)
           by false asks =
               short-of passes (unasked k asks) (needed k) refl reserve.AllocError refl
-              (short (needed k) fresh) s passes (refl, refl)
+              (fresh_each (λ x. filled_alone setting of_blocks around items x row
+              ≡ is_now (reply.Reserve reserve.AllocError) row) (λ places. refl) (needed k) fresh) s
+              passes (refl, refl)
 
   -- ---- room without memory
 

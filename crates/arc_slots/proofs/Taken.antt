@@ -1,24 +1,21 @@
 -- A pass that was taken out of its place among the passes of the blocks, and is put back.
-use Rattle.std.proofs.Common.{◌≡◌, ℕ, zero, suc, ◌<◌, List, [], ◌∷◌, length, Option, Some, None}
+use Rattle.std.proofs.Common.{◌≡◌, ℕ, ◌<◌, List, length, Option, Some, None}
 use Rattle.std.proofs.Common.{slice_get, slice_set, slice_index_or, refl, sym, ap, ◌∙◌, subst}
 use Rattle.std.proofs.Common.{arith}
-use Rattle.std.proofs.lemmas.Option.{same_Some, slice_get_read}
+use Rattle.std.proofs.lemmas.Option.{slice_get_read}
 use Rattle.std.proofs.lemmas.List.{length-set}
 use Rattle.arc_owners.specs.declared.count.tokens.Pass.{Pass}
 use Rattle.arc_block.specs.Owned.{Stand}
+use Rattle.arc_commands.proofs.Lists as lists
 use Rattle.arc_slots.specs.Stands.{HasBlockPass, HasNumber, HasPassFor, LivesOn, TakenOut, put_back}
 
 pub set-back : {X : Type 0} (xs : List X) (n : ℕ) (x : X) → slice_get xs n ≡ Some x
     → slice_set xs n x ≡ xs
-set-back [] n x at = refl
-set-back (y ∷ ys) zero x at = ap (λ z. z ∷ ys) (sym (same_Some y x at))
-set-back (y ∷ ys) (suc n) x at = ap (λ zs. y ∷ zs) (set-back ys n x at)
+set-back xs n x at = lists.set-there xs n x at
 
 pub set-twice : {X : Type 0} (xs : List X) (n : ℕ) (x y : X)
     → slice_set (slice_set xs n x) n y ≡ slice_set xs n y
-set-twice [] n x y = refl
-set-twice (z ∷ zs) zero x y = refl
-set-twice (z ∷ zs) (suc n) x y = ap (λ ws. z ∷ ws) (set-twice zs n x y)
+set-twice xs n x y = lists.set-twice xs n x y
 
 read-within : {X : Type 0} (xs : List X) (i : ℕ) (x y : X) → i < length xs
     → y ≡ slice_index_or xs i y → x ≡ y → slice_get xs i ≡ Some x

@@ -4,110 +4,131 @@ use Rattle.std.proofs.Common.{subst}
 use Rattle.std.proofs.lemmas.Bool.{cases_Bool}
 use Rattle.std.proofs.Common.{inl, inr}
 use Rattle.arc_owners.specs.declared.count.tokens.Pass.{Pass}
-use Rattle.arc_owners.specs.count.Calls.{Owner, Leaves}
+use Rattle.arc_owners.specs.count.Calls.{Leaves}
 use Rattle.arc_block.specs.Owned.{Stand}
-use Rattle.arc_block.specs.Place.{Place, at_owner}
+use Rattle.arc_block.specs.Place.{at_owner}
 use Rattle.arc_parts.specs.Steps.{IsPassAt, TakesAt, RefusesTaking}
 use Rattle.arc_block.specs.Table.{Role, reader}
 use Rattle.arc_parts.specs.Window.{Window, PartsView, parts_of, window_of}
 use Rattle.arc_slots.specs.Calls.{Along, RefusesOut, TakesOut}
-use Rattle.arc_slots.specs.Slots.{SlotView, row_of, stand_of, writer_slot}
-use Rattle.arc_slots.specs.Stands.{HasNumber, HasPassFor, TakenOut, numbered, is_numbered, put_back}
+use Rattle.arc_slots.specs.Slots.{AnyWindow, SlotView, held, row_of, stand_of, window_in}
+use Rattle.arc_slots.specs.Slots.{writer_slot}
+use Rattle.arc_slots.specs.Stands.{HasNumber, HasPassFor, TakenOut, is_numbered, put_back}
 use Rattle.arc_slots.specs.Stands.{stand_at}
+use Rattle.arc_slots.specs.Taking.{CanHave, can_have}
+use Rattle.arc_slots.specs.declared.take.Taking.{Taking}
+use Rattle.arc_slots.specs.declared.window.Held.TheVariants.{Read}
+use Rattle.arc_slots.proofs.Have.{have-is, have-numbered, have-says}
 use Rattle.arc_slots.proofs.Native.{refuses-out, takes}
-use Rattle.arc_slots.proofs.Slots.{along, still-number, window-pass}
+use Rattle.arc_slots.proofs.Slots.{along, reads-fits, reads-view, still-number, window-pass}
 use Rattle.arc_slots.proofs.Taken.{back-same}
 
--- a slot's window, by the parts of which it is made
-module _ {T M : Type 0} (b : Option ℕ) (s : SlotView T M) (q : PartsView T M) where
-  pub by-reader : (w : Window T M) → q ≡ parts_of w
-      → record { window = w; role = reader; block = b } ≡ s
-      → record { window = window_of q; role = reader; block = b } ≡ s
-  by-reader w e view =
-      ap (λ (r : PartsView T M). record { window = window_of r; role = reader; block = b }) e
-      ∙ view
+-- What a call finds that takes apart a slot's window of this role: its parts are those that the slot
+-- shows, on a block of the slot's number, and the pass of that was taken out of the passes.
+pub record TakenApart {T M H : Type 0} (b : Option ℕ) (s : SlotView T M) (role : Role)
+    (q : PartsView T M) (passes left : List (Pass H)) (p : Pass H) : Type 0 where
+  pub view : record { window = window_of q; role = role; block = b } ≡ s
+  pub fits : is_numbered b q.place ≡ true
+  pub has : HasPassFor passes (stand_of (Some s))
+  pub took : TakenOut passes b p left
 
-  pub by-writer : (w : PartsView T M) → q ≡ w → writer_slot w b ≡ s
-      → record { window = window_of q; role = w.role; block = b } ≡ s
-  by-writer w e view =
-      ap (λ (r : PartsView T M). record { window = window_of r; role = w.role; block = b }) e
-      ∙ view
+module _ {T M H : Type 0} {b : Option ℕ} {s : SlotView T M} {q : PartsView T M}
+    {passes left : List (Pass H)} {p : Pass H} where
+  pub apart-reader : {K : Type 0} (small : K → PartsView T M) (h : AnyWindow T M K)
+      (w : Window T M) → h ≡ Read w → held small h b ≡ s
+      → is_numbered b (window_in small h).place ≡ true → q ≡ parts_of w
+      → HasPassFor passes (stand_of (Some s)) → TakenOut passes b p left
+      → TakenApart b s reader q passes left p
+  apart-reader small h w is view fits parts has took = record {
+    view =
+        ap (λ (r : PartsView T M). record { window = window_of r; role = reader; block = b }) parts
+        ∙ sym (reads-view small h w b is) ∙ view;
+    fits =
+        ap (λ (r : PartsView T M). is_numbered b r.place) parts ∙ reads-fits small h w b is fits;
+    has = has;
+    took = took;
+  }
 
-  pub fit-reader : (w : Window T M) → q ≡ parts_of w → is_numbered b w.place ≡ true
-      → is_numbered b q.place ≡ true
-  fit-reader w e fits = ap (λ (r : PartsView T M). is_numbered b r.place) e ∙ fits
+  pub apart-writer : (w : PartsView T M) → writer_slot w b ≡ s → is_numbered b w.place ≡ true
+      → q ≡ w → HasPassFor passes (stand_of (Some s)) → TakenOut passes b p left
+      → TakenApart b s w.role q passes left p
+  apart-writer w view fits parts has took = record {
+    view =
+        ap (λ (r : PartsView T M). record { window = window_of r; role = w.role; block = b }) parts
+        ∙ view;
+    fits = ap (λ (r : PartsView T M). is_numbered b r.place) parts ∙ fits;
+    has = has;
+    took = took;
+  }
 
-  pub fit-writer : (w : PartsView T M) → q ≡ w → is_numbered b w.place ≡ true
-      → is_numbered b q.place ≡ true
-  fit-writer w e fits = ap (λ (r : PartsView T M). is_numbered b r.place) e ∙ fits
-
-module _ {T M H : Type 0} (b : Option ℕ) (s : SlotView T M) (role : Role) (q : PartsView T M)
-    (view : record { window = window_of q; role = role; block = b } ≡ s)
-    (fits : is_numbered b q.place ≡ true)
-    (passes left : List (Pass H)) (p : Pass H) (has : HasPassFor passes (stand_of (Some s)))
-    (took : TakenOut passes b p left) where
+module _ {T M H : Type 0} {b : Option ℕ} {s : SlotView T M} {role : Role} {q : PartsView T M}
+    {passes left : List (Pass H)} {p : Pass H} (t : TakenApart b s role q passes left p) where
   parts-has : HasPassFor passes (stand_at b q.place)
-  parts-has = subst (λ (x : SlotView T M). HasPassFor passes (stand_of (Some x))) (sym view) has
+  parts-has = subst (λ (x : SlotView T M). HasPassFor passes (stand_of (Some x))) (sym t.view) t.has
 
   pub parts-pass : IsPassAt q.place p
-  parts-pass = window-pass passes left p b q.place fits parts-has took
+  parts-pass = window-pass passes left p b q.place t.fits parts-has t.took
 
   pub parts-number : HasNumber left b
-  parts-number = still-number passes left p b q.place fits parts-has took
+  parts-number = still-number passes left p b q.place t.fits parts-has t.took
 
-  -- what is wanted of a place, by a block's number and by its owner
-  module _ (f : Place (Option ℕ) M → ℕ → Bool) (g : Place (Option Owner) M → ℕ → Bool)
-      (same : (place : Place (Option Owner) M) (len : ℕ) → f (numbered b place) len ≡ g place len)
-      (Wanted : Type 0) (is : g q.place (length q.items) ≡ true → Wanted)
-      (says : Wanted → g q.place (length q.items) ≡ true) (new : Pass H)
-      (after : List (Pass H)) (back : after ≡ put_back left b new) where
+  -- what is wanted of the place, by its block's number and by its owner
+  module _ (drops : Bool) (what : Taking) where
     abbrev wanted : Bool
-    wanted = f (row_of s).place (length s.window.items)
+    wanted = can_have drops what (row_of s).place (length s.window.items)
 
-    seen-so : (P : Bool → Stand → Type 0) → P (g q.place (length q.items)) (stand_at b q.place)
+    abbrev wanted_there : Bool
+    wanted_there = can_have drops what q.place (length q.items)
+
+    abbrev Wanted : Type 0
+    Wanted = CanHave drops what q.items q.place
+
+    seen-so : (P : Bool → Stand → Type 0) → P wanted_there (stand_at b q.place)
         → P wanted (stand_of (Some s))
     seen-so P x =
-        subst (λ (t : SlotView T M). P (f (row_of t).place (length t.window.items))
-        (stand_of (Some t))) view
-        (subst (λ v. P v (stand_at b q.place)) (sym (same q.place (length q.items))) x)
-
-    pub slot-takes : Wanted → TakesAt q.place p new
-        → TakesOut wanted (stand_of (Some s)) passes after
-    slot-takes want did =
-        seen-so (λ v st. TakesOut v st passes after)
-        (subst (λ ps. TakesOut (g q.place (length q.items)) (stand_at b q.place) passes ps)
-        (sym back)
-        (takes passes left p new (g q.place (length q.items)) Wanted is says b q.place fits
-        parts-has took want did))
-
-    pub slot-refuses : RefusesTaking Wanted q.place p new
-        → RefusesOut wanted (stand_of (Some s)) passes after
-    slot-refuses did =
-        seen-so (λ v st. RefusesOut v st passes after)
-        (subst (λ ps. RefusesOut (g q.place (length q.items)) (stand_at b q.place) passes ps)
-        (sym back)
-        (refuses-out passes left p new (g q.place (length q.items)) Wanted is says b q.place
-        fits parts-has took did))
+        subst (λ (v : SlotView T M). P (can_have drops what (row_of v).place
+        (length v.window.items)) (stand_of (Some v))) t.view
+        (subst (λ v. P v (stand_at b q.place))
+        (sym (have-numbered b drops what q.place (length q.items))) x)
 
     -- by a sole writer, who asks nobody
     pub sole-wanted : Wanted → wanted ≡ true
-    sole-wanted want = seen-so (λ v st. v ≡ true) (says want)
-
-    pub sole-leaves : at_owner q.place ⊥ (λ o. Leaves o p new true)
-        → Along (stand_of (Some s)) passes after (λ o p q. Leaves o p q true)
-    sole-leaves did =
-        seen-so (λ v st. Along st passes after (λ o p q. Leaves o p q true))
-        (subst (λ ps. Along (stand_at b q.place) passes ps (λ o p q. Leaves o p q true)) (sym back)
-        (along passes left p new ⊥ (λ o p q. Leaves o p q true) b q.place fits parts-has took
-        (λ none. absurd none) did))
+    sole-wanted want = seen-so (λ v st. v ≡ true) (have-says q.items drops what q.place want)
 
     pub sole-unwanted : ¬ Wanted → wanted ≡ false
     sole-unwanted none =
         seen-so (λ v st. v ≡ false)
-        (elim (cases_Bool (g q.place (length q.items))) [
-          | inl want ↦ absurd (none (is want))
+        (elim (cases_Bool wanted_there) [
+          | inl want ↦ absurd (none (have-is q.items drops what q.place want))
           | inr not ↦ not
         ])
 
+    module _ (new : Pass H) (after : List (Pass H)) (back : after ≡ put_back left b new) where
+      pub slot-takes : Wanted → TakesAt q.place p new
+          → TakesOut wanted (stand_of (Some s)) passes after
+      slot-takes want did =
+          seen-so (λ v st. TakesOut v st passes after)
+          (subst (λ ps. TakesOut wanted_there (stand_at b q.place) passes ps) (sym back)
+          (takes passes left p new wanted_there Wanted (have-is q.items drops what q.place)
+          (have-says q.items drops what q.place) b q.place t.fits parts-has t.took want did))
+
+      pub slot-refuses : RefusesTaking Wanted q.place p new
+          → RefusesOut wanted (stand_of (Some s)) passes after
+      slot-refuses did =
+          seen-so (λ v st. RefusesOut v st passes after)
+          (subst (λ ps. RefusesOut wanted_there (stand_at b q.place) passes ps) (sym back)
+          (refuses-out passes left p new wanted_there Wanted (have-is q.items drops what q.place)
+          (have-says q.items drops what q.place) b q.place t.fits parts-has t.took did))
+
+  module _ (new : Pass H) (after : List (Pass H)) (back : after ≡ put_back left b new) where
+    pub sole-leaves : at_owner q.place ⊥ (λ o. Leaves o p new true)
+        → Along (stand_of (Some s)) passes after (λ o p q. Leaves o p q true)
+    sole-leaves did =
+        subst (λ (v : SlotView T M). Along (stand_of (Some v)) passes after
+        (λ o p q. Leaves o p q true)) t.view
+        (subst (λ ps. Along (stand_at b q.place) passes ps (λ o p q. Leaves o p q true)) (sym back)
+        (along passes left p new ⊥ (λ o p q. Leaves o p q true) b q.place t.fits parts-has t.took
+        (λ none. absurd none) did))
+
     pub sole-back : new ≡ p → after ≡ passes
-    sole-back same = back ∙ back-same passes left p b took new same
+    sole-back same = back ∙ back-same passes left p b t.took new same

@@ -10,11 +10,8 @@ use Rattle.arc_block.specs.Layouts.{LayoutFacts}
 use Rattle.arc_block.specs.Moves.{IsRefused, layout_move}
 use Rattle.arc_block.specs.declared.layout.Move.{Move}
 use Rattle.arc_block.specs.declared.layout.Move.TheVariants as to
-use Rattle.arc_block.specs.Owned.{Stand}
 use Rattle.arc_block.specs.Place.{Place, nowhere, static_data, on_block}
-use Rattle.arc_block.specs.Table.{Row}
 use Rattle.arc_commands.specs.Changes.{Setting, Shortage, no_shortage, of_blocks}
-use Rattle.arc_commands.specs.Changes.{Around}
 use Rattle.arc_commands.specs.Step.{answer_any, is_allowed}
 use Rattle.arc_commands.specs.Changes.{is_now, made_row}
 use Rattle.arc_commands.specs.Changes.{after_move}
@@ -22,37 +19,23 @@ use Rattle.arc_commands.specs.Blocks.{is_sole, is_writer}
 use Rattle.arc_commands.specs.Several.{can_share}
 use Rattle.arc_commands.proofs.Roles.{sole_each}
 use Rattle.arc_parts.specs.Shared.{as_shared}
-use Rattle.arc_commands.specs.Commands.{ListCmd, ListReply}
+use Rattle.arc_commands.specs.Commands.{ListCmd}
 use Rattle.arc_commands.specs.declared.command.Cmd.TheVariants as command
 use Rattle.arc_commands.specs.declared.command.Reply.TheVariants as reply
-use Rattle.arc_slots.specs.Answers.{Answers, around_in}
 use Rattle.arc_slots.specs.Slots.{SlotView, row_of, stand_of}
 use Rattle.arc_slots.specs.Stands.{numbered, stand_at}
 use Rattle.arc_slots.specs.Writing.{FreezesBy, is_new}
 use Rattle.arc_slots.proofs.Freezing.{new-moved}
 use Rattle.arc_slots.proofs.Answered.{begins-as, changes, for-role, same, stays-there}
 use Rattle.arc_slots.proofs.Roles.{writer_each}
+use Rattle.arc_slots.proofs.Before.{before_of}
 
 module _ {T M : Type 0} (setting : Setting T) (windows : ℕ) (s : SlotView T M)
     (passes : List (Pass Whole)) where
-  abbrev here : Stand
-  here = stand_of (Some s)
-
-  abbrev row : Row T M
-  row = row_of s
-
-  abbrev around : Around
-  around = around_in 0 windows passes here
-
-  abbrev Command : Type 0
-  Command = ListCmd T M
-
-  abbrev Said : Command → ListReply T M → Option (SlotView T M)
-      → Option (SlotView T M) → List (Pass Whole) → Type 0
-  Said c r new made passes' = Answers setting windows c s passes r new made passes'
+  open before_of setting windows s passes use {here, row, around, Said}
 
   module _ (writes : is_writer s.role ≡ true) (i : ℕ) where
-    abbrev freeze : Command
+    abbrev freeze : ListCmd T M
     freeze = command.Freeze i
 
     abbrev goes_to : Move
@@ -124,7 +107,7 @@ module _ {T M : Type 0} (setting : Setting T) (windows : ℕ) (s : SlotView T M)
   -- ---- who is one of several from now on
 
   module _ (i : ℕ) (sole : is_sole s.role ≡ true) (shares : setting.calls.shares ≡ true) where
-    abbrev share : Command
+    abbrev share : ListCmd T M
     share = command.Share i
 
     share-is : (may : Bool) → can_share setting.drops row.place ≡ may

@@ -1,115 +1,61 @@
 -- What is taken out by the pass that was lent for it is taken out of the table.
-use Rattle.std.proofs.Common.{◌≡◌, true, sym, ap, ◌∙◌}
-use Rattle.arc_parts.specs.Window.{PartsView, window_of}
-use Rattle.arc_slots.specs.Slots.{SlotView, writer_slot}
-use Rattle.arc_slots.specs.Stands.{is_numbered}
-use Rattle.arc_slots.specs.Taking.{can_have, CanHave}
-use Rattle.arc_slots.proofs.Have.{have-is, have-numbered, have-says}
+use Rattle.std.proofs.Common.{sym, ap, ◌∙◌}
+use Rattle.arc_parts.specs.Window.{PartsView}
+use Rattle.arc_slots.specs.Slots.{writer_slot}
 use Rattle.arc_slots.proofs.Filled.{writes-fits, writes-view}
-use Rattle.arc_slots.proofs.Takes.{by-writer, fit-writer, parts-number, parts-pass, sole-back}
+use Rattle.arc_slots.proofs.Takes.{TakenApart, apart-writer, parts-number, parts-pass, sole-back}
 use Rattle.arc_slots.proofs.Takes.{sole-leaves, sole-unwanted, sole-wanted}
 use Rattle.arc_slots.proofs.slot.Slot.try_take_written.Given.{Over}
 use Rattle.arc_slots.proofs.slot.Slot.try_take_written.Goals.{After-into_parts}
 use Rattle.arc_slots.proofs.slot.Slot.try_take_written.Goals as goal
 
-seen : (g : Over) (c : After-into_parts g)
-    → ◌≡◌ {A = SlotView g.row.S-Item.Denot g.row.M.Denot}
-    (record {
-      window = window_of c.into_parts.result;
-      role = c.in-Write.window.role;
-      block = c.self.inside.block;
-    }) c.args.self
-seen g c =
-    by-writer c.self.inside.block c.args.self c.into_parts.result c.in-Write.window
-    c.into_parts.ensures.parts
-    (sym (writes-view g.S.Small.SmallOf.seen c.self.inside.window c.in-Write.window
-    c.self.inside.block c.in-Write.is)
-    ∙ c.self.view_is)
-
-fits : (g : Over) (c : After-into_parts g)
-    → is_numbered c.self.inside.block c.into_parts.result.place ≡ true
-fits g c =
-    fit-writer c.self.inside.block c.args.self c.into_parts.result c.in-Write.window
-    c.into_parts.ensures.parts
-    (writes-fits g.S.Small.SmallOf.seen c.self.inside.window c.in-Write.window c.self.inside.block
-    c.in-Write.is
-    c.self.invariant.0)
+apart : (g : Over) (c : After-into_parts g)
+    → TakenApart c.self.inside.block c.args.self c.in-Write.window.role c.into_parts.result
+    c.args.passes.now.of_blocks.items c.lend-pass.new.self.of_blocks.items c.lend-pass.result
+apart g c =
+    let small = g.S.Small.SmallOf.seen in
+    let h = c.self.inside.window in
+    let w = c.in-Write.window in
+    let b = c.self.inside.block in
+    apart-writer w (sym (writes-view small h w b c.in-Write.is) ∙ c.self.view_is)
+    (writes-fits small h w b c.in-Write.is c.self.invariant.0) c.into_parts.ensures.parts
+    c.requires.pass c.lend-pass.ensures.taken
 
 pub try_sole_into_reply-taken-requires-clause-pass :
     goal.try_sole_into_reply-taken-requires-clause-pass
 try_sole_into_reply-taken-requires-clause-pass g c =
-    let a = (goal.at.try_sole_into_reply-taken-requires-clause-pass g c).After-into_parts in
-    parts-pass c.self.inside.block c.args.self c.in-Write.window.role c.into_parts.result (seen g a)
-    (fits g a)
-    c.args.passes.now.of_blocks.items c.lend-pass.new.self.of_blocks.items c.lend-pass.result
-    c.requires.pass c.lend-pass.ensures.taken
+    parts-pass
+    (apart g (goal.at.try_sole_into_reply-taken-requires-clause-pass g c).After-into_parts)
 
 pub give_back-requires : goal.give_back-requires
 give_back-requires g c =
-    let a = (goal.at.give_back-requires g c).After-into_parts in
-    parts-number c.self.inside.block c.args.self c.in-Write.window.role c.into_parts.result
-    (seen g a) (fits g a)
-    c.args.passes.now.of_blocks.items c.lend-pass.new.self.of_blocks.items c.lend-pass.result
-    c.requires.pass c.lend-pass.ensures.taken
+    parts-number (apart g (goal.at.give_back-requires g c).After-into_parts)
 
 pub returns-in-Ok-clause-taken : goal.returns-in-Ok-clause-taken
 returns-in-Ok-clause-taken g c =
-    let a = (goal.at.returns-in-Ok-clause-taken g c).After-into_parts in
-    let b = c.self.inside.block in
-    let q = c.into_parts.result in
-    let drops = g.S.Slice.DROPS in
-    sole-wanted b c.args.self c.in-Write.window.role q (seen g a) (fits g a)
-    c.args.passes.now.of_blocks.items c.lend-pass.new.self.of_blocks.items c.lend-pass.result
-    c.requires.pass c.lend-pass.ensures.taken (can_have drops c.args.what)
-    (can_have drops c.args.what) (have-numbered b drops c.args.what)
-    (CanHave drops c.args.what q.items q.place) (have-is q.items drops c.args.what q.place)
-    (have-says q.items drops c.args.what q.place) c.try_sole_into_reply-taken.new.pass
-    c.give_back.new.self.of_blocks.items c.give_back.ensures c.in-Ok.ensures.taken
+    sole-wanted (apart g (goal.at.returns-in-Ok-clause-taken g c).After-into_parts)
+    g.S.Slice.DROPS c.args.what c.in-Ok.ensures.taken
 
 pub returns-in-Ok-clause-left : goal.returns-in-Ok-clause-left
 returns-in-Ok-clause-left g c =
-    let a = (goal.at.returns-in-Ok-clause-left g c).After-into_parts in
-    let b = c.self.inside.block in
-    let q = c.into_parts.result in
-    let drops = g.S.Slice.DROPS in
-    sole-leaves b c.args.self c.in-Write.window.role q (seen g a) (fits g a)
-    c.args.passes.now.of_blocks.items c.lend-pass.new.self.of_blocks.items c.lend-pass.result
-    c.requires.pass c.lend-pass.ensures.taken (can_have drops c.args.what)
-    (can_have drops c.args.what) (have-numbered b drops c.args.what)
-    (CanHave drops c.args.what q.items q.place) (have-is q.items drops c.args.what q.place)
-    (have-says q.items drops c.args.what q.place) c.try_sole_into_reply-taken.new.pass
-    c.give_back.new.self.of_blocks.items c.give_back.ensures c.in-Ok.ensures.entry
+    sole-leaves (apart g (goal.at.returns-in-Ok-clause-left g c).After-into_parts)
+    c.try_sole_into_reply-taken.new.pass c.give_back.new.self.of_blocks.items c.give_back.ensures
+    c.in-Ok.ensures.entry
 
 pub returns-in-Err-clause-back : goal.returns-in-Err-clause-back
 returns-in-Err-clause-back g c =
-    let a = (goal.at.returns-in-Err-clause-back g c).After-into_parts in
-    let b = c.self.inside.block in
-    let q = c.into_parts.result in
-    let drops = g.S.Slice.DROPS in (
+    let b = c.self.inside.block in (
       ap (λ (w : PartsView g.row.S-Item.Denot g.row.M.Denot). writer_slot w b)
           (c.from_parts.ensures ∙ c.in-Err.ensures.back ∙ c.into_parts.ensures.parts)
           ∙ sym (writes-view g.S.Small.SmallOf.seen c.self.inside.window c.in-Write.window b
           c.in-Write.is)
           ∙ c.self.view_is,
-      sole-back b c.args.self c.in-Write.window.role q (seen g a) (fits g a)
-          c.args.passes.now.of_blocks.items c.lend-pass.new.self.of_blocks.items c.lend-pass.result
-          c.requires.pass c.lend-pass.ensures.taken (can_have drops c.args.what)
-          (can_have drops c.args.what) (have-numbered b drops c.args.what)
-          (CanHave drops c.args.what q.items q.place) (have-is q.items drops c.args.what q.place)
-          (have-says q.items drops c.args.what q.place) c.try_sole_into_reply-taken.new.pass
-          c.give_back.new.self.of_blocks.items c.give_back.ensures c.in-Err.ensures.refused.1,
+      sole-back (apart g (goal.at.returns-in-Err-clause-back g c).After-into_parts)
+          c.try_sole_into_reply-taken.new.pass c.give_back.new.self.of_blocks.items
+          c.give_back.ensures c.in-Err.ensures.refused.1,
     )
 
 pub returns-in-Err-clause-refused : goal.returns-in-Err-clause-refused
 returns-in-Err-clause-refused g c =
-    let a = (goal.at.returns-in-Err-clause-refused g c).After-into_parts in
-    let b = c.self.inside.block in
-    let q = c.into_parts.result in
-    let drops = g.S.Slice.DROPS in
-    sole-unwanted b c.args.self c.in-Write.window.role q (seen g a) (fits g a)
-    c.args.passes.now.of_blocks.items c.lend-pass.new.self.of_blocks.items c.lend-pass.result
-    c.requires.pass c.lend-pass.ensures.taken (can_have drops c.args.what)
-    (can_have drops c.args.what) (have-numbered b drops c.args.what)
-    (CanHave drops c.args.what q.items q.place) (have-is q.items drops c.args.what q.place)
-    (have-says q.items drops c.args.what q.place) c.try_sole_into_reply-taken.new.pass
-    c.give_back.new.self.of_blocks.items c.give_back.ensures c.in-Err.ensures.refused.0
+    sole-unwanted (apart g (goal.at.returns-in-Err-clause-refused g c).After-into_parts)
+    g.S.Slice.DROPS c.args.what c.in-Err.ensures.refused.0
