@@ -1,6 +1,6 @@
 -- What is written into a slot's window: what becomes of its row, of where it stands, and of the
 -- passes of the blocks.
-use Rattle.std.proofs.Common.{◌≡◌, ℕ, ◌-◌, ◌&&◌, not, Bool, true, false, ◌<◌}
+use Rattle.std.proofs.Common.{◌≡◌, ℕ, ◌-◌, ◌==◌, ◌&&◌, not, Bool, true, false, ◌<◌}
 use Rattle.std.proofs.Common.{if◌then◌else◌, List, [], ◌∷◌, ◌++◌, length, Option, Some, None}
 use Rattle.std.proofs.Common.{Result, Ok, Err, refl, sym, ap, ◌∙◌, subst}
 use Rattle.std.specs.Result.{OnOk}
@@ -20,7 +20,8 @@ use Rattle.arc_parts.specs.Shared.{is_on_block}
 use Rattle.arc_block.specs.Table.{Row, RowOf, Role, reader, sole_writer, one_writer_of_several}
 use Rattle.arc_block.specs.Table.{inline, forgotten}
 use Rattle.arc_parts.specs.Window.{PartsView}
-use Rattle.arc_parts.specs.Writers.{capacity_of, room, room_at, with_room, with_more, with_full}
+use Rattle.arc_parts.specs.Writers.{capacity_of, room, room_at, room_for, with_room, with_more}
+use Rattle.arc_parts.specs.Writers.{with_full}
 use Rattle.arc_parts.specs.Writers.{new_writer, MakesRoom, Pushes, Reclaims}
 use Rattle.arc_parts.specs.Writers.{with_capacity}
 use Rattle.arc_block.specs.Place.{offset_at}
@@ -30,9 +31,11 @@ use Rattle.arc_parts.specs.declared.room.Room.TheVariants.{Growth, Own, Refused}
 use Rattle.arc_commands.specs.Blocks.{is_several, is_sole}
 use Rattle.arc_slots.specs.Slots.{AnyWindow, SlotView, held, role_fits, row_of, stand_of}
 use Rattle.arc_slots.specs.Slots.{window_in, writer_slot}
-use Rattle.arc_slots.specs.Stands.{numbered, is_numbered, stand_at, TakenOut, put_back}
+use Rattle.arc_slots.specs.Stands.{HasNumber, HasPassFor, TakenOut, is_numbered, numbered}
+use Rattle.arc_slots.specs.Stands.{put_back, stand_at}
 use Rattle.arc_slots.specs.Writing.{is_fresh, Fills}
 use Rattle.arc_slots.specs.declared.window.Held.TheVariants.{Write}
+use Rattle.arc_slots.proofs.Slots.{still-number}
 use Rattle.arc_slots.proofs.Taken.{back-same}
 
 -- where no items are written, there is room and nothing else
@@ -481,6 +484,32 @@ module _ {T M : Type 0} (b : Option ℕ) (w : PartsView T M) (fits : is_numbered
         let fine : ◌≡◌ {A = Result (Unit {0}) TryReserveError} (Err e) (Ok tt) = made.0 in
         absurd (cc)
 
+-- whether a first block is wanted, by how many items are counted
+pub fresh-by : {T M : Type 0} (drops : Bool) (size : ℕ) (row : Row T M) {n k : ℕ} {begins : Bool}
+    → n ≡ k → begins ≡ is_fresh (room_for drops size row n)
+    → begins ≡ is_fresh (room_for drops size row k)
+fresh-by drops size row counted is =
+    is ∙ ap (λ m. is_fresh (room_for drops size row m)) counted
+
+-- a slot's window was filled, or wasn't, and so is the slot with this window, on a block of this
+-- number, whose only writer has it
+pub record SlotFills {T M : Type 0} (drops : Bool) (size k : ℕ) (items : List T) (s : SlotView T M)
+    (v : PartsView T M) (n : Option ℕ) (before after : List (Pass Whole))
+    (answer : Result (Unit {0}) TryReserveError) : Type 0 where
+  pub fills : Fills drops (room_for drops size (row_of s) k) items s (writer_slot v n) before after
+      answer
+  pub fits : is_numbered n v.place ≡ true
+  pub writes : is_sole v.role ≡ true
+
+-- or it was to have room without memory
+pub record SlotReclaims {T M : Type 0} (drops : Bool) (size k : ℕ) (b : Option ℕ)
+    (s : SlotView T M) (v : PartsView T M) (found : Bool) : Type 0 where
+  pub row : Reclaims (room_for drops size (row_of s) k) (row_of s) (row_of (writer_slot v b)) found
+  pub fits : is_numbered b v.place ≡ true
+  pub writes : is_sole v.role ≡ true
+  pub stand : stand_of (Some (writer_slot v b)) ≡ stand_of (Some s)
+  pub kept : found ≡ false → writer_slot v b ≡ s
+
 -- the same of a slot, whose window is written
 module _ {T M K : Type 0} (small : K → PartsView T M) (h : AnyWindow T M K) (w : PartsView T M)
     (b : Option ℕ) (is : h ≡ Write w) (s : SlotView T M) (view : held small h b ≡ s)
@@ -494,7 +523,17 @@ module _ {T M K : Type 0} (small : K → PartsView T M) (h : AnyWindow T M K) (w
   writer : is_sole w.role ≡ true
   writer = writes-sole small h w b is fact.1
 
-  module _ (drops : Bool) (first size k : ℕ) where
+  -- there is a pass with the block's number, where it was taken out
+  pub written-left : (passes left : List (Pass Whole)) (p : Pass Whole)
+      → HasPassFor passes (stand_of (Some s)) → TakenOut passes b p left → HasNumber left b
+  written-left passes left p has took =
+      still-number passes left p b w.place fit
+      (subst (λ t. HasPassFor passes (stand_of (Some t))) (sym seen) has) took
+
+  module _ (drops : Bool) (size k : ℕ) where
+    abbrev first : ℕ
+    first = if size == 1 then 8 else 4
+
     room-seen : room drops first size w k ≡ room drops first size (row_of s) k
     room-seen =
         sym (room-same b w fit drops first size k)
@@ -502,25 +541,22 @@ module _ {T M K : Type 0} (small : K → PartsView T M) (h : AnyWindow T M K) (w
 
     pub slot-reclaims : (v : PartsView T M) (found : Bool)
         → Reclaims (room drops first size w k) w v found
-        → Reclaims (room drops first size (row_of s) k) (row_of s) (row_of (writer_slot v b)) found
-        × (is_numbered b v.place ≡ true) × (is_sole v.role ≡ true)
-        × (stand_of (Some (writer_slot v b)) ≡ stand_of (Some s))
-        × (found ≡ false → writer_slot v b ≡ s)
+        → SlotReclaims drops size k b s v found
     slot-reclaims v found did =
         let all = reclaims is_sole keeps-sole b w fit writer (room drops first size w k) v found
         did in
-        subst (λ t. Reclaims (room drops first size (row_of s) k) (row_of t)
-        (row_of (writer_slot v b)) found
-        × (is_numbered b v.place ≡ true) × (is_sole v.role ≡ true)
-        × (stand_of (Some (writer_slot v b)) ≡ stand_of (Some t))
-        × (found ≡ false → writer_slot v b ≡ t)) seen (
-          subst (λ r. Reclaims r (row_of (writer_slot w b)) (row_of (writer_slot v b)) found)
-              room-seen all.0,
-          all.1,
-          all.2,
-          all.3,
-          λ none. ap (λ u. writer_slot u b) (all.4 none),
-        )
+        record {
+          row =
+              subst (λ t. Reclaims (room drops first size (row_of s) k) (row_of t)
+              (row_of (writer_slot v b)) found) seen
+              (subst (λ r. Reclaims r (row_of (writer_slot w b)) (row_of (writer_slot v b)) found)
+              room-seen all.0);
+          fits = all.1;
+          writes = all.2;
+          stand =
+              subst (λ t. stand_of (Some (writer_slot v b)) ≡ stand_of (Some t)) seen all.3;
+          kept = λ none. ap (λ u. writer_slot u b) (all.4 none) ∙ seen;
+        }
 
     module _ (items : List T) (passes left : List (Pass Whole)) (p q : Pass Whole)
         (took : TakenOut passes b p left) where
@@ -534,46 +570,46 @@ module _ {T M K : Type 0} (small : K → PartsView T M) (h : AnyWindow T M K) (w
           let all : left ≡ passes = (subst (λ c. TakenOut passes c p left) none took).1 in
           subst (λ (ps : List (Pass Whole)). length ps < m) (sym all) (room fresh)
 
+      as-seen : (v : PartsView T M) (n : Option ℕ) (passes' : List (Pass Whole))
+          (answer : Result (Unit {0}) TryReserveError)
+          → Fills drops (room drops first size w k) items (writer_slot w b) (writer_slot v n) passes
+          passes' answer
+          → (is_numbered n v.place ≡ true) × (is_sole v.role ≡ true)
+          → SlotFills drops size k items s v n passes passes' answer
+      as-seen v n passes' answer did so = record {
+        fills =
+            subst (λ t. Fills drops (room drops first size (row_of s) k) items t (writer_slot v n)
+            passes passes' answer) seen
+            (subst (λ r. Fills drops r items (writer_slot w b) (writer_slot v n) passes passes'
+            answer) room-seen did);
+        fits = so.0;
+        writes = so.1;
+      }
+
       pub slot-fills : (v : PartsView T M) (n : Option ℕ) (passes' : List (Pass Whole))
           → Pushes drops true (room drops first size w k) items w v p q
           → (is_fresh (room drops first size (row_of s) k) ≡ false
           → (n ≡ b) × (passes' ≡ put_back left b q))
           → (is_fresh (room drops first size (row_of s) k) ≡ true
           → (n ≡ Some (length left)) × (passes' ≡ left ++ q ∷ []))
-          → Fills drops (room drops first size (row_of s) k) items s (writer_slot v n) passes
-          passes' (Ok tt)
-          × (is_numbered n v.place ≡ true) × (is_sole v.role ≡ true)
+          → SlotFills drops size k items s v n passes passes' (Ok tt)
       slot-fills v n passes' pushed same new =
           let all =
           fills b w fit writer drops first size k items passes left p q took
           (room drops first size w k) refl v n passes' pushed
           (λ old. same (sym (ap is_fresh room-seen) ∙ old))
-          (λ fresh. new (sym (ap is_fresh room-seen) ∙ fresh)) in (
-            subst (λ t. Fills drops (room drops first size (row_of s) k) items t
-                (writer_slot v n) passes passes' (Ok tt)) seen
-                (subst (λ r. Fills drops r items (writer_slot w b) (writer_slot v n) passes passes'
-                (Ok tt)) room-seen all.0),
-            all.1.0,
-            all.1.1,
-          )
+          (λ fresh. new (sym (ap is_fresh room-seen) ∙ fresh)) in
+          as-seen v n passes' (Ok tt) all.0 all.1
 
       pub slot-unfilled : (e : TryReserveError) (v : PartsView T M) (passes' : List (Pass Whole))
           → MakesRoom drops true (room drops first size w k) w v p q (Err e)
           → passes' ≡ put_back left b q
-          → Fills drops (room drops first size (row_of s) k) items s (writer_slot v b) passes
-          passes' (Err e)
-          × (is_numbered b v.place ≡ true) × (is_sole v.role ≡ true)
+          → SlotFills drops size k items s v b passes passes' (Err e)
       slot-unfilled e v passes' made back =
           let all =
           unfilled b w fit writer drops first size k items passes left p q took
-          (room drops first size w k) e v passes' made back in (
-            subst (λ t. Fills drops (room drops first size (row_of s) k) items t
-                (writer_slot v b) passes passes' (Err e)) seen
-                (subst (λ r. Fills drops r items (writer_slot w b) (writer_slot v b) passes passes'
-                (Err e)) room-seen all.0),
-            all.1.0,
-            all.1.1,
-          )
+          (room drops first size w k) e v passes' made back in
+          as-seen v b passes' (Err e) all.0 all.1
 
 -- ---- where a first block is made
 

@@ -1,6 +1,7 @@
 -- What is written into the window of one of several writers: he asks whether he is alone where he
 -- has to be, and then has the room that the only writer has.
-use Rattle.std.proofs.Common.{◌≡◌, ℕ, ◌-◌, ◌<◌, ◌&&◌, Bool, true, false, List}
+use Rattle.std.proofs.Common.{◌≡◌, ℕ, ◌-◌, ◌<◌, ◌==◌, ◌&&◌, Bool, true, false, List}
+use Rattle.std.proofs.Common.{if◌then◌else◌}
 use Rattle.std.proofs.Common.{[], ◌∷◌, ◌++◌, length, Option, Some, None, Result, Ok, Err}
 use Rattle.std.proofs.Common.{slice_get, refl, sym, ap, ◌∙◌, subst}
 use Rattle.std.specs.Prelude.{nat_lt}
@@ -19,7 +20,7 @@ use Rattle.arc_parts.specs.Shared.{as_shared, as_unique, asks_alone, extended, i
 use Rattle.arc_parts.specs.Steps.{IsPassAt}
 use Rattle.arc_block.specs.Table.{Row, RowOf, one_writer_of_several}
 use Rattle.arc_parts.specs.Window.{PartsView}
-use Rattle.arc_parts.specs.Writers.{capacity_of, new_writer, room, with_more, with_room}
+use Rattle.arc_parts.specs.Writers.{capacity_of, new_writer, room, room_for, with_more, with_room}
 use Rattle.arc_parts.specs.declared.room.Room.{Room}
 use Rattle.arc_parts.specs.declared.room.Room.TheVariants.{Spare, Fresh, Behind, Front}
 use Rattle.arc_parts.specs.declared.room.Room.TheVariants.{Growth, Own, Refused}
@@ -350,6 +351,25 @@ module _ {T M : Type 0} (b : Option ℕ) (w : PartsView T M) (fits : is_numbered
 
 -- ---- the same of a slot, whose window is that of one of several
 
+-- one of several was to write these items, and so is the slot with this window, on a block of this
+-- number
+pub record SlotFillsBeside {T M : Type 0} (shares drops : Bool) (size k : ℕ) (items : List T)
+    (s : SlotView T M) (v : PartsView T M) (n : Option ℕ) (before after : List (Pass Whole))
+    (answer : Result (Unit {0}) TryReserveError) : Type 0 where
+  pub fills : FillsBeside (asks_alone (row_of s) k) (room_for drops size (row_of s) k) items s
+      (writer_slot v n) before after answer
+  pub fits : (is_numbered n v.place ≡ true) × (is_several v.role ≡ true) × (shares ≡ true)
+
+-- or was to have room without memory
+pub record SlotReclaimsBeside {T M : Type 0} (shares drops : Bool) (size k : ℕ) (b : Option ℕ)
+    (s : SlotView T M) (v : PartsView T M) (before after : List (Pass Whole)) (answer : Bool)
+    : Type 0 where
+  pub row : RoomBeside (asks_alone (row_of s) k) (room_for drops size (row_of s) k)
+      (stand_of (Some s)) (row_of s) (row_of (writer_slot v b)) before after answer
+  pub fits : (is_numbered b v.place ≡ true) × (is_several v.role ≡ true) × (shares ≡ true)
+  pub stand : stand_of (Some (writer_slot v b)) ≡ stand_of (Some s)
+  pub kept : answer ≡ false → writer_slot v b ≡ s
+
 module _ {T M K : Type 0} (small : K → PartsView T M) (h : AnyWindow T M K) (w : PartsView T M)
     (b : Option ℕ) (is : h ≡ Several w) (s : SlotView T M) (view : held small h b ≡ s)
     (shares : Bool) (fact : (is_numbered b (window_in small h).place ≡ true)
@@ -366,10 +386,6 @@ module _ {T M K : Type 0} (small : K → PartsView T M) (h : AnyWindow T M K) (w
   kind : shares ≡ true
   kind = beside-shares small h w b is shares fact.2
 
-  -- the invariant of a slot with this window
-  abbrev Fits : PartsView T M → Option ℕ → Type 0
-  Fits v n = (is_numbered n v.place ≡ true) × (is_several v.role ≡ true) × (shares ≡ true)
-
   module _ (passes : List (Pass Whole)) (has : HasPassFor passes (stand_of (Some s))) where
     pub beside-has : HasPassFor passes (stand_at b w.place)
     beside-has = subst (λ t. HasPassFor passes (stand_of (Some t))) (sym beside-seen) has
@@ -384,7 +400,10 @@ module _ {T M K : Type 0} (small : K → PartsView T M) (h : AnyWindow T M K) (w
         → IsPassAt w.place p
     beside-pass left p took = window-pass passes left p b w.place fit beside-has took
 
-  module _ (drops : Bool) (undropped : drops ≡ false) (first size k : ℕ) where
+  module _ (drops : Bool) (undropped : drops ≡ false) (size k : ℕ) where
+    abbrev first : ℕ
+    first = if size == 1 then 8 else 4
+
     abbrev asks : Bool
     asks = asks_alone (row_of s) k
 
@@ -429,30 +448,34 @@ module _ {T M K : Type 0} (small : K → PartsView T M) (h : AnyWindow T M K) (w
               → PushesShared (asks_alone w k) true (room false first size w k) items w v p q
               → (is_fresh wants ≡ false → (n ≡ b) × (after ≡ put_back left b q))
               → (is_fresh wants ≡ true → (n ≡ Some (length left)) × (after ≡ left ++ q ∷ []))
-              → FillsBeside asks wants items s (writer_slot v n) passes after (Ok tt) × Fits v n
+              → SlotFillsBeside shares drops size k items s v n passes after (Ok tt)
           slot-fills-beside v n after did same new =
               let all = fills-beside b w fit one first size k there items left passes p q
               (beside-has passes has) took (asks_alone w k) v n after did
               (λ old. same (sym (ap is_fresh wants-seen) ∙ old))
               (λ fresh. new (sym (ap is_fresh wants-seen) ∙ fresh)) in
-              (as-seen v n after (Ok tt) all.0, (all.1.0, all.1.1, kind))
+              record {
+                fills = as-seen v n after (Ok tt) all.0;
+                fits = (all.1.0, all.1.1, kind);
+              }
 
           pub slot-unfills-beside : (e : TryReserveError) (v : PartsView T M)
               (after : List (Pass Whole))
               → MakesSharedRoom (asks_alone w k) true (room false first size w k) w v p q (Err e)
               → after ≡ put_back left b q
-              → FillsBeside asks wants items s (writer_slot v b) passes after (Err e) × Fits v b
+              → SlotFillsBeside shares drops size k items s v b passes after (Err e)
           slot-unfills-beside e v after made back =
               let all = unfills-beside b w fit one first size k there items left passes p q
               (beside-has passes has) took (asks_alone w k) e v after made back in
-              (as-seen v b after (Err e) all.0, (all.1.0, all.1.1, kind))
+              record {
+                fills = as-seen v b after (Err e) all.0;
+                fits = (all.1.0, all.1.1, kind);
+              }
 
         pub slot-reclaims-beside : (v : PartsView T M) (answer : Bool) (after : List (Pass Whole))
             → ReclaimsShared (asks_alone w k) (room false first size w k) w v p q answer
             → after ≡ put_back left b q
-            → RoomBeside asks wants (stand_of (Some s)) (row_of s) (row_of (writer_slot v b)) passes
-            after answer × Fits v b × (stand_of (Some (writer_slot v b)) ≡ stand_of (Some s))
-            × (answer ≡ false → writer_slot v b ≡ s)
+            → SlotReclaimsBeside shares drops size k b s v passes after answer
         slot-reclaims-beside v answer after did back =
             let all = reclaims-beside b w fit one first size k passes left p q
             (beside-has passes has) took (asks_alone w k) v answer did in
@@ -462,13 +485,16 @@ module _ {T M K : Type 0} (small : K → PartsView T M) (h : AnyWindow T M K) (w
             let by = subst (λ r. RoomBeside asks r (stand_at b w.place)
             (row_of (writer_slot w b)) (row_of (writer_slot v b)) passes (put_back left b q) answer)
             wants-seen at in
-            subst (λ t. RoomBeside asks wants (stand_of (Some t)) (row_of t)
-            (row_of (writer_slot v b)) passes after answer × Fits v b
-            × (stand_of (Some (writer_slot v b)) ≡ stand_of (Some t))
-            × (answer ≡ false → writer_slot v b ≡ t)) beside-seen (
-              subst (λ ps. RoomBeside asks wants (stand_at b w.place) (row_of (writer_slot w b))
-                  (row_of (writer_slot v b)) passes ps answer) (sym back) by,
-              (all.1.0, all.1.1, kind),
-              all.1.2,
-              λ none. ap (λ u. writer_slot u b) (all.1.3 none),
-            )
+            record {
+              row =
+                  subst (λ t. RoomBeside asks wants (stand_of (Some t)) (row_of t)
+                  (row_of (writer_slot v b)) passes after answer) beside-seen
+                  (subst (λ ps. RoomBeside asks wants (stand_at b w.place)
+                  (row_of (writer_slot w b)) (row_of (writer_slot v b)) passes ps answer)
+                  (sym back) by);
+              fits = (all.1.0, all.1.1, kind);
+              stand =
+                  subst (λ t. stand_of (Some (writer_slot v b)) ≡ stand_of (Some t)) beside-seen
+                  all.1.2;
+              kept = λ none. ap (λ u. writer_slot u b) (all.1.3 none) ∙ beside-seen;
+            }

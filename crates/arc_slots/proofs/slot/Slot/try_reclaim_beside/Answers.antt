@@ -1,64 +1,41 @@
 -- The window stays, or has the room at the same place; and what asking adds to the pass that was
 -- lent for it, it adds to the passes.
-use Rattle.std.proofs.Common.{ℕ, if◌then◌else◌, ◌==◌, false, refl}
+use Rattle.std.proofs.Common.{false, refl}
 use Rattle.std.specs.Mem.{type_size}
-use Rattle.arc_slots.proofs.FilledBeside.{beside-left, slot-reclaims-beside}
+use Rattle.arc_slots.proofs.FilledBeside.{SlotReclaimsBeside, beside-left, slot-reclaims-beside}
 use Rattle.arc_slots.proofs.slot.Slot.try_reclaim_beside.Given.{Over}
+use Rattle.arc_slots.proofs.slot.Slot.try_reclaim_beside.Goals.{After-give_back}
 use Rattle.arc_slots.proofs.slot.Slot.try_reclaim_beside.Goals as goal
-
-abbrev first : Over → ℕ
-first g = if type_size g.row.S-Item == 1 then 8 else 4
 
 pub give_back-requires : goal.give_back-requires
 give_back-requires g c =
     beside-left g.S.Small.SmallOf.seen c.self.inside.window c.in-Several.window
     c.self.inside.block c.in-Several.is c.args.self.now c.self.view_is g.S.TableKind.SHARES
-    c.self.invariant
-    c.args.passes.now.of_blocks.items c.requires.pass c.lend-pass.new.self.of_blocks.items
-    c.lend-pass.result c.lend-pass.ensures.taken
+    c.self.invariant c.args.passes.now.of_blocks.items c.requires.pass
+    c.lend-pass.new.self.of_blocks.items c.lend-pass.result c.lend-pass.ensures.taken
+
+did : (g : Over) (c : After-give_back g)
+    → SlotReclaimsBeside g.S.TableKind.SHARES false (type_size g.row.S-Item) c.args.additional
+    c.self.inside.block c.args.self.now c.try_reclaim_as-found.new.self
+    c.args.passes.now.of_blocks.items c.give_back.new.self.of_blocks.items
+    c.try_reclaim_as-found.result
+did g c =
+    slot-reclaims-beside g.S.Small.SmallOf.seen c.self.inside.window c.in-Several.window
+    c.self.inside.block c.in-Several.is c.args.self.now c.self.view_is g.S.TableKind.SHARES
+    c.self.invariant false refl (type_size g.row.S-Item) c.args.additional
+    c.args.passes.now.of_blocks.items c.lend-pass.new.self.of_blocks.items c.lend-pass.result
+    c.try_reclaim_as-found.new.pass c.lend-pass.ensures.taken c.requires.pass
+    c.try_reclaim_as-found.new.self c.try_reclaim_as-found.result
+    c.give_back.new.self.of_blocks.items c.try_reclaim_as-found.ensures.room c.give_back.ensures
 
 pub invariant_of-self : goal.invariant_of-self
-invariant_of-self g c =
-    (slot-reclaims-beside g.S.Small.SmallOf.seen c.self.inside.window c.in-Several.window
-    c.self.inside.block c.in-Several.is c.args.self.now c.self.view_is g.S.TableKind.SHARES
-    c.self.invariant
-    false refl (first g) (type_size g.row.S-Item) c.args.additional
-    c.args.passes.now.of_blocks.items c.lend-pass.new.self.of_blocks.items c.lend-pass.result
-    c.try_reclaim_as-found.new.pass c.lend-pass.ensures.taken c.requires.pass
-    c.try_reclaim_as-found.new.self c.try_reclaim_as-found.result
-    c.give_back.new.self.of_blocks.items c.try_reclaim_as-found.ensures.room c.give_back.ensures).1
+invariant_of-self g c = (did g (goal.at.invariant_of-self g c).After-give_back).fits
 
 pub returns-clause-row : goal.returns-clause-row
-returns-clause-row g c =
-    (slot-reclaims-beside g.S.Small.SmallOf.seen c.self.inside.window c.in-Several.window
-    c.self.inside.block c.in-Several.is c.args.self.now c.self.view_is g.S.TableKind.SHARES
-    c.self.invariant
-    false refl (first g) (type_size g.row.S-Item) c.args.additional
-    c.args.passes.now.of_blocks.items c.lend-pass.new.self.of_blocks.items c.lend-pass.result
-    c.try_reclaim_as-found.new.pass c.lend-pass.ensures.taken c.requires.pass
-    c.try_reclaim_as-found.new.self c.try_reclaim_as-found.result
-    c.give_back.new.self.of_blocks.items c.try_reclaim_as-found.ensures.room c.give_back.ensures).0
+returns-clause-row g c = (did g (goal.at.returns-clause-row g c).After-give_back).row
 
 pub returns-clause-kept : goal.returns-clause-kept
-returns-clause-kept g c =
-    (slot-reclaims-beside g.S.Small.SmallOf.seen c.self.inside.window c.in-Several.window
-    c.self.inside.block c.in-Several.is c.args.self.now c.self.view_is g.S.TableKind.SHARES
-    c.self.invariant
-    false refl (first g) (type_size g.row.S-Item) c.args.additional
-    c.args.passes.now.of_blocks.items c.lend-pass.new.self.of_blocks.items c.lend-pass.result
-    c.try_reclaim_as-found.new.pass c.lend-pass.ensures.taken c.requires.pass
-    c.try_reclaim_as-found.new.self c.try_reclaim_as-found.result
-    c.give_back.new.self.of_blocks.items c.try_reclaim_as-found.ensures.room
-    c.give_back.ensures).3
+returns-clause-kept g c = (did g (goal.at.returns-clause-kept g c).After-give_back).kept
 
 pub returns-clause-stand : goal.returns-clause-stand
-returns-clause-stand g c =
-    (slot-reclaims-beside g.S.Small.SmallOf.seen c.self.inside.window c.in-Several.window
-    c.self.inside.block c.in-Several.is c.args.self.now c.self.view_is g.S.TableKind.SHARES
-    c.self.invariant
-    false refl (first g) (type_size g.row.S-Item) c.args.additional
-    c.args.passes.now.of_blocks.items c.lend-pass.new.self.of_blocks.items c.lend-pass.result
-    c.try_reclaim_as-found.new.pass c.lend-pass.ensures.taken c.requires.pass
-    c.try_reclaim_as-found.new.self c.try_reclaim_as-found.result
-    c.give_back.new.self.of_blocks.items c.try_reclaim_as-found.ensures.room
-    c.give_back.ensures).2
+returns-clause-stand g c = (did g (goal.at.returns-clause-stand g c).After-give_back).stand
