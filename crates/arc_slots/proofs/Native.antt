@@ -10,15 +10,16 @@ use Rattle.arc_block.specs.Block.{Sort, BlockInfo, native, vector, buffer, raw}
 use Rattle.arc_block.specs.Place.{Place, nowhere, static_data, on_block, at_owner}
 use Rattle.arc_parts.specs.Steps.{TakesAt, RefusesTaking}
 use Rattle.arc_block.specs.Unique.{AsksUnique, AsksUniqueAt}
-use Rattle.arc_parts.specs.Window.{IsBoxWhole, IsVecPart}
-use Rattle.arc_parts.specs.Writers.{BecomesSoleAt, RefusesSoleAt}
+use Rattle.arc_parts.specs.Window.{IsBoxWhole, IsVecPart, PartsView, Window, parts_of}
+use Rattle.arc_parts.specs.Writers.{BecomesSoleAt, RefusesSoleAt, as_sole}
 use Rattle.arc_block.specs.Layouts.{MayWrite}
 use Rattle.arc_commands.specs.Changes.{is_all_full, is_box_whole, is_on_block, is_vector}
 use Rattle.arc_commands.specs.Changes.{is_vector_part}
 use Rattle.arc_commands.specs.Changes.{is_writable_at, may_write_at, may_write_sort}
 use Rattle.arc_slots.specs.Calls.{Along, AsksPlace, AsksSort, MayAsk, RefusesOut, TakesOut}
 use Rattle.arc_slots.specs.Stands.{numbered, is_numbered, stand_at, HasPassFor, TakenOut, put_back}
-use Rattle.arc_slots.proofs.Slots.{along}
+use Rattle.arc_slots.specs.Slots.{SlotView, row_of, stand_of, writer_slot}
+use Rattle.arc_slots.proofs.Slots.{ReadCall, along, sole-numbered, sole-stand}
 use Rattle.arc_slots.proofs.Taken.{back-same}
 
 pub and_none : (b : Bool) → (b && false) ≡ false
@@ -189,6 +190,71 @@ module _ {M H : Type 0} (passes left : List (Pass H)) (p new : Pass H) where
           counted = λ none. absurd (owner-there b place (did.asked (is so)) fits none);
         }
         by false so = record { asked = unwanted so; counted = λ none. refl }
+
+-- ---- the same of a slot whose window is read
+
+-- he is its only writer from now on
+pub record BecomesWritten {T M H : Type 0} (has_any drops : Bool) (b : Option ℕ) (s : SlotView T M)
+    (v : PartsView T M) (before after : List (Pass H)) : Type 0 where
+  pub row : row_of (writer_slot v b) ≡ as_sole drops (row_of s)
+  pub stand : stand_of (Some (writer_slot v b)) ≡ stand_of (Some s)
+  pub alone : MayAsk (is_writable_at has_any (row_of s).place) (stand_of (Some s)) before after
+      true
+  pub may : may_write_at has_any true (row_of s).place (length s.window.items) ≡ true
+  pub owner : is_on_block (row_of s).place ≡ true → is_some (stand_of (Some s)) ≡ true
+
+-- he stays a reader
+pub record StaysRead {T M H : Type 0} (has_any : Bool) (s : SlotView T M)
+    (before after : List (Pass H)) : Type 0 where
+  pub beside : MayAsk (is_writable_at has_any (row_of s).place) (stand_of (Some s)) before after
+      false
+  pub may_not : may_write_at has_any false (row_of s).place (length s.window.items) ≡ false
+
+module _ {T M H : Type 0} {w : Window T M} {b : Option ℕ} {s : SlotView T M}
+    {passes left : List (Pass H)} {p : Pass H} (r : ReadCall w b s passes left p) (new : Pass H)
+    (after : List (Pass H)) (back : after ≡ put_back left b new) where
+  pub read-asks : (answer : Bool) → AsksUniqueAt w.place p new answer
+      → AsksPlace (row_of s).place (stand_of (Some s)) passes after answer
+  read-asks answer asks =
+      subst (λ (t : SlotView T M). AsksPlace (row_of t).place (stand_of (Some t)) passes after
+      answer) r.view
+      (subst (λ ps. AsksPlace (numbered b w.place) (stand_at b w.place) passes ps answer)
+      (sym back) (asks-place passes left p new b w.place r.fits r.has r.took answer asks))
+
+  module _ (has_any : Bool) where
+    abbrev AskedSo : Bool → List (Pass H) → Type 0
+    AskedSo found ps =
+        MayAsk (is_writable_at has_any (numbered b w.place)) (stand_at b w.place) passes ps found
+
+    pub read-becomes : (drops : Bool) (v : PartsView T M) → v ≡ as_sole drops (parts_of w)
+        → BecomesSoleAt has_any w.place (length w.items) p new
+        → BecomesWritten has_any drops b s v passes after
+    read-becomes drops v is did =
+        let all =
+        becomes passes left p new has_any b w.place r.fits r.has r.took (length w.items) did in
+        subst (λ (t : SlotView T M). BecomesWritten has_any drops b t v passes after) r.view
+        (record {
+          row =
+              ap (λ (u : PartsView T M). row_of (writer_slot u b)) is
+              ∙ sole-numbered drops b w.items w.place r.fits;
+          stand =
+              ap (λ (u : PartsView T M). stand_of (Some (writer_slot u b))) is
+              ∙ sole-stand drops b w.items w.place;
+          alone = subst (AskedSo true) (sym back) all.0;
+          may = all.1;
+          owner = all.2;
+        })
+
+    pub read-stays : RefusesSoleAt has_any w.place (length w.items) p new
+        → StaysRead has_any s passes after
+    read-stays did =
+        let all =
+        refuses-sole passes left p new has_any b w.place r.fits r.has r.took (length w.items) did
+        in
+        subst (λ (t : SlotView T M). StaysRead has_any t passes after) r.view (record {
+          beside = subst (AskedSo false) (sym back) all.0;
+          may_not = all.1;
+        })
 
 -- ---- what is wanted, as the code tests it
 

@@ -37,23 +37,26 @@ module _ {T M K : Type 0} (small : K → PartsView T M) (h : AnyWindow T M K) (w
   reads-fits fits = ap (λ x. is_numbered b (window_in small x).place) (sym is) ∙ fits
 
 -- what a call by a slot finds whose window is read: how it is seen, that its number is that of its
--- place, and that the passes have the one of its block
-pub record ReadSlot {T M H : Type 0} (w : Window T M) (b : Option ℕ) (s : SlotView T M)
-    (passes : List (Pass H)) : Type 0 where
+-- place, and that the passes have the one of its block, which was taken out of them
+pub record ReadCall {T M H : Type 0} (w : Window T M) (b : Option ℕ) (s : SlotView T M)
+    (passes left : List (Pass H)) (p : Pass H) : Type 0 where
   pub view : read_slot w b ≡ s
   pub fits : is_numbered b w.place ≡ true
   pub has : HasPassFor passes (stand_at b w.place)
+  pub took : TakenOut passes b p left
 
-pub reads-slot : {T M K H : Type 0} (small : K → PartsView T M) (h : AnyWindow T M K)
-    (w : Window T M) (b : Option ℕ) {s : SlotView T M} (passes : List (Pass H)) → h ≡ Read w
-    → held small h b ≡ s → is_numbered b (window_in small h).place ≡ true
-    → HasPassFor passes (stand_of (Some s)) → ReadSlot w b s passes
-reads-slot small h w b {s = s} passes is seen fits has =
+pub read-call : {T M K H : Type 0} (small : K → PartsView T M) (h : AnyWindow T M K)
+    (w : Window T M) {b : Option ℕ} {s : SlotView T M} {passes left : List (Pass H)} {p : Pass H}
+    → h ≡ Read w → held small h b ≡ s → is_numbered b (window_in small h).place ≡ true
+    → HasPassFor passes (stand_of (Some s)) → TakenOut passes b p left
+    → ReadCall w b s passes left p
+read-call small h w {b = b} {s = s} {passes = passes} is seen fits has took =
     let view : read_slot w b ≡ s = sym (reads-view small h w b is) ∙ seen in
     record {
       view = view;
       fits = reads-fits small h w b is fits;
       has = subst (λ x. HasPassFor passes (stand_of (Some x))) (sym view) has;
+      took = took;
     }
 
 -- what a call does to the pass of the owner by which it goes
@@ -281,6 +284,12 @@ module _ {M H : Type 0} (passes : List (Pass H)) where
           (put_back left b new) e) (moved-numbered b start place)
           (refuses wants e b (moved start place) (moved-fits b start place ∙ fits)
           (subst (HasPassFor passes) (sym (moved-stand b start place)) has) took why))
+
+-- there is a pass with the number of a window that is read, where it was taken out
+pub read-left : {T M H : Type 0} {w : Window T M} {b : Option ℕ} {s : SlotView T M}
+    {passes left : List (Pass H)} {p : Pass H} → ReadCall w b s passes left p → HasNumber left b
+read-left {w = w} {b = b} {passes = passes} {left = left} {p = p} r =
+    still-number passes left p b w.place r.fits r.has r.took
 
 -- the new window stands on the block with the same number
 module _ {M H : Type 0} (p new : Pass H) where

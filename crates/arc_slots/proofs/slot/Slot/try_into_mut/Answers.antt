@@ -1,157 +1,71 @@
 -- What asking adds to the pass that was lent for it, it adds to the passes.
-use Rattle.std.proofs.Common.{◌≡◌, Some, true, false, is_some, length, sym, ap, subst, ◌∙◌}
+use Rattle.std.proofs.Common.{Some, true, ap, ◌∙◌}
 use Rattle.arc_block.specs.LayoutFacts.{layout_facts}
-use Rattle.arc_parts.specs.Window.{PartsView, parts_of}
-use Rattle.arc_parts.specs.Writers.{as_sole}
-use Rattle.arc_commands.specs.Changes.{is_on_block, is_writable_at, may_write_at}
-use Rattle.arc_slots.specs.Calls.{MayAsk}
-use Rattle.arc_slots.specs.Slots.{SlotView, row_of, stand_of, writer_slot}
-use Rattle.arc_slots.specs.Stands.{numbered, stand_at}
+use Rattle.arc_parts.specs.Window.{parts_of}
+use Rattle.arc_slots.specs.Slots.{SlotView, row_of, stand_of}
 use Rattle.arc_write.proofs.Moves.{writer_is_sole}
-use Rattle.arc_slots.proofs.Native.{becomes, refuses-sole}
-use Rattle.arc_slots.proofs.Slots.{still-number, reads-slot, sole-numbered}
-use Rattle.arc_slots.proofs.Slots.{sole-stand}
+use Rattle.arc_slots.proofs.Native.{BecomesWritten, StaysRead, read-becomes, read-stays}
+use Rattle.arc_slots.proofs.Slots.{ReadCall, read-call, read-left}
+use Rattle.arc_slots.proofs.slot.Slot.try_into_mut.Given.{Over}
+use Rattle.arc_slots.proofs.slot.Slot.try_into_mut.Goals.{After-lend-pass, In-Err, In-Ok}
 use Rattle.arc_slots.proofs.slot.Slot.try_into_mut.Goals as goal
 
+call : (g : Over) (c : After-lend-pass g)
+    → ReadCall c.in-Read.window c.self.inside.block c.args.self c.args.passes.now.of_blocks.items
+    c.lend-pass.new.self.of_blocks.items c.lend-pass.result
+call g c =
+    read-call g.S.Small.SmallOf.seen c.self.inside.window c.in-Read.window c.in-Read.is
+    c.self.view_is c.self.invariant.0 c.requires.pass c.lend-pass.ensures.taken
+
 pub give_back-requires : goal.give_back-requires
-give_back-requires g c =
-    let b = c.self.inside.block in
+give_back-requires g c = read-left (call g (goal.at.give_back-requires g c).After-lend-pass)
+
+did : (g : Over) (c : In-Ok g)
+    → BecomesWritten g.L.Writable.Layout.ANY g.S.Slice.DROPS c.self.inside.block c.args.self
+    c.in-Ok.window c.args.passes.now.of_blocks.items c.give_back.new.self.of_blocks.items
+did g c =
     let w = c.in-Read.window in
-    let passes = c.args.passes.now.of_blocks.items in
-    let r =
-    reads-slot g.S.Small.SmallOf.seen c.self.inside.window w b passes c.in-Read.is
-    c.self.view_is c.self.invariant.0 c.requires.pass in
-    still-number passes c.lend-pass.new.self.of_blocks.items c.lend-pass.result
-    b w.place r.fits r.has c.lend-pass.ensures.taken
+    let sole =
+    writer_is_sole (layout_facts g.L.Writable.Layout) g.S.Slice.DROPS true (parts_of w)
+    c.in-Ok.window c.lend-pass.result c.try_into_mut_as-asked.new.pass c.in-Ok.ensures.sole in
+    read-becomes
+    (read-call g.S.Small.SmallOf.seen c.self.inside.window w c.in-Read.is c.self.view_is
+    c.self.invariant.0 c.requires.pass c.lend-pass.ensures.taken)
+    c.try_into_mut_as-asked.new.pass c.give_back.new.self.of_blocks.items c.give_back.ensures
+    g.L.Writable.Layout.ANY g.S.Slice.DROPS c.in-Ok.window sole.0 sole.1
 
 pub returns-in-Ok-clause-alone : goal.returns-in-Ok-clause-alone
-returns-in-Ok-clause-alone g c =
-    let b = c.self.inside.block in
-    let w = c.in-Read.window in
-    let passes = c.args.passes.now.of_blocks.items in
-    let r =
-    reads-slot g.S.Small.SmallOf.seen c.self.inside.window w b passes c.in-Read.is
-    c.self.view_is c.self.invariant.0 c.requires.pass in
-    let sole =
-    writer_is_sole (layout_facts g.L.Writable.Layout) g.S.Slice.DROPS true (parts_of w)
-    c.in-Ok.window c.lend-pass.result c.try_into_mut_as-asked.new.pass c.in-Ok.ensures.sole in
-    let all =
-    becomes passes c.lend-pass.new.self.of_blocks.items c.lend-pass.result
-    c.try_into_mut_as-asked.new.pass g.L.Writable.Layout.ANY b w.place r.fits r.has
-    c.lend-pass.ensures.taken (length w.items) sole.1 in
-    subst (λ (s : SlotView g.row.S-Item.Denot g.row.M.Denot).
-    MayAsk (is_writable_at g.L.Writable.Layout.ANY (row_of s).place) (stand_of (Some s)) passes
-    c.give_back.new.self.of_blocks.items true) r.view
-    (subst (λ ps. MayAsk (is_writable_at g.L.Writable.Layout.ANY (numbered b w.place))
-    (stand_at b w.place) passes ps true) (sym c.give_back.ensures) all.0)
+returns-in-Ok-clause-alone g c = (did g (goal.at.returns-in-Ok-clause-alone g c).In-Ok).alone
 
 pub returns-in-Ok-clause-may : goal.returns-in-Ok-clause-may
-returns-in-Ok-clause-may g c =
-    let b = c.self.inside.block in
-    let w = c.in-Read.window in
-    let passes = c.args.passes.now.of_blocks.items in
-    let r =
-    reads-slot g.S.Small.SmallOf.seen c.self.inside.window w b passes c.in-Read.is
-    c.self.view_is c.self.invariant.0 c.requires.pass in
-    let sole =
-    writer_is_sole (layout_facts g.L.Writable.Layout) g.S.Slice.DROPS true (parts_of w)
-    c.in-Ok.window c.lend-pass.result c.try_into_mut_as-asked.new.pass c.in-Ok.ensures.sole in
-    let all =
-    becomes passes c.lend-pass.new.self.of_blocks.items c.lend-pass.result
-    c.try_into_mut_as-asked.new.pass g.L.Writable.Layout.ANY b w.place r.fits r.has
-    c.lend-pass.ensures.taken (length w.items) sole.1 in
-    subst (λ (s : SlotView g.row.S-Item.Denot g.row.M.Denot).
-    may_write_at g.L.Writable.Layout.ANY true (row_of s).place (length s.window.items) ≡ true)
-    r.view
-    all.1
+returns-in-Ok-clause-may g c = (did g (goal.at.returns-in-Ok-clause-may g c).In-Ok).may
 
 pub returns-in-Ok-clause-owner : goal.returns-in-Ok-clause-owner
-returns-in-Ok-clause-owner g c =
-    let b = c.self.inside.block in
-    let w = c.in-Read.window in
-    let passes = c.args.passes.now.of_blocks.items in
-    let r =
-    reads-slot g.S.Small.SmallOf.seen c.self.inside.window w b passes c.in-Read.is
-    c.self.view_is c.self.invariant.0 c.requires.pass in
-    let sole =
-    writer_is_sole (layout_facts g.L.Writable.Layout) g.S.Slice.DROPS true (parts_of w)
-    c.in-Ok.window c.lend-pass.result c.try_into_mut_as-asked.new.pass c.in-Ok.ensures.sole in
-    let all =
-    becomes passes c.lend-pass.new.self.of_blocks.items c.lend-pass.result
-    c.try_into_mut_as-asked.new.pass g.L.Writable.Layout.ANY b w.place r.fits r.has
-    c.lend-pass.ensures.taken (length w.items) sole.1 in
-    subst (λ (s : SlotView g.row.S-Item.Denot g.row.M.Denot).
-    is_on_block (row_of s).place ≡ true → is_some (stand_of (Some s)) ≡ true) r.view all.2
-
-pub returns-in-Err-clause-beside : goal.returns-in-Err-clause-beside
-returns-in-Err-clause-beside g c =
-    let b = c.self.inside.block in
-    let w = c.in-Read.window in
-    let passes = c.args.passes.now.of_blocks.items in
-    let r =
-    reads-slot g.S.Small.SmallOf.seen c.self.inside.window w b passes c.in-Read.is
-    c.self.view_is c.self.invariant.0 c.requires.pass in
-    let all =
-    refuses-sole passes c.lend-pass.new.self.of_blocks.items c.lend-pass.result
-    c.try_into_mut_as-asked.new.pass g.L.Writable.Layout.ANY b w.place r.fits r.has
-    c.lend-pass.ensures.taken (length w.items) c.in-Err.ensures.refused.1 in
-    subst (λ (s : SlotView g.row.S-Item.Denot g.row.M.Denot).
-    MayAsk (is_writable_at g.L.Writable.Layout.ANY (row_of s).place) (stand_of (Some s)) passes
-    c.give_back.new.self.of_blocks.items false) r.view
-    (subst (λ ps. MayAsk (is_writable_at g.L.Writable.Layout.ANY (numbered b w.place))
-    (stand_at b w.place) passes ps false) (sym c.give_back.ensures) all.0)
-
-pub returns-in-Err-clause-may_not : goal.returns-in-Err-clause-may_not
-returns-in-Err-clause-may_not g c =
-    let b = c.self.inside.block in
-    let w = c.in-Read.window in
-    let passes = c.args.passes.now.of_blocks.items in
-    let r =
-    reads-slot g.S.Small.SmallOf.seen c.self.inside.window w b passes c.in-Read.is
-    c.self.view_is c.self.invariant.0 c.requires.pass in
-    let all =
-    refuses-sole passes c.lend-pass.new.self.of_blocks.items c.lend-pass.result
-    c.try_into_mut_as-asked.new.pass g.L.Writable.Layout.ANY b w.place r.fits r.has
-    c.lend-pass.ensures.taken (length w.items) c.in-Err.ensures.refused.1 in
-    subst (λ (s : SlotView g.row.S-Item.Denot g.row.M.Denot).
-    may_write_at g.L.Writable.Layout.ANY false (row_of s).place (length s.window.items) ≡ false)
-    r.view
-    all.1
+returns-in-Ok-clause-owner g c = (did g (goal.at.returns-in-Ok-clause-owner g c).In-Ok).owner
 
 pub returns-in-Ok-clause-row : goal.returns-in-Ok-clause-row
 returns-in-Ok-clause-row g c =
-    let b = c.self.inside.block in
-    let w = c.in-Read.window in
-    let passes = c.args.passes.now.of_blocks.items in
-    let r =
-    reads-slot g.S.Small.SmallOf.seen c.self.inside.window w b passes c.in-Read.is
-    c.self.view_is c.self.invariant.0 c.requires.pass in
-    let drops = g.S.Slice.DROPS in
-    let sole =
-    writer_is_sole (layout_facts g.L.Writable.Layout) g.S.Slice.DROPS true (parts_of w)
-    c.in-Ok.window c.lend-pass.result c.try_into_mut_as-asked.new.pass c.in-Ok.ensures.sole in
-    subst (λ (s : SlotView g.row.S-Item.Denot g.row.M.Denot).
-    row_of c.written.result ≡ as_sole drops (row_of s)) r.view
-    (ap row_of c.written.ensures
-    ∙ ap (λ (v : PartsView g.row.S-Item.Denot g.row.M.Denot). row_of (writer_slot v b))
-    sole.0
-    ∙ sole-numbered drops b w.items w.place r.fits)
+    ap row_of c.written.ensures ∙ (did g (goal.at.returns-in-Ok-clause-row g c).In-Ok).row
 
 pub returns-in-Ok-clause-stand : goal.returns-in-Ok-clause-stand
 returns-in-Ok-clause-stand g c =
-    let b = c.self.inside.block in
-    let w = c.in-Read.window in
-    let drops = g.S.Slice.DROPS in
-    let passes = c.args.passes.now.of_blocks.items in
-    let r =
-    reads-slot g.S.Small.SmallOf.seen c.self.inside.window w b passes c.in-Read.is
-    c.self.view_is c.self.invariant.0 c.requires.pass in
-    let sole =
-    writer_is_sole (layout_facts g.L.Writable.Layout) drops true (parts_of w)
-    c.in-Ok.window c.lend-pass.result c.try_into_mut_as-asked.new.pass c.in-Ok.ensures.sole in
-    subst (λ (s : SlotView g.row.S-Item.Denot g.row.M.Denot).
-    stand_of (Some c.written.result) ≡ stand_of (Some s)) r.view
-    (ap (λ (s : SlotView g.row.S-Item.Denot g.row.M.Denot). stand_of (Some s)) c.written.ensures
-    ∙ ap (λ (v : PartsView g.row.S-Item.Denot g.row.M.Denot). stand_of (Some (writer_slot v b)))
-    sole.0
-    ∙ sole-stand drops b w.items w.place)
+    ap (λ (s : SlotView g.row.S-Item.Denot g.row.M.Denot). stand_of (Some s)) c.written.ensures
+    ∙ (did g (goal.at.returns-in-Ok-clause-stand g c).In-Ok).stand
+
+stays : (g : Over) (c : In-Err g)
+    → StaysRead g.L.Writable.Layout.ANY c.args.self c.args.passes.now.of_blocks.items
+    c.give_back.new.self.of_blocks.items
+stays g c =
+    read-stays
+    (read-call g.S.Small.SmallOf.seen c.self.inside.window c.in-Read.window c.in-Read.is
+    c.self.view_is c.self.invariant.0 c.requires.pass c.lend-pass.ensures.taken)
+    c.try_into_mut_as-asked.new.pass c.give_back.new.self.of_blocks.items c.give_back.ensures
+    g.L.Writable.Layout.ANY c.in-Err.ensures.refused.1
+
+pub returns-in-Err-clause-beside : goal.returns-in-Err-clause-beside
+returns-in-Err-clause-beside g c =
+    (stays g (goal.at.returns-in-Err-clause-beside g c).In-Err).beside
+
+pub returns-in-Err-clause-may_not : goal.returns-in-Err-clause-may_not
+returns-in-Err-clause-may_not g c =
+    (stays g (goal.at.returns-in-Err-clause-may_not g c).In-Err).may_not

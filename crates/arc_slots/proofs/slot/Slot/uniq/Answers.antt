@@ -1,3 +1,4 @@
+use Rattle.std.proofs.Common.{false, true}
 use Rattle.arc_slots.proofs.Asked as answered
 use Rattle.arc_slots.proofs.slot.Slot.uniq.Goals as goal
 
