@@ -3,47 +3,33 @@ use Rattle.std.specs.Prelude.{◌≡◌, ℕ, ◌<◌, Bool, true, false, Some}
 use Rattle.arc_block.specs.Block.{BlockInfo}
 use Rattle.arc_block.specs.Place.{on_block}
 use Rattle.arc_block.specs.Table.{Row, Table, Role, StandsOn, row_at}
-use Rattle.arc_block.specs.Table.{reader, sole_writer, one_writer_of_several, inline, forgotten}
+use Rattle.arc_block.specs.Table.{reader, sole_writer, one_writer_of_several, inline}
 
 -- whether a role is a reader's
 abbrev pub is_reader : Role → Bool
 is_reader reader = true
-is_reader (sole_writer capacity) = false
-is_reader (one_writer_of_several capacity) = false
-is_reader inline = false
-is_reader forgotten = false
+is_reader other = false
 
 -- whether it is a sole writer's
 abbrev pub is_sole : Role → Bool
-is_sole reader = false
 is_sole (sole_writer capacity) = true
-is_sole (one_writer_of_several capacity) = false
-is_sole inline = false
-is_sole forgotten = false
+is_sole other = false
 
 -- whether it is that of one writer of several
 abbrev pub is_several : Role → Bool
-is_several reader = false
-is_several (sole_writer capacity) = false
 is_several (one_writer_of_several capacity) = true
-is_several inline = false
-is_several forgotten = false
+is_several other = false
 
 -- whether it is a writer's
 abbrev pub is_writer : Role → Bool
-is_writer reader = false
 is_writer (sole_writer capacity) = true
 is_writer (one_writer_of_several capacity) = true
-is_writer inline = false
-is_writer forgotten = false
+is_writer other = false
 
 -- whether it is a small window's
 abbrev pub is_small : Role → Bool
-is_small reader = false
-is_small (sole_writer capacity) = false
-is_small (one_writer_of_several capacity) = false
 is_small inline = true
-is_small forgotten = false
+is_small other = false
 
 module _ {T M : Type 0} where
   -- no row is that of one writer of several

@@ -33,22 +33,9 @@ all_calls small = record {
 abbrev pub calls_of : Kind → (small : Bool) → Calls
 calls_of plain_kind small = all_calls small
 calls_of byte_text_kind small = all_calls true
-calls_of text_kind small = record {
-  copies = true;
-  pushes = false;
-  extends = true;
-  any_list = false;
-  small = true;
-  shares = true;
-}
-calls_of owned_kind small = record {
-  copies = false;
-  pushes = true;
-  extends = false;
-  any_list = true;
-  small = false;
-  shares = false;
-}
+calls_of text_kind small = record (all_calls true) { pushes = false; any_list = false }
+calls_of owned_kind small =
+    record (all_calls false) { copies = false; extends = false; shares = false }
 
 -- whether a kind has a zero, where one of plain data has it
 abbrev pub has_zero : Kind → (plain : Bool) → Bool
