@@ -17,8 +17,7 @@ use Rattle.arc_block.specs.Block.{Sort, native, vector, buffer, raw, BlockInfo}
 use Rattle.arc_block.specs.Place.{Place, nowhere, static_data, on_block}
 use Rattle.arc_parts.specs.Room.{ends_full, growth, room_in}
 use Rattle.arc_parts.specs.Shared.{is_on_block}
-use Rattle.arc_block.specs.Table.{Row, RowOf, Role, reader, sole_writer, one_writer_of_several}
-use Rattle.arc_block.specs.Table.{inline, forgotten}
+use Rattle.arc_block.specs.Table.{Row, RowOf, Role}
 use Rattle.arc_parts.specs.Window.{PartsView}
 use Rattle.arc_parts.specs.Writers.{capacity_of, room, room_at, room_for, with_room, with_more}
 use Rattle.arc_parts.specs.Writers.{with_full}
@@ -35,6 +34,8 @@ use Rattle.arc_slots.specs.Stands.{HasNumber, HasPassFor, TakenOut, is_numbered,
 use Rattle.arc_slots.specs.Stands.{put_back, stand_at}
 use Rattle.arc_slots.specs.Writing.{is_fresh, Fills}
 use Rattle.arc_slots.specs.declared.window.Held.TheVariants.{Write}
+use Rattle.arc_commands.proofs.Parts.{sole-with}
+use Rattle.arc_commands.proofs.Roles.{several-with}
 use Rattle.arc_slots.proofs.Slots.{still-number}
 use Rattle.arc_slots.proofs.Taken.{back-same}
 
@@ -201,18 +202,10 @@ abbrev pub Keeps : (Role → Bool) → Type 0
 Keeps mine = (role : Role) (places : ℕ) → mine role ≡ true → mine (with_capacity role places) ≡ true
 
 pub keeps-sole : Keeps is_sole
-keeps-sole reader places is = is
-keeps-sole (sole_writer before) places is = is
-keeps-sole (one_writer_of_several before) places is = is
-keeps-sole inline places is = is
-keeps-sole forgotten places is = is
+keeps-sole role places is = sole-with role places ∙ is
 
 pub keeps-several : Keeps is_several
-keeps-several reader places is = is
-keeps-several (sole_writer before) places is = is
-keeps-several (one_writer_of_several before) places is = is
-keeps-several inline places is = is
-keeps-several forgotten places is = is
+keeps-several role places is = ap is_several (several-with role places is)
 
 -- with this room
 module _ {T M : Type 0} (mine : Role → Bool) (keeps : Keeps mine) (items : List T) (role : Role)

@@ -400,6 +400,15 @@ module _ {T M K : Type 0} (small : K → PartsView T M) (h : AnyWindow T M K) (w
         → IsPassAt w.place p
     beside-pass left p took = window-pass passes left p b w.place fit beside-has took
 
+    -- what he asked by it is asked of the table
+    pub beside-asked : (left : List (Pass Whole)) (p mid : Pass Whole) → TakenOut passes b p left
+        → (after : List (Pass Whole)) → after ≡ put_back left b mid → (found : Bool)
+        → AsksAlone w.place p mid found → AsksAt (stand_of (Some s)) passes after found
+    beside-asked left p mid took after back found asks =
+        subst (λ (t : SlotView T M). AsksAt (stand_of (Some t)) passes after found) beside-seen
+        (subst (λ ps. AsksAt (stand_at b w.place) passes ps found) (sym back)
+        (asked-at passes left p mid found b w.place fit beside-has took asks).0)
+
   module _ (drops : Bool) (undropped : drops ≡ false) (size k : ℕ) where
     abbrev first : ℕ
     first = if size == 1 then 8 else 4

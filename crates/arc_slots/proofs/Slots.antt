@@ -67,21 +67,23 @@ Call H = Owner → Pass H → Pass H → Type 0
 abbrev pub part_at : {M : Type 0} → Bool → ℕ → At M → At M
 part_at nothing start place = if nothing then nowhere else moved start place
 
+-- a place further in has the same number, and the same stand
+moved-same : {M : Type 0} (b : Option ℕ) (start : ℕ) (place : At M)
+    → (numbered b (moved start place) ≡ moved start (numbered b place))
+    × (stand_at b (moved start place) ≡ stand_at b place)
+moved-same b start nowhere = (refl, refl)
+moved-same b start static_data = (refl, refl)
+moved-same b start (on_block None offset facts) = (refl, refl)
+moved-same None start (on_block (Some owner) offset facts) = (refl, refl)
+moved-same (Some n) start (on_block (Some owner) offset facts) = (refl, refl)
+
 pub moved-numbered : {M : Type 0} (b : Option ℕ) (start : ℕ) (place : At M)
     → numbered b (moved start place) ≡ moved start (numbered b place)
-moved-numbered b start nowhere = refl
-moved-numbered b start static_data = refl
-moved-numbered b start (on_block None offset facts) = refl
-moved-numbered None start (on_block (Some owner) offset facts) = refl
-moved-numbered (Some n) start (on_block (Some owner) offset facts) = refl
+moved-numbered b start place = (moved-same b start place).0
 
 pub moved-stand : {M : Type 0} (b : Option ℕ) (start : ℕ) (place : At M)
     → stand_at b (moved start place) ≡ stand_at b place
-moved-stand b start nowhere = refl
-moved-stand b start static_data = refl
-moved-stand b start (on_block None offset facts) = refl
-moved-stand None start (on_block (Some owner) offset facts) = refl
-moved-stand (Some n) start (on_block (Some owner) offset facts) = refl
+moved-stand b start place = (moved-same b start place).1
 
 pub moved-fits : {M : Type 0} (b : Option ℕ) (start : ℕ) (place : At M)
     → is_numbered b (moved start place) ≡ is_numbered b place

@@ -88,21 +88,20 @@ module _ {T M : Type 0} (setting : Setting T) (windows : ℕ) (s : SlotView T M)
         → Said freeze reply.Refused (Some s) None passes
     unfrozen refused = by goes_to refl refused
       where
+        kept : (move : Move) → goes_to ≡ move
+            → after_move setting of_blocks around row move ≡ is_now reply.Refused row
+            → Said freeze reply.Refused (Some s) None passes
+        kept move is refuses =
+            same setting windows s passes freeze reply.Refused
+            (frozen-is of_blocks move is ∙ refuses) (refl, refl, refl)
+
         by : (move : Move) → goes_to ≡ move → IsRefused move
             → Said freeze reply.Refused (Some s) None passes
         by to.Stays is none = absurd none
-        by to.HandedBack is none =
-            same setting windows s passes freeze reply.Refused
-            (frozen-is of_blocks to.HandedBack is) (refl, refl, refl)
-        by to.NewCount is none =
-            same setting windows s passes freeze reply.Refused (frozen-is of_blocks to.NewCount is)
-            (refl, refl, refl)
-        by to.LeavesCount is none =
-            same setting windows s passes freeze reply.Refused
-            (frozen-is of_blocks to.LeavesCount is) (refl, refl, refl)
-        by to.NewEmpty is none =
-            same setting windows s passes freeze reply.Refused (frozen-is of_blocks to.NewEmpty is)
-            (refl, refl, refl)
+        by to.HandedBack is none = kept to.HandedBack is refl
+        by to.NewCount is none = kept to.NewCount is refl
+        by to.LeavesCount is none = kept to.LeavesCount is refl
+        by to.NewEmpty is none = kept to.NewEmpty is refl
 
   -- ---- who is one of several from now on
 

@@ -10,7 +10,23 @@ use Rattle.arc_slots.specs.Slots.{SlotView, as_held, row_of, stand_of, window_in
 use Rattle.arc_slots.specs.Stands.{HasPassFor, is_numbered, numbered, stand_at, put_back}
 use Rattle.arc_slots.proofs.Slots.{still-number, shares-part, refuses-part, part-fits}
 use Rattle.arc_slots.proofs.Slots.{part_at, part-numbered, shares-numbered, same-row}
+use Rattle.arc_slots.proofs.slot.Slot.try_subslice.Given.{Over}
+use Rattle.arc_slots.proofs.slot.Slot.try_subslice.Goals.{After-part_block}
 use Rattle.arc_slots.proofs.slot.Slot.try_subslice.Goals as goal
+
+-- the block of the part
+part-block : (g : Over) (c : After-part_block g)
+    → c.part_block.result ≡ (if g.L.Layout.STATIC
+    && (length (sub (window_in g.S.Small.SmallOf.seen c.self.inside.window).items c.args.start
+    c.args.end) == 0) then None else c.self.inside.block)
+part-block g c =
+    let long =
+    ap (λ (s : SlotView g.row.S-Item.Denot g.row.M.Denot).
+    length (sub s.window.items c.args.start c.args.end)) c.self.view_is
+    ∙ length-sub c.args.self.now.window.items c.args.start c.args.end c.requires.range.ordered
+    c.requires.range.within in
+    c.part_block.ensures
+    ∙ ap (λ n. if g.L.Layout.STATIC && (n == 0) then None else c.self.inside.block) (sym long)
 
 pub give_back-requires : goal.give_back-requires
 give_back-requires g c =
@@ -30,14 +46,7 @@ read_only-requires g c =
     let start = c.args.start in
     let end = c.args.end in
     let nothing = g.L.Layout.STATIC && (length (sub w.items start end) == 0) in
-    let long =
-    ap (λ (s : SlotView g.row.S-Item.Denot g.row.M.Denot).
-    length (sub s.window.items start end)) c.self.view_is
-    ∙ length-sub c.args.self.now.window.items start end c.requires.range.ordered
-    c.requires.range.within in
-    let block : c.part_block.result ≡ (if nothing then None else b) =
-    c.part_block.ensures
-    ∙ ap (λ n. if g.L.Layout.STATIC && (n == 0) then None else b) (sym long) in
+    let block = part-block g (goal.at.read_only-requires g c).After-part_block in
     ap (λ o. is_numbered o made.place) block
     ∙ part-fits c.lend-pass.result c.cut_window-made.new.pass nothing start b w.place made.place
     c.self.invariant.0 c.in-Ok.ensures.place
@@ -73,14 +82,7 @@ returns-in-Ok-clause-stand g c =
     let start = c.args.start in
     let end = c.args.end in
     let nothing = g.L.Layout.STATIC && (length (sub w.items start end) == 0) in
-    let long =
-    ap (λ (s : SlotView g.row.S-Item.Denot g.row.M.Denot).
-    length (sub s.window.items start end)) c.self.view_is
-    ∙ length-sub c.args.self.now.window.items start end c.requires.range.ordered
-    c.requires.range.within in
-    let block : c.part_block.result ≡ (if nothing then None else b) =
-    c.part_block.ensures
-    ∙ ap (λ n. if g.L.Layout.STATIC && (n == 0) then None else b) (sym long) in
+    let block = part-block g (goal.at.returns-in-Ok-clause-stand g c).After-part_block in
     let passes = c.args.passes.now.of_blocks.items in
     let left = c.lend-pass.new.self.of_blocks.items in
     let new = c.cut_window-made.new.pass in
@@ -107,14 +109,7 @@ returns-in-Ok-clause-row g c =
     let start = c.args.start in
     let end = c.args.end in
     let nothing = g.L.Layout.STATIC && (length (sub w.items start end) == 0) in
-    let long =
-    ap (λ (s : SlotView g.row.S-Item.Denot g.row.M.Denot).
-    length (sub s.window.items start end)) c.self.view_is
-    ∙ length-sub c.args.self.now.window.items start end c.requires.range.ordered
-    c.requires.range.within in
-    let block : c.part_block.result ≡ (if nothing then None else b) =
-    c.part_block.ensures
-    ∙ ap (λ n. if g.L.Layout.STATIC && (n == 0) then None else b) (sym long) in
+    let block = part-block g (goal.at.returns-in-Ok-clause-row g c).After-part_block in
     let there =
     ap (λ o. numbered o made.place) block
     ∙ shares-numbered c.lend-pass.result c.cut_window-made.new.pass (if nothing then None else b)
