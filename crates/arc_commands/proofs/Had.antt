@@ -12,7 +12,8 @@ use Rattle.arc_commands.specs.Commands.{ListCmd, ListReply}
 use Rattle.arc_commands.specs.Kinds.{is_had}
 use Rattle.arc_commands.specs.Several.{join_answer}
 use Rattle.arc_commands.specs.Step.{Step, answer, answer_any, answer_row, around_of, changed}
-use Rattle.arc_commands.specs.Step.{founded, is_allowed, is_for, is_for_both, joined, row_by}
+use Rattle.arc_commands.specs.Step.{founded, has_call, is_allowed, is_for, is_for_both, joined}
+use Rattle.arc_commands.specs.Step.{row_by}
 use Rattle.arc_commands.specs.Step.{shortage, window_of}
 use Rattle.arc_commands.specs.declared.command.Cmd.TheVariants as command
 use Rattle.arc_commands.specs.declared.command.Reply.TheVariants as reply
@@ -91,57 +92,42 @@ module _ {T M : Type 0} where
     makes-had places block (command.Cap count) is = refl
     makes-had places block other is = absurd (none-some _ (sym is))
 
-    made-kind : (short : Shortage) (places : ℕ) (t : Table T M) (c : ListCmd T M)
-        → window_of c ≡ None → is_had setting c ≡ false
-        → IsKind t (option_map_or (founded short t) (row_by setting places t.blocks c)
-        (reply.Kind, t))
-    made-kind short places t c makes is =
-        brought-kind short t (row_by setting places t.blocks c)
-        (makes-had places t.blocks c makes ∙ is)
+    module _ (short : Shortage) (places : ℕ) (t : Table T M) where
+      -- of a command that makes a window, and of one on a window
+      made-kind : (c : ListCmd T M) → window_of c ≡ None → is_had setting c ≡ false
+          → IsKind t (option_map_or (founded short t) (row_by setting places t.blocks c)
+          (reply.Kind, t))
+      made-kind c makes is =
+          brought-kind short t (row_by setting places t.blocks c)
+          (makes-had places t.blocks c makes ∙ is)
 
-    had-kind : (short : Shortage) (places : ℕ) (t : Table T M) (c : ListCmd T M)
-        → is_had setting c ≡ false → IsKind t (answer setting short places t c)
-    had-kind short places t (command.Slice items) is =
-        made-kind short places t (command.Slice items) refl is
-    had-kind short places t (command.MSlice items) is =
-        made-kind short places t (command.MSlice items) refl is
-    had-kind short places t (command.Small items) is =
-        made-kind short places t (command.Small items) refl is
-    had-kind short places t (command.Zero count) is =
-        made-kind short places t (command.Zero count) refl is
-    had-kind short places t (command.Vec items) is =
-        made-kind short places t (command.Vec items) refl is
-    had-kind short places t (command.Static items) is =
-        made-kind short places t (command.Static items) refl is
-    had-kind short places t (command.Raw given) is =
-        made-kind short places t (command.Raw given) refl is
-    had-kind short places t (command.Buf given metadata) is =
-        made-kind short places t (command.Buf given metadata) refl is
-    had-kind short places t (command.MBuf given metadata) is =
-        made-kind short places t (command.MBuf given metadata) refl is
-    had-kind short places t (command.Show i) is =
-        row-kind short places t (command.Show i) i
-        (λ role. off setting.calls.copies (is_for {T = T} {M = M} (command.Show i) role) is)
-        (row_at t i) refl
-    had-kind short places t (command.Push i item) is =
-        row-kind short places t (command.Push i item) i
-        (λ role. off setting.calls.pushes (is_for {T = T} {M = M} (command.Push i item) role) is)
-        (row_at t i) refl
-    had-kind short places t (command.Ext i items) is =
-        row-kind short places t (command.Ext i items) i
-        (λ role. off setting.calls.extends (is_for {T = T} {M = M} (command.Ext i items) role) is)
-        (row_at t i) refl
-    had-kind short places t (command.Share i) is =
-        row-kind short places t (command.Share i) i
-        (λ role. off setting.calls.shares (is_for {T = T} {M = M} (command.Share i) role) is)
-        (row_at t i) refl
-    had-kind short places t (command.Unique i) is =
-        row-kind short places t (command.Unique i) i
-        (λ role. off setting.calls.shares (is_for {T = T} {M = M} (command.Unique i) role) is)
-        (row_at t i) refl
-    had-kind short places t (command.Join i j) is =
-        pair-kind t i j is (row_at t i) (row_at t j)
-    had-kind short places t other is = absurd (false≢true (sym is))
+      on-kind : (c : ListCmd T M) (i : ℕ) → has_call setting.calls c ≡ false
+          → IsKind t (option_map_or (λ row. changed t i
+          (answer_any setting short (around_of places t row) c row)) (row_at t i)
+          (reply.NoWindow, t))
+      on-kind c i lacks =
+          row-kind short places t c i
+          (λ role. off (has_call setting.calls c) (is_for {T = T} {M = M} c role) lacks)
+          (row_at t i) refl
+
+      had-kind : (c : ListCmd T M) → is_had setting c ≡ false
+          → IsKind t (answer setting short places t c)
+      had-kind (command.Slice items) is = made-kind (command.Slice items) refl is
+      had-kind (command.MSlice items) is = made-kind (command.MSlice items) refl is
+      had-kind (command.Small items) is = made-kind (command.Small items) refl is
+      had-kind (command.Zero count) is = made-kind (command.Zero count) refl is
+      had-kind (command.Vec items) is = made-kind (command.Vec items) refl is
+      had-kind (command.Static items) is = made-kind (command.Static items) refl is
+      had-kind (command.Raw given) is = made-kind (command.Raw given) refl is
+      had-kind (command.Buf given metadata) is = made-kind (command.Buf given metadata) refl is
+      had-kind (command.MBuf given metadata) is = made-kind (command.MBuf given metadata) refl is
+      had-kind (command.Show i) is = on-kind (command.Show i) i is
+      had-kind (command.Push i item) is = on-kind (command.Push i item) i is
+      had-kind (command.Ext i items) is = on-kind (command.Ext i items) i is
+      had-kind (command.Share i) is = on-kind (command.Share i) i is
+      had-kind (command.Unique i) is = on-kind (command.Unique i) i is
+      had-kind (command.Join i j) is = pair-kind t i j is (row_at t i) (row_at t j)
+      had-kind other is = absurd (false≢true (sym is))
 
     pub step-had : (t : Table T M) (c : ListCmd T M) (r : ListReply T M) (new : Table T M)
         → is_had setting c ≡ false → Step setting t c r new
