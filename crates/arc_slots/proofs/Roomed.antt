@@ -381,7 +381,7 @@ module _ {T M : Type 0} (setting : Setting T) (windows : ℕ) (s : SlotView T M)
             (subst (FillsBeside (asks_alone row k) (needed k) items s new passes passes') is did)
           where
             on-none : is_fresh (needed k) ≡ true → here ≡ None
-            on-none = fresh-stands setting.drops first setting.item_size s k
+            on-none = fresh-stands setting.drops (first k) setting.item_size s k
 
             by : (asks : Bool) → asks_alone row k ≡ asks
                 → FillsBeside asks (needed k) items s new passes passes' (Ok tt)

@@ -287,6 +287,22 @@ module _ {M H : Type 0} (passes : List (Pass H)) where
           (refuses wants e b (moved start place) (moved-fits b start place ∙ fits)
           (subst (HasPassFor passes) (sym (moved-stand b start place)) has) took why))
 
+-- the pass that was taken out for a slot's window is that of its block, and there is one with its
+-- number
+module _ {T M K H : Type 0} (small : K → PartsView T M) (h : AnyWindow T M K) (b : Option ℕ)
+    (s : SlotView T M) (view : held small h b ≡ s)
+    (fits : is_numbered b (window_in small h).place ≡ true) (passes left : List (Pass H))
+    (p : Pass H) (has : HasPassFor passes (stand_of (Some s))) (took : TakenOut passes b p left)
+  where
+    held-has : HasPassFor passes (stand_at b (window_in small h).place)
+    held-has = subst (λ t. HasPassFor passes (stand_of (Some t))) (sym view) has
+
+    pub held-pass : IsPassAt (window_in small h).place p
+    held-pass = window-pass passes left p b (window_in small h).place fits held-has took
+
+    pub held-left : HasNumber left b
+    held-left = still-number passes left p b (window_in small h).place fits held-has took
+
 -- there is a pass with the number of a window that is read, where it was taken out
 pub read-left : {T M H : Type 0} {w : Window T M} {b : Option ℕ} {s : SlotView T M}
     {passes left : List (Pass H)} {p : Pass H} → ReadCall w b s passes left p → HasNumber left b

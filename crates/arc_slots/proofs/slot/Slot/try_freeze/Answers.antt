@@ -1,31 +1,34 @@
 -- The window stands where it stood, or is what is made of its items, on a block more or on none.
 use Rattle.arc_block.specs.LayoutFacts.{layout_facts}
-use Rattle.std.proofs.Common.{Some, ◌<◌, length, refl, sym, ap, ◌∙◌, subst}
+use Rattle.std.proofs.Common.{◌<◌, length, refl, sym, ap, ◌∙◌, subst}
 use Rattle.std.specs.Vec.{vec_capacity}
-use Rattle.arc_slots.specs.Slots.{held, parts_in, stand_of, window_in}
-use Rattle.arc_slots.specs.Stands.{HasPassFor}
+use Rattle.arc_slots.specs.Slots.{held, parts_in}
+use Rattle.arc_slots.specs.Stands.{HasNumber}
 use Rattle.arc_slots.proofs.Freezing.{slot-frozen, slot-numbered, room-to-read}
-use Rattle.arc_slots.proofs.Slots.{still-number, window-pass}
+use Rattle.arc_slots.proofs.Slots.{held-left, held-pass}
 use Rattle.arc_slots.proofs.Taken.{back-same}
+use Rattle.arc_slots.proofs.slot.Slot.try_freeze.Given.{Over}
+use Rattle.arc_slots.proofs.slot.Slot.try_freeze.Goals.{After-lend-pass}
 use Rattle.arc_slots.proofs.slot.Slot.try_freeze.Goals as goal
 
 pub freeze_window-requires-clause-pass : goal.freeze_window-requires-clause-pass
 freeze_window-requires-clause-pass g c =
-    let passes = c.args.passes.now.of_blocks.items in
-    window-pass passes c.lend-pass.new.self.of_blocks.items c.lend-pass.result
-    c.self.inside.block (window_in g.S.Small.SmallOf.seen c.self.inside.window).place
-    c.self.invariant.0
-    (subst (λ s. HasPassFor passes (stand_of (Some s))) (sym c.self.view_is) c.requires.pass)
+    held-pass g.S.Small.SmallOf.seen c.self.inside.window c.self.inside.block c.args.self
+    c.self.view_is c.self.invariant.0 c.args.passes.now.of_blocks.items
+    c.lend-pass.new.self.of_blocks.items c.lend-pass.result c.requires.pass
+    c.lend-pass.ensures.taken
+
+left : (g : Over) (c : After-lend-pass g)
+    → HasNumber c.lend-pass.new.self.of_blocks.items c.self.inside.block
+left g c =
+    held-left g.S.Small.SmallOf.seen c.self.inside.window c.self.inside.block c.args.self
+    c.self.view_is c.self.invariant.0 c.args.passes.now.of_blocks.items
+    c.lend-pass.new.self.of_blocks.items c.lend-pass.result c.requires.pass
     c.lend-pass.ensures.taken
 
 pub keep-block-requires-clause-number : goal.keep-block-requires-clause-number
 keep-block-requires-clause-number g c =
-    let passes = c.args.passes.now.of_blocks.items in
-    still-number passes c.lend-pass.new.self.of_blocks.items c.lend-pass.result
-    c.self.inside.block (window_in g.S.Small.SmallOf.seen c.self.inside.window).place
-    c.self.invariant.0
-    (subst (λ s. HasPassFor passes (stand_of (Some s))) (sym c.self.view_is) c.requires.pass)
-    c.lend-pass.ensures.taken
+    left g (goal.at.keep-block-requires-clause-number g c).After-lend-pass
 
 pub keep-block-requires-clause-room : goal.keep-block-requires-clause-room
 keep-block-requires-clause-room g c begins =
@@ -50,13 +53,7 @@ returns-in-Ok-clause-frozen g c =
     c.keep-block.ensures.same c.keep-block.ensures.new
 
 pub give_back-requires : goal.give_back-requires
-give_back-requires g c =
-    let passes = c.args.passes.now.of_blocks.items in
-    still-number passes c.lend-pass.new.self.of_blocks.items c.lend-pass.result
-    c.self.inside.block (window_in g.S.Small.SmallOf.seen c.self.inside.window).place
-    c.self.invariant.0
-    (subst (λ s. HasPassFor passes (stand_of (Some s))) (sym c.self.view_is) c.requires.pass)
-    c.lend-pass.ensures.taken
+give_back-requires g c = left g (goal.at.give_back-requires g c).After-lend-pass
 
 pub returns-in-Err-clause-back : goal.returns-in-Err-clause-back
 returns-in-Err-clause-back g c = (
