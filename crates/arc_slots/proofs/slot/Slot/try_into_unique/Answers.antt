@@ -3,7 +3,7 @@ use Rattle.arc_parts.specs.Shared.{AsksAlone}
 use Rattle.std.proofs.Common.{Bool, Some, true, false, ap, ◌∙◌}
 use Rattle.arc_slots.specs.Several.{AsksAt}
 use Rattle.arc_slots.specs.Slots.{row_of, stand_of}
-use Rattle.arc_slots.proofs.FilledBeside.{beside-fits, beside-left}
+use Rattle.arc_slots.proofs.FilledBeside.{beside-asked, beside-fits, beside-left}
 use Rattle.arc_slots.proofs.FilledBeside.{beside-pass, beside-seen}
 use Rattle.arc_slots.proofs.Shared.{unique-row}
 use Rattle.arc_slots.proofs.slot.Slot.try_into_unique.Given.{Over}
