@@ -1,6 +1,6 @@
 -- A part that is handed out of a slot's window, as what that is answered.
 use Rattle.std.proofs.Common.{inl, inr, ◌≡◌, ℕ, ◌&&◌, Bool, true, false, if◌then◌else◌, List}
-use Rattle.std.proofs.Common.{Some, None, Ok, Err, is_some, refl, sym, ap}
+use Rattle.std.proofs.Common.{Option, Some, None, Ok, Err, is_some, refl, sym, ap}
 use Rattle.std.proofs.Common.{◌∙◌, subst}
 use Rattle.std.proofs.lemmas.Bool.{false≢true}
 use Rattle.arc_owners.specs.declared.mark.Whole.{Whole}
@@ -14,7 +14,7 @@ use Rattle.arc_block.specs.Table.{Row, Role, reader, sole_writer, one_writer_of_
 use Rattle.arc_block.specs.Table.{forgotten, block_of}
 use Rattle.arc_commands.specs.Additions.{Joins}
 use Rattle.arc_commands.specs.Changes.{Setting, Shortage, no_shortage, of_table, of_clones}
-use Rattle.arc_commands.specs.Changes.{Change}
+use Rattle.arc_commands.specs.Changes.{Around, Change}
 use Rattle.arc_commands.specs.Step.{answer_any}
 use Rattle.arc_commands.specs.Changes.{in_range, is_now}
 use Rattle.arc_commands.specs.Step.{is_allowed}
@@ -22,10 +22,10 @@ use Rattle.arc_commands.specs.Changes.{parted}
 use Rattle.arc_commands.specs.Changes.{with_made}
 use Rattle.arc_commands.specs.Blocks.{is_several, is_writer}
 use Rattle.arc_commands.specs.Several.{split_off_change, split_to_change}
-use Rattle.arc_commands.specs.Commands.{ListCmd}
+use Rattle.arc_commands.specs.Commands.{ListCmd, ListReply}
 use Rattle.arc_commands.specs.declared.command.Cmd.TheVariants as command
 use Rattle.arc_commands.specs.declared.command.Reply.TheVariants as reply
-use Rattle.arc_slots.specs.Answers.{around_in}
+use Rattle.arc_slots.specs.Answers.{Answers, around_in}
 use Rattle.arc_slots.specs.Calls.{Beside, FindsFullAt, RefusesAt}
 use Rattle.arc_slots.specs.Parts.{is_itself, is_part_of, part_answer, part_command, part_row}
 use Rattle.arc_slots.specs.Parts.{rest_of}
@@ -41,7 +41,6 @@ use Rattle.arc_slots.proofs.Added.{refuses-at}
 use Rattle.arc_slots.proofs.Told.{full-told, many-beside, many-refused, why-refused-at}
 use Rattle.arc_slots.proofs.Told.{room-beside, row-block}
 use Rattle.arc_slots.proofs.Answered.{for-role, not-for, same}
-use Rattle.arc_slots.proofs.Before.{before_of}
 
 -- a window that isn't written has clones and ranges
 pub unwritten-has : (role : Role) (part : Part) → IsSlotRole role → is_writer role ≡ false
@@ -58,12 +57,26 @@ unwritten-has forgotten part known other one = absurd known
 
 module _ {T M : Type 0} (setting : Setting T) (windows : ℕ) (s : SlotView T M)
     (passes : List (Pass Whole)) where
-  open before_of setting windows s passes use {here, row, around, Said}
+  abbrev here : Stand
+  here = stand_of (Some s)
 
-  abbrev allowed : ListCmd T M → Role → Bool
+  abbrev row : Row T M
+  row = row_of s
+
+  abbrev around : Around
+  around = around_in 0 windows passes here
+
+  abbrev Command : Type 0
+  Command = ListCmd T M
+
+  abbrev Said : Command → ListReply T M → Option (SlotView T M)
+      → Option (SlotView T M) → List (Pass Whole) → Type 0
+  Said c r new made passes' = Answers setting windows c s passes r new made passes'
+
+  abbrev allowed : Command → Role → Bool
   allowed c role = is_allowed setting.calls c role
 
-  abbrev IsFor : ListCmd T M → Type 0
+  abbrev IsFor : Command → Type 0
   IsFor c = allowed c s.role ≡ true
 
   -- ---- a part that is handed out
@@ -122,7 +135,7 @@ module _ {T M : Type 0} (setting : Setting T) (windows : ℕ) (s : SlotView T M)
   written-not i forgotten part is one = absurd (false≢true is)
 
   module _ (i : ℕ) (part : Part) where
-    abbrev c : ListCmd T M
+    abbrev c : Command
     c = part_command i part
 
     abbrev out : Bool

@@ -1,22 +1,32 @@
 -- The range is a part that is handed out beside the window.
 use Rattle.std.proofs.Common.{refl, sym, ◌∙◌}
+use Rattle.std.specs.Mem.{type_size}
+use Rattle.arc_block.specs.LayoutFacts.{layout_facts}
+use Rattle.arc_commands.specs.Changes.{Setting, setting_of}
 use Rattle.arc_slots.specs.declared.part.Part.TheVariants as part
 use Rattle.arc_slots.proofs.HandedOut.{beside, part-alloc, part-range, part-refused, unwritten-has}
 use Rattle.arc_slots.proofs.HandedOut.{written-kind}
+use Rattle.arc_slots.proofs.slot.Slot.hand_out_range.Given.{Over}
 use Rattle.arc_slots.proofs.slot.Slot.hand_out_range.Goals as goal
+
+abbrev setting : (g : Over) → Setting g.row.S-Item.Denot
+setting g =
+    setting_of (layout_facts g.L.Layout) g.L.Writable.Layout.ANY g.L.Layout.clone_wants
+    g.S.Slice.DROPS g.S.Subsliceable.boundary
+    (type_size g.row.S-Item) g.S.Zero.ZeroOf.zero g.S.Calls.CallsOf.calls
 
 pub returns-then-is_writer-clause-refused : goal.returns-then-is_writer-clause-refused
 returns-then-is_writer-clause-refused g c next i =
-    written-kind _ next _ _ i (part.Range c.args.start c.args.end)
-    (sym c.is_writer.ensures ∙ c.if-is_writer.true) refl
+    written-kind (setting g) next c.args.self.now c.args.passes.now.of_blocks.items i
+    (part.Range c.args.start c.args.end) (sym c.is_writer.ensures ∙ c.if-is_writer.true) refl
 
 pub returns-in-Ok-clause-made : goal.returns-in-Ok-clause-made
 returns-in-Ok-clause-made g c next i =
     let s = c.args.self.now in
-    let range = part.Range c.args.start c.args.end in
-    let for = unwritten-has s.role range c.known_role.ensures
+    let for = unwritten-has s.role (part.Range c.args.start c.args.end) c.known_role.ensures
     (sym c.is_writer.ensures ∙ c.if-is_writer.false) refl in
-    beside _ next s _ i c.requires _ range for
+    beside (setting g) next s c.args.passes.now.of_blocks.items i c.requires
+    c.try_subslice.new.passes.of_blocks.items (part.Range c.args.start c.args.end) for
     (sym c.check_range.ensures.answer ∙ c.in_default.is) c.in-Ok.slot s refl
     record {
       same_is = refl;
@@ -27,23 +37,28 @@ returns-in-Ok-clause-made g c next i =
 
 pub returns-in-Err-try_subslice-clause-refused : goal.returns-in-Err-try_subslice-clause-refused
 returns-in-Err-try_subslice-clause-refused g c next i =
-    let range = part.Range c.args.start c.args.end in
-    let for = unwritten-has c.args.self.now.role range c.known_role.ensures
+    let s = c.args.self.now in
+    let for = unwritten-has s.role (part.Range c.args.start c.args.end) c.known_role.ensures
     (sym c.is_writer.ensures ∙ c.if-is_writer.false) refl in
-    part-refused _ next _ _ i c.requires _ range for
+    part-refused (setting g) next s c.args.passes.now.of_blocks.items i c.requires
+    c.try_subslice.new.passes.of_blocks.items (part.Range c.args.start c.args.end) for
     (sym c.check_range.ensures.answer ∙ c.in_default.is) c.in-Err-try_subslice.e
     c.in-Err-try_subslice.ensures.refused
 
 pub returns-then-not-has_room-clause-refused : goal.returns-then-not-has_room-clause-refused
 returns-then-not-has_room-clause-refused g c next i =
-    let range = part.Range c.args.start c.args.end in
-    let for = unwritten-has c.args.self.now.role range c.known_role.ensures
+    let s = c.args.self.now in
+    let for = unwritten-has s.role (part.Range c.args.start c.args.end) c.known_role.ensures
     (sym c.is_writer.ensures ∙ c.if-is_writer.false) refl in
-    part-alloc _ next _ _ i range for (sym c.check_range.ensures.answer ∙ c.in_default.is)
+    part-alloc (setting g) next s c.args.passes.now.of_blocks.items i
+    (part.Range c.args.start c.args.end) for
+    (sym c.check_range.ensures.answer ∙ c.in_default.is)
 
 pub returns-in-Err-clause-refused : goal.returns-in-Err-clause-refused
 returns-in-Err-clause-refused g c next i =
-    let range = part.Range c.args.start c.args.end in
-    let for = unwritten-has c.args.self.now.role range c.known_role.ensures
+    let s = c.args.self.now in
+    let for = unwritten-has s.role (part.Range c.args.start c.args.end) c.known_role.ensures
     (sym c.is_writer.ensures ∙ c.if-is_writer.false) refl in
-    part-range _ next _ _ i range c.in-Err.e for (sym c.check_range.ensures.answer ∙ c.in-Err.is)
+    part-range (setting g) next s c.args.passes.now.of_blocks.items i
+    (part.Range c.args.start c.args.end) c.in-Err.e for
+    (sym c.check_range.ensures.answer ∙ c.in-Err.is)
