@@ -38,7 +38,7 @@ use Rattle.arc_slots.specs.Slots.{IsSlotRole, SlotView, row_of, stand_of, stands
 use Rattle.arc_slots.specs.Slots.{with_slot}
 use Rattle.arc_slots.proofs.Keeps.{founded-kept, gone-at, known-pass, many-live, row-kept}
 use Rattle.arc_slots.specs.Stands.{HasPassFor}
-use Rattle.arc_slots.proofs.Answered.{for-each, not-for, same, shown, slot_each}
+use Rattle.arc_slots.proofs.Answered.{not-for, same, shown, slot_each}
 use Rattle.arc_slots.proofs.Taken.{set-back, set-twice}
 use Rattle.arc_slots.proofs.Added.{Ended, ended-comes, enters-along}
 use Rattle.arc_slots.proofs.Told.{many_along, none-stands, row-block, stand_block}
@@ -438,9 +438,7 @@ module _ {T M : Type 0} (setting : Setting T) (slots : List (Option (SlotView T 
       (set-back slots i (Some s) there)
       (answered i s there (command.Show i) refl refl (reply.Items s.window.items)
       (Some s) None passes
-      (shown setting (length slots) s passes i
-      (for-each setting (length slots) s passes role (command.Show i) copies (λ n. copies)
-      (λ n. copies) copies)))
+      (shown setting (length slots) s passes i role copies))
 
   -- and so does one of a kind without copies
   pub unshown-there : (i : ℕ) (s : SlotView T M) → slice_get slots i ≡ Some (Some s)
