@@ -13,7 +13,7 @@ mod owned;
 mod plain;
 mod text;
 
-/// A kind whose items are written as letters. A call that a kind doesn't have is answered so, as here
+/// A kind whose items are written as letters. A call that a kind doesn't have is answered so: here,
 /// where the kind says nothing.
 pub trait Spelled: Subsliceable<Item: Letter> + Emptyable + DebugSlice {
     /// A window over these items, by the call that makes one of a list.
