@@ -8,7 +8,7 @@ use Rattle.arc_block.specs.declared.block.TheConstants.{MAX_OWNERS}
 use Rattle.arc_block.specs.Owned.{IsKept}
 use Rattle.arc_commands.specs.Additions.{Adds}
 use Rattle.arc_commands.specs.Apart.{IsLawful}
-use Rattle.arc_commands.specs.State.{State}
+use Rattle.arc_commands.specs.State.{Agrees, CarriesOut, State}
 use Rattle.arc_commands.specs.Changes.{Setting}
 use Rattle.arc_commands.specs.Step.{Step}
 use Rattle.arc_commands.specs.Commands.{ListCmd, ListReply}
@@ -63,3 +63,19 @@ done {setting = setting} {old = old} {c = c} {r = r} {slots = slots} {passes = p
       rows = rows;
       passes_are = adds;
     }
+
+-- what was done where nothing changes is a step of what the table is seen as
+module _ {T M : Type 0} {setting : Setting T} {c : ListCmd T M} {r : ListReply T M}
+    {slots : List (Option (SlotView T M))} {passes : List (Pass Whole)} {s : State T M}
+    (did : Done setting (state_of slots passes) c r slots passes)
+    (seen : state_of slots passes ≡ s) where
+  pub still-rows : Step setting s.table c r s.table
+  still-rows = subst (λ (o : State T M). Step setting o.table c r o.table) seen did.rows
+
+  pub still-passes : Adds setting s.table s.standing c r s.standing
+  still-passes =
+      subst (λ (o : State T M). Adds setting o.table o.standing c r o.standing) seen
+      did.passes_are
+
+  pub still-carried : Agrees s → CarriesOut setting s c r s
+  still-carried agree = record { rows = still-rows; passes = still-passes; agree = agree }
