@@ -4,22 +4,28 @@ use Rattle.arc_block.specs.LayoutFacts.{layout_facts}
 use Rattle.std.specs.Mem.{type_size}
 use Rattle.arc_commands.specs.State.{State}
 use Rattle.arc_commands.specs.Changes.{Setting, setting_of}
-use Rattle.arc_slots.specs.Index.{windows_of}
-use Rattle.arc_slots.specs.Slots.{state_of}
+use Rattle.arc_slots.specs.Index.{IsIndexed, windows_of}
+use Rattle.arc_slots.specs.Slots.{SlotView, state_of}
 use Rattle.arc_table.proofs.Done.{Done}
-use Rattle.std.proofs.Common.{None, Some, length, slice_get, slice_set, refl, sym, ap, ◌∙◌}
-use Rattle.std.proofs.Common.{subst}
+use Rattle.std.proofs.Common.{◌≡◌, List, Option, None, Some, length, slice_get, slice_set, refl}
+use Rattle.std.proofs.Common.{sym, ap, ◌∙◌, subst}
 use Rattle.std.proofs.Common.{arith}
 use Rattle.std.specs.Option.{option_flatten}
 use Rattle.std.proofs.lemmas.List.{length-set}
+use Rattle.std.specs.Prelude.{IfSome}
+use Rattle.arc_owners.specs.declared.mark.Whole.{Whole}
+use Rattle.arc_owners.specs.declared.count.tokens.Pass.{Pass}
+use Rattle.arc_commands.specs.Commands.{ListCmd, ListReply}
 use Rattle.arc_commands.specs.Seen.{map_command, seen_reply}
 use Rattle.arc_commands.specs.declared.command.Reply.TheVariants as reply
+use Rattle.arc_slots.specs.Answers.{Answers}
 use Rattle.arc_slots.specs.Slots.{with_slot}
 use Rattle.arc_slots.proofs.Index.{many-windows, same-indexed, same-parts, set-indexed, set-window}
 use Rattle.arc_slots.proofs.Index.{window-there}
 use Rattle.arc_table.proofs.Stepped.{at-next, at-place, carried, known, unanswered}
 use Rattle.arc_table.proofs.table.Table.on_window.Given.{Over}
-use Rattle.arc_table.proofs.table.Table.on_window.Goals.{After-push_made, After-settle, In_default}
+use Rattle.arc_table.proofs.table.Table.on_window.Goals.{After-index_mut-slot, After-push_made}
+use Rattle.arc_table.proofs.table.Table.on_window.Goals.{After-settle, In_default}
 use Rattle.arc_table.proofs.table.Table.on_window.Goals as goal
 
 abbrev setting : (g : Over) → Setting g.row.S-Item.Denot
@@ -36,6 +42,81 @@ place_of-requires g c =
     same-indexed mid.index.items s.index.items mid.numbers.items s.numbers.items mid.places.items
     s.places.items kept.index kept.numbers kept.places c.self.invariant.1
 
+-- the window under the number stands at its place, among those that were there
+module _ (g : Over) (c : After-index_mut-slot g) where
+  abbrev windows : List (Option (SlotView g.row.S-Item.Denot g.row.M.Denot))
+  windows =
+      windows_of c.self.inside.slots.index.items c.self.inside.slots.numbers.items
+      c.self.inside.slots.places.items
+
+  stands : slice_get c.room_if-has_room.new.self.places.items c.in-Some.place
+      ≡ Some c.index_mut-slot.result.now
+  stands =
+      at-place c.room_if-has_room.new.self.places.items c.in-Some.place
+      c.index_mut-slot.result.now c.in-Some.ensures.within c.index_mut-slot.ensures.value
+
+  as-before : windows_of c.room_if-has_room.new.self.index.items
+      c.room_if-has_room.new.self.numbers.items c.room_if-has_room.new.self.places.items ≡ windows
+  as-before =
+      let s = c.self.inside.slots in
+      let mid = c.room_if-has_room.new.self in
+      let kept = c.room_if-has_room.ensures in
+      same-parts mid.index.items s.index.items mid.numbers.items s.numbers.items mid.places.items
+      s.places.items kept.index kept.numbers kept.places
+
+  stood : slice_get windows c.args.i ≡ Some c.index_mut-slot.result.now
+  stood =
+      let mid = c.room_if-has_room.new.self in
+      ap (λ ws. slice_get ws c.args.i) (sym as-before)
+      ∙ window-there mid.index.items mid.numbers.items mid.places.items c.args.i c.in-Some.place
+      c.in-Some.ensures.told c.in-Some.ensures.whose c.index_mut-slot.result.now stands
+
+  -- what is put at that place stands under the number
+  put : (new : Option (SlotView g.row.S-Item.Denot g.row.M.Denot))
+      → windows_of c.room_if-has_room.new.self.index.items
+      c.room_if-has_room.new.self.numbers.items
+      (slice_set c.room_if-has_room.new.self.places.items c.in-Some.place new)
+      ≡ slice_set windows c.args.i new
+  put new =
+      let mid = c.room_if-has_room.new.self in
+      set-window mid.index.items mid.numbers.items mid.places.items c.args.i c.in-Some.place
+      c.in-Some.ensures.told c.in-Some.ensures.whose c.index_mut-slot.result.now stands new
+      ∙ ap (λ ws. slice_set ws c.args.i new) as-before
+
+  put-indexed : (new : Option (SlotView g.row.S-Item.Denot g.row.M.Denot))
+      → IsIndexed c.room_if-has_room.new.self.index.items
+      c.room_if-has_room.new.self.numbers.items
+      (slice_set c.room_if-has_room.new.self.places.items c.in-Some.place new)
+  put-indexed new =
+      let s = c.self.inside.slots in
+      let mid = c.room_if-has_room.new.self in
+      let kept = c.room_if-has_room.ensures in
+      set-indexed mid.index.items mid.numbers.items mid.places.items c.args.i c.in-Some.place
+      c.in-Some.ensures.told c.in-Some.ensures.whose c.index_mut-slot.result.now stands new
+      (same-indexed mid.index.items s.index.items mid.numbers.items s.numbers.items
+      mid.places.items s.places.items kept.index kept.numbers kept.places c.self.invariant.1)
+
+  abbrev asked : ListCmd g.row.S-Item.Denot g.row.M.Denot
+  asked = map_command g.S.Commands.items_in g.S.Commands.static_in g.B.Buffer.list c.args.command
+
+  -- what it was answered the table did, which ends with these windows
+  did : (r : ListReply g.row.S-Item.Denot g.row.M.Denot)
+      (new made : Option (SlotView g.row.S-Item.Denot g.row.M.Denot))
+      (ends : List (Option (SlotView g.row.S-Item.Denot g.row.M.Denot)))
+      (after : List (Pass Whole)) → ends ≡ with_slot (slice_set windows c.args.i new) made
+      → IfSome c.index_mut-slot.result.now (λ s. Answers (setting g) (length windows) asked s
+      c.self.inside.passes.of_blocks.items r new made after)
+      → (c.index_mut-slot.result.now ≡ None → (r ≡ reply.NoWindow) × (made ≡ None)
+      × (new ≡ None) × (after ≡ c.self.inside.passes.of_blocks.items))
+      → Done (setting g) c.args.self.now asked r ends after
+  did r new made ends after is some none =
+      let passes = c.self.inside.passes.of_blocks.items in
+      subst (λ (o : State g.row.S-Item.Denot g.row.M.Denot). Done (setting g) o asked r ends
+      after) c.self.view_is
+      (subst (λ ss. Done (setting g) (state_of windows passes) asked r ss after) (sym is)
+      (carried (setting g) windows passes c.self.invariant.0 c.args.i c.index_mut-slot.result.now
+      stood asked c.requires.on c.requires.one r new made after some none))
+
 -- it made one
 made : (g : Over) (c : After-push_made g)
     → Done (setting g) c.args.self.now
@@ -44,49 +125,23 @@ made : (g : Over) (c : After-push_made g)
     c.push_made.new.self.numbers.items c.push_made.new.self.places.items)
     c.answer.new.passes.of_blocks.items
 made g c =
+    let found = (goal.at.invariant_of-self-in-Ok g c).After-index_mut-slot in
     let s = c.self.inside.slots in
-    let mid = c.room_if-has_room.new.self in
-    let kept = c.room_if-has_room.ensures in
-    let old = c.index_mut-slot.result.now in
-    let stands =
-    at-place mid.places.items c.in-Some.place old c.in-Some.ensures.within
-    c.index_mut-slot.ensures.value in
-    let same =
-    same-parts mid.index.items s.index.items mid.numbers.items s.numbers.items mid.places.items
-    s.places.items kept.index kept.numbers kept.places in
-    let stood =
-    ap (λ ws. slice_get ws c.args.i) (sym same)
-    ∙ window-there mid.index.items mid.numbers.items mid.places.items c.args.i c.in-Some.place
-    c.in-Some.ensures.told c.in-Some.ensures.whose old stands in
-    let slots = windows_of s.index.items s.numbers.items s.places.items in
-    let passes = c.self.inside.passes.of_blocks.items in
-    let i = c.args.i in
-    let after = c.answer.new.passes.of_blocks.items in
-    let command = map_command g.S.Commands.items_in g.S.Commands.static_in g.B.Buffer.list
-    c.args.command in
-    let new = c.answer.new.place in
-    let window = c.in-Ok.window in
     let end = c.push_made.new.self in
+    let ends = windows_of end.index.items end.numbers.items end.places.items in
+    let after = c.answer.new.passes.of_blocks.items in
+    let many = length (windows g found) in
     let next =
-    c.len-next.ensures ∙ mid.index.ok.0 ∙ ap length c.room_if-has_room.ensures.index
+    c.len-next.ensures ∙ c.room_if-has_room.new.self.index.ok.0
+    ∙ ap length c.room_if-has_room.ensures.index
     ∙ sym (many-windows s.index.items s.numbers.items s.places.items) in
-    let ends =
-    c.push_made.ensures.windows
-    ∙ ap (λ ws. with_slot ws (Some window)) (set-window mid.index.items mid.numbers.items
-    mid.places.items i c.in-Some.place c.in-Some.ensures.told c.in-Some.ensures.whose old stands
-    new)
-    ∙ ap (λ ws. with_slot (slice_set ws i new) (Some window)) same in
-    subst (λ (o : State g.row.S-Item.Denot g.row.M.Denot). Done (setting g) o command
-    (reply.New c.len-next.result)
-    (windows_of end.index.items end.numbers.items end.places.items) after) c.self.view_is
-    (subst (λ ss. Done (setting g) (state_of slots passes) command (reply.New c.len-next.result) ss
-    after) (sym ends)
-    (subst (λ n. Done (setting g) (state_of slots passes) command (reply.New n)
-    (with_slot (slice_set slots i new) (Some window)) after) (sym next)
-    (carried (setting g) slots passes c.self.invariant.0 i old stood command c.requires.on
-    c.requires.one (reply.New (length slots)) new (Some window) after
-    (at-next _ old (length slots) c.in-Ok.ensures.made)
-    (λ none. absurd (cc (c.in-Ok.is, (c.answer.ensures.none none).0))))))
+    subst (λ n. Done (setting g) c.args.self.now (asked g found) (reply.New n) ends after)
+    (sym next)
+    (did g found (reply.New many) c.answer.new.place (Some c.in-Ok.window) ends after
+    (c.push_made.ensures.windows
+    ∙ ap (λ ws. with_slot ws (Some c.in-Ok.window)) (put g found c.answer.new.place))
+    (at-next _ c.index_mut-slot.result.now many c.in-Ok.ensures.made)
+    (λ none. absurd (cc (c.in-Ok.is, (c.answer.ensures.none none).0))))
 
 -- it made none
 told : (g : Over) (c : After-settle g)
@@ -97,83 +152,39 @@ told : (g : Over) (c : After-settle g)
     c.settle.new.self.numbers.items c.settle.new.self.places.items)
     c.answer.new.passes.of_blocks.items
 told g c =
-    let s = c.self.inside.slots in
+    let found = (goal.at.invariant_of-self-in-Err g c).After-index_mut-slot in
     let mid = c.room_if-has_room.new.self in
-    let kept = c.room_if-has_room.ensures in
-    let old = c.index_mut-slot.result.now in
-    let stands =
-    at-place mid.places.items c.in-Some.place old c.in-Some.ensures.within
-    c.index_mut-slot.ensures.value in
-    let same =
-    same-parts mid.index.items s.index.items mid.numbers.items s.numbers.items mid.places.items
-    s.places.items kept.index kept.numbers kept.places in
-    let stood =
-    ap (λ ws. slice_get ws c.args.i) (sym same)
-    ∙ window-there mid.index.items mid.numbers.items mid.places.items c.args.i c.in-Some.place
-    c.in-Some.ensures.told c.in-Some.ensures.whose old stands in
-    let slots = windows_of s.index.items s.numbers.items s.places.items in
-    let passes = c.self.inside.passes.of_blocks.items in
-    let i = c.args.i in
-    let after = c.answer.new.passes.of_blocks.items in
-    let command = map_command g.S.Commands.items_in g.S.Commands.static_in g.B.Buffer.list
-    c.args.command in
-    let new = c.answer.new.place in
-    let said = seen_reply g.S.Commands.items_in g.S.Commands.items_in_box g.B.Buffer.list
-    c.in-Err.reply in
     let end = c.settle.new.self in
-    let put = slice_set mid.places.items c.in-Some.place new in
-    let ends =
-    same-parts end.index.items mid.index.items end.numbers.items mid.numbers.items
-    end.places.items put c.settle.ensures.index c.settle.ensures.numbers
-    c.settle.ensures.places
-    ∙ set-window mid.index.items mid.numbers.items mid.places.items i c.in-Some.place
-    c.in-Some.ensures.told c.in-Some.ensures.whose old stands new
-    ∙ ap (λ ws. slice_set ws i new) same in
-    subst (λ (o : State g.row.S-Item.Denot g.row.M.Denot). Done (setting g) o command said
-    (windows_of end.index.items end.numbers.items end.places.items) after) c.self.view_is
-    (subst (λ ss. Done (setting g) (state_of slots passes) command said ss after) (sym ends)
-    (carried (setting g) slots passes c.self.invariant.0 i old stood command c.requires.on
-    c.requires.one said new None after (at-next _ old (length slots) c.in-Err.ensures.told)
+    let new = c.answer.new.place in
+    did g found
+    (seen_reply g.S.Commands.items_in g.S.Commands.items_in_box g.B.Buffer.list c.in-Err.reply)
+    new None
+    (windows_of end.index.items end.numbers.items end.places.items)
+    c.answer.new.passes.of_blocks.items
+    (same-parts end.index.items mid.index.items end.numbers.items mid.numbers.items
+    end.places.items (slice_set mid.places.items c.in-Some.place new) c.settle.ensures.index
+    c.settle.ensures.numbers c.settle.ensures.places
+    ∙ put g found new)
+    (at-next _ c.index_mut-slot.result.now (length (windows g found)) c.in-Err.ensures.told)
     (λ none. let so = c.answer.ensures.none none in (
       ap (seen_reply g.S.Commands.items_in g.S.Commands.items_in_box g.B.Buffer.list)
           {y = reply.NoWindow} (cc (c.in-Err.is, so.0)),
       refl,
       so.1,
       so.2,
-    ))))
+    ))
 
 pub answer-requires-clause-pass : goal.answer-requires-clause-pass
 answer-requires-clause-pass g c =
     let s = c.self.inside.slots in
-    let mid = c.room_if-has_room.new.self in
-    let kept = c.room_if-has_room.ensures in
-    let old = c.index_mut-slot.result.now in
-    let stands =
-    at-place mid.places.items c.in-Some.place old c.in-Some.ensures.within
-    c.index_mut-slot.ensures.value in
-    let same =
-    same-parts mid.index.items s.index.items mid.numbers.items s.numbers.items mid.places.items
-    s.places.items kept.index kept.numbers kept.places in
-    let stood =
-    ap (λ ws. slice_get ws c.args.i) (sym same)
-    ∙ window-there mid.index.items mid.numbers.items mid.places.items c.args.i c.in-Some.place
-    c.in-Some.ensures.told c.in-Some.ensures.whose old stands in
     known (setting g) (windows_of s.index.items s.numbers.items s.places.items)
-    c.self.inside.passes.of_blocks.items c.self.invariant.0 c.args.i old stood
+    c.self.inside.passes.of_blocks.items c.self.invariant.0 c.args.i c.index_mut-slot.result.now
+    (stood g (goal.at.answer-requires-clause-pass g c).After-index_mut-slot)
 
 pub push_made-requires-clause-indexed : goal.push_made-requires-clause-indexed
 push_made-requires-clause-indexed g c =
-    let s = c.self.inside.slots in
-    let mid = c.room_if-has_room.new.self in
-    let kept = c.room_if-has_room.ensures in
-    let old = c.index_mut-slot.result.now in
-    let stands =
-    at-place mid.places.items c.in-Some.place old c.in-Some.ensures.within
-    c.index_mut-slot.ensures.value in
-    set-indexed mid.index.items mid.numbers.items mid.places.items c.args.i c.in-Some.place
-    c.in-Some.ensures.told c.in-Some.ensures.whose old stands c.answer.new.place
-    (same-indexed mid.index.items s.index.items mid.numbers.items s.numbers.items mid.places.items
-    s.places.items kept.index kept.numbers kept.places c.self.invariant.1)
+    put-indexed g (goal.at.push_made-requires-clause-indexed g c).After-index_mut-slot
+    c.answer.new.place
 
 pub push_made-requires-clause-room : goal.push_made-requires-clause-room
 push_made-requires-clause-room g c some =
@@ -200,23 +211,14 @@ invariant_of-self-in-Ok g c = (
 
 pub invariant_of-self-in-Err : goal.invariant_of-self-in-Err
 invariant_of-self-in-Err g c =
-    let s = c.self.inside.slots in
+    let at = goal.at.invariant_of-self-in-Err g c in
     let mid = c.room_if-has_room.new.self in
-    let kept = c.room_if-has_room.ensures in
-    let old = c.index_mut-slot.result.now in
-    let stands =
-    at-place mid.places.items c.in-Some.place old c.in-Some.ensures.within
-    c.index_mut-slot.ensures.value in
     let end = c.settle.new.self in (
-      (told g (goal.at.invariant_of-self-in-Err g c).After-settle).kept,
+      (told g at.After-settle).kept,
       same-indexed end.index.items mid.index.items end.numbers.items mid.numbers.items
           end.places.items (slice_set mid.places.items c.in-Some.place c.answer.new.place)
           c.settle.ensures.index c.settle.ensures.numbers c.settle.ensures.places
-          (set-indexed mid.index.items mid.numbers.items mid.places.items c.args.i c.in-Some.place
-          c.in-Some.ensures.told c.in-Some.ensures.whose old stands c.answer.new.place
-          (same-indexed mid.index.items s.index.items mid.numbers.items s.numbers.items
-          mid.places.items s.places.items kept.index kept.numbers kept.places
-          c.self.invariant.1)),
+          (put-indexed g at.After-index_mut-slot c.answer.new.place),
     )
 
 pub returns-in-Ok-clause-rows : goal.returns-in-Ok-clause-rows
