@@ -13,7 +13,6 @@ use Rattle.arc_block.proofs.Lists.{get-set, get-set_other}
 use Rattle.arc_commands.specs.Changes.{Setting, setting_of}
 use Rattle.arc_commands.specs.Seen.{seen_reply}
 use Rattle.arc_commands.specs.State.{State}
-use Rattle.arc_commands.specs.Step.{Step}
 use Rattle.arc_commands.specs.declared.command.Cmd.TheVariants as command
 use Rattle.arc_commands.specs.declared.command.Reply.TheVariants as reply
 use Rattle.arc_slots.specs.Answers.{JoinAnswers}
@@ -21,7 +20,7 @@ use Rattle.arc_slots.specs.Index.{IsIndexed, windows_of}
 use Rattle.arc_slots.specs.Slots.{SlotView, stand_of, state_of}
 use Rattle.arc_slots.specs.Stands.{HasPassFor}
 use Rattle.arc_slots.proofs.Index.{same-indexed, same-parts, set-indexed, set-window, window-there}
-use Rattle.arc_table.proofs.Done.{Done}
+use Rattle.arc_table.proofs.Done.{Done, still-rows}
 use Rattle.arc_table.proofs.Stepped.{apart-test, at-place, joined-itself, known, paired-at}
 use Rattle.arc_table.proofs.Stepped.{set-swap, stands-there, unjoined}
 use Rattle.arc_table.proofs.table.Table.join.Given.{Over}
@@ -40,20 +39,18 @@ setting g =
 pub returns-in_default-clause-rows : goal.returns-in_default-clause-rows
 returns-in_default-clause-rows g c =
     let s = c.self.inside.slots in
-    subst (λ (o : State g.row.S-Item.Denot g.row.M.Denot).
-    Step (setting g) o.table (command.Join c.args.i c.args.j) reply.NoWindow o.table) c.self.view_is
+    still-rows
     (unjoined (setting g) (windows_of s.index.items s.numbers.items s.places.items)
     c.self.inside.passes.of_blocks.items c.self.invariant.0 c.args.i c.args.j
-    (inl (c.place_of.ensures.none c.in_default.is))).rows
+    (inl (c.place_of.ensures.none c.in_default.is))) c.self.view_is
 
 pub returns-in_default-place_of-clause-rows : goal.returns-in_default-place_of-clause-rows
 returns-in_default-place_of-clause-rows g c =
     let s = c.self.inside.slots in
-    subst (λ (o : State g.row.S-Item.Denot g.row.M.Denot).
-    Step (setting g) o.table (command.Join c.args.i c.args.j) reply.NoWindow o.table) c.self.view_is
+    still-rows
     (unjoined (setting g) (windows_of s.index.items s.numbers.items s.places.items)
     c.self.inside.passes.of_blocks.items c.self.invariant.0 c.args.i c.args.j
-    (inr (c.place_of-2.ensures.none c.in_default-place_of.is))).rows
+    (inr (c.place_of-2.ensures.none c.in_default-place_of.is))) c.self.view_is
 
 pub returns-then-i-j-clause-rows : goal.returns-then-i-j-clause-rows
 returns-then-i-j-clause-rows g c =
@@ -64,43 +61,50 @@ returns-then-i-j-clause-rows g c =
     let other =
     stands-there (slice_get s.places.items c.in-Some-place_of.there)
     c.in-Some-place_of.ensures.there in
-    subst (λ (o : State g.row.S-Item.Denot g.row.M.Denot).
-    Step (setting g) o.table (command.Join c.args.i c.args.j) reply.Kind o.table) c.self.view_is
+    still-rows
     (joined-itself (setting g) ws c.self.inside.passes.of_blocks.items c.self.invariant.0 c.args.i
     c.args.j one.0 other.0
     (window-there s.index.items s.numbers.items s.places.items c.args.i c.in-Some.here
     c.in-Some.ensures.told c.in-Some.ensures.whose (Some one.0) one.1)
     (window-there s.index.items s.numbers.items s.places.items c.args.j c.in-Some-place_of.there
     c.in-Some-place_of.ensures.told c.in-Some-place_of.ensures.whose (Some other.0) other.1)
-    c.if-i-j.true).rows
+    c.if-i-j.true) c.self.view_is
 
 -- ---- the lists of places
 
--- a place of a list of windows, another one of which is emptied
-module _ {X : Type 0} (index numbers : List ℕ) (places : List (Option X)) (i j here there : ℕ)
-    (told : slice_get index i ≡ Some here) (whose : slice_get numbers here ≡ Some i)
-    (its : slice_get index j ≡ Some there) (owned : slice_get numbers there ≡ Some j)
-    (two : ¬ (i ≡ j)) (o w : Option X) (old : slice_get places there ≡ Some o) (empty : Option X)
-    (kept : slice_get (slice_set places there empty) here ≡ Some w) where
+-- two places of a list of windows, whose numbers are two: the other one is emptied before the window
+-- at the first is looked at
+record Found {X : Type 0} (index numbers : List ℕ) (places : List (Option X))
+    (i j here there : ℕ) (empty o w : Option X) : Type 0 where
+  told : slice_get index i ≡ Some here
+  whose : slice_get numbers here ≡ Some i
+  its : slice_get index j ≡ Some there
+  owned : slice_get numbers there ≡ Some j
+  two : ¬ (i ≡ j)
+  old : slice_get places there ≡ Some o
+  kept : slice_get (slice_set places there empty) here ≡ Some w
+
+module _ {X : Type 0} {index numbers : List ℕ} {places : List (Option X)} {i j here there : ℕ}
+    {empty o w : Option X} (f : Found index numbers places i j here there empty o w) where
   apart : there ≡ here → ⊥
-  apart is = two (same_Some i j (sym whose ∙ ap (slice_get numbers) (sym is) ∙ owned))
+  apart is = f.two (same_Some i j (sym f.whose ∙ ap (slice_get numbers) (sym is) ∙ f.owned))
 
   -- what stood there is what stands there
   stood : slice_get places here ≡ Some w
-  stood = sym (get-set_other places there here empty apart) ∙ kept
+  stood = sym (get-set_other places there here empty apart) ∙ f.kept
 
   -- the windows under both numbers
   one-there : slice_get (windows_of index numbers places) i ≡ Some w
-  one-there = window-there index numbers places i here told whose w stood
+  one-there = window-there index numbers places i here f.told f.whose w stood
 
   other-there : slice_get (windows_of index numbers places) j ≡ Some o
-  other-there = window-there index numbers places j there its owned o old
+  other-there = window-there index numbers places j there f.its f.owned o f.old
 
   one-is : is_some (option_flatten (slice_get places here)) ≡ true → is_some w ≡ true
   one-is is = ap (λ x. is_some (option_flatten x)) (sym stood) ∙ is
 
   other-is : is_some (option_flatten (slice_get places there)) ≡ true → is_some o ≡ true
-  other-is is = ap (λ x. is_some (option_flatten x)) (sym old) ∙ is
+  other-is is = ap (λ x. is_some (option_flatten x)) (sym f.old) ∙ is
 
   -- the one is put back, and then the other
   module _ (new back : Option X)
@@ -109,27 +113,28 @@ module _ {X : Type 0} (index numbers : List ℕ) (places : List (Option X)) (i j
     emptied =
         same_Some back empty (sym left
         ∙ get-set_other (slice_set places there empty) here there new (λ is. apart (sym is))
-        ∙ get-set places there o empty old)
+        ∙ get-set places there o empty f.old)
 
     set-both : (put : Option X) → windows_of index numbers
         (slice_set (slice_set (slice_set places there empty) here new) there put)
         ≡ slice_set (slice_set (windows_of index numbers places) j put) i new
     set-both put =
-        set-window index numbers (slice_set (slice_set places there empty) here new) j there its
-        owned back left put
+        set-window index numbers (slice_set (slice_set places there empty) here new) j there f.its
+        f.owned back left put
         ∙ ap (λ ws. slice_set ws j put)
-        (set-window index numbers (slice_set places there empty) i here told whose w kept new)
+        (set-window index numbers (slice_set places there empty) i here f.told f.whose w f.kept
+        new)
         ∙ ap (λ ws. slice_set (slice_set ws i new) j put)
-        (set-window index numbers places j there its owned o old empty)
-        ∙ set-swap (windows_of index numbers places) i j empty new put two
+        (set-window index numbers places j there f.its f.owned o f.old empty)
+        ∙ set-swap (windows_of index numbers places) i j empty new put f.two
 
     both-indexed : (put : Option X) → IsIndexed index numbers places → IsIndexed index numbers
         (slice_set (slice_set (slice_set places there empty) here new) there put)
     both-indexed put is =
-        set-indexed index numbers (slice_set (slice_set places there empty) here new) j there its
-        owned back left put
-        (set-indexed index numbers (slice_set places there empty) i here told whose w kept new
-        (set-indexed index numbers places j there its owned o old empty is))
+        set-indexed index numbers (slice_set (slice_set places there empty) here new) j there f.its
+        f.owned back left put
+        (set-indexed index numbers (slice_set places there empty) i here f.told f.whose w f.kept new
+        (set-indexed index numbers places j there f.its f.owned o f.old empty is))
 
 -- what stands at a place, where another one was emptied
 at-kept : {X : Type 0} (places : List (Option X)) (here there : ℕ) (empty w : Option X)
@@ -141,39 +146,24 @@ at-kept places here there empty w within read =
 
 -- ---- both are there
 
-module _ (g : Over) (c : After-index_mut-window g) where
-  old : slice_get c.self.inside.slots.places.items c.in-Some-place_of.there
-      ≡ Some c.index_mut.result.now
+found : (g : Over) (c : After-index_mut-window g)
+    → Found c.self.inside.slots.index.items c.self.inside.slots.numbers.items
+    c.self.inside.slots.places.items c.args.i c.args.j c.in-Some.here c.in-Some-place_of.there
+    c.replace-other.new.dest c.index_mut.result.now c.index_mut-window.result.now
+found g c = record {
+  told = c.in-Some.ensures.told;
+  whose = c.in-Some.ensures.whose;
+  its = c.in-Some-place_of.ensures.told;
+  owned = c.in-Some-place_of.ensures.whose;
+  two = c.if-i-j.false;
   old =
       at-place c.self.inside.slots.places.items c.in-Some-place_of.there c.index_mut.result.now
-      c.in-Some-place_of.ensures.within c.index_mut.ensures.value
-
-  kept : slice_get (slice_set c.self.inside.slots.places.items c.in-Some-place_of.there
-      c.replace-other.new.dest) c.in-Some.here ≡ Some c.index_mut-window.result.now
+      c.in-Some-place_of.ensures.within c.index_mut.ensures.value;
   kept =
       at-kept c.self.inside.slots.places.items c.in-Some.here c.in-Some-place_of.there
       c.replace-other.new.dest c.index_mut-window.result.now c.in-Some.ensures.within
-      c.index_mut-window.ensures.value
-
-  one : slice_get (windows_of c.self.inside.slots.index.items
-      c.self.inside.slots.numbers.items c.self.inside.slots.places.items) c.args.i
-      ≡ Some c.index_mut-window.result.now
-  one =
-      one-there c.self.inside.slots.index.items c.self.inside.slots.numbers.items
-      c.self.inside.slots.places.items c.args.i c.args.j c.in-Some.here c.in-Some-place_of.there
-      c.in-Some.ensures.told c.in-Some.ensures.whose c.in-Some-place_of.ensures.told
-      c.in-Some-place_of.ensures.whose c.if-i-j.false c.index_mut.result.now
-      c.index_mut-window.result.now old c.replace-other.new.dest kept
-
-  other : slice_get (windows_of c.self.inside.slots.index.items
-      c.self.inside.slots.numbers.items c.self.inside.slots.places.items) c.args.j
-      ≡ Some c.index_mut.result.now
-  other =
-      other-there c.self.inside.slots.index.items c.self.inside.slots.numbers.items
-      c.self.inside.slots.places.items c.args.i c.args.j c.in-Some.here c.in-Some-place_of.there
-      c.in-Some.ensures.told c.in-Some.ensures.whose c.in-Some-place_of.ensures.told
-      c.in-Some-place_of.ensures.whose c.if-i-j.false c.index_mut.result.now
-      c.index_mut-window.result.now old c.replace-other.new.dest kept
+      c.index_mut-window.ensures.value;
+}
 
 pub join_at-reply-requires-clause-pass : goal.join_at-reply-requires-clause-pass
 join_at-reply-requires-clause-pass g c =
@@ -181,7 +171,7 @@ join_at-reply-requires-clause-pass g c =
     let at = (goal.at.join_at-reply-requires-clause-pass g c).After-index_mut-window in
     known (setting g) (windows_of s.index.items s.numbers.items s.places.items)
     c.self.inside.passes.of_blocks.items c.self.invariant.0 c.args.i
-    c.index_mut-window.result.now (one g at)
+    c.index_mut-window.result.now (one-there (found g at))
 
 pub join_at-reply-requires-clause-other_pass : goal.join_at-reply-requires-clause-other_pass
 join_at-reply-requires-clause-other_pass g c =
@@ -192,98 +182,38 @@ join_at-reply-requires-clause-other_pass g c =
     (sym c.replace-other.ensures.value)
     (known (setting g) (windows_of s.index.items s.numbers.items s.places.items)
     c.self.inside.passes.of_blocks.items c.self.invariant.0 c.args.j
-    c.index_mut.result.now (other g at))
+    c.index_mut.result.now (other-there (found g at)))
 
 -- ---- both are put back
 
-module _ (g : Over) (c : After-index_mut-2 g) where
-  old2 : slice_get c.self.inside.slots.places.items c.in-Some-place_of.there
-      ≡ Some c.index_mut.result.now
-  old2 =
-      at-place c.self.inside.slots.places.items c.in-Some-place_of.there c.index_mut.result.now
-      c.in-Some-place_of.ensures.within c.index_mut.ensures.value
-
-  kept2 : slice_get (slice_set c.self.inside.slots.places.items c.in-Some-place_of.there
-      c.replace-other.new.dest) c.in-Some.here ≡ Some c.index_mut-window.result.now
-  kept2 =
-      at-kept c.self.inside.slots.places.items c.in-Some.here c.in-Some-place_of.there
-      c.replace-other.new.dest c.index_mut-window.result.now c.in-Some.ensures.within
-      c.index_mut-window.ensures.value
-
-  left2 : slice_get (slice_set (slice_set c.self.inside.slots.places.items
-      c.in-Some-place_of.there c.replace-other.new.dest) c.in-Some.here
-      c.join_at-reply.new.place) c.in-Some-place_of.there ≡ Some c.index_mut-2.result.now
-  left2 =
-      at-kept (slice_set c.self.inside.slots.places.items c.in-Some-place_of.there
-      c.replace-other.new.dest) c.in-Some-place_of.there c.in-Some.here c.join_at-reply.new.place
-      c.index_mut-2.result.now
-      (omega (
-        arith,
-        c.in-Some-place_of.ensures.within,
-        length-set c.self.inside.slots.places.items c.in-Some-place_of.there
-            c.replace-other.new.dest,
-      )) c.index_mut-2.ensures.value
-
-  none-left : c.index_mut-2.result.now ≡ c.replace-other.new.dest
-  none-left =
-      emptied c.self.inside.slots.index.items c.self.inside.slots.numbers.items
-      c.self.inside.slots.places.items c.args.i c.args.j c.in-Some.here c.in-Some-place_of.there
-      c.in-Some.ensures.told c.in-Some.ensures.whose c.in-Some-place_of.ensures.told
-      c.in-Some-place_of.ensures.whose c.if-i-j.false c.index_mut.result.now
-      c.index_mut-window.result.now old2 c.replace-other.new.dest kept2
-      c.join_at-reply.new.place c.index_mut-2.result.now left2
+left-there : (g : Over) (c : After-index_mut-2 g)
+    → slice_get (slice_set (slice_set c.self.inside.slots.places.items
+    c.in-Some-place_of.there c.replace-other.new.dest) c.in-Some.here
+    c.join_at-reply.new.place) c.in-Some-place_of.there ≡ Some c.index_mut-2.result.now
+left-there g c =
+    at-kept (slice_set c.self.inside.slots.places.items c.in-Some-place_of.there
+    c.replace-other.new.dest) c.in-Some-place_of.there c.in-Some.here c.join_at-reply.new.place
+    c.index_mut-2.result.now
+    (omega (
+      arith,
+      c.in-Some-place_of.ensures.within,
+      length-set c.self.inside.slots.places.items c.in-Some-place_of.there
+          c.replace-other.new.dest,
+    )) c.index_mut-2.ensures.value
 
 pub set_slot-requires : goal.set_slot-requires
 set_slot-requires g c =
-    none-left g (goal.at.set_slot-requires g c).After-index_mut-2 ∙ c.replace-other.ensures.after
+    let at = goal.at.set_slot-requires g c in
+    emptied (found g at.After-index_mut-window) c.join_at-reply.new.place
+    c.index_mut-2.result.now (left-there g at.After-index_mut-2)
+    ∙ c.replace-other.ensures.after
 
 module _ (g : Over) (c : After-settle g) where
-  old3 : slice_get c.self.inside.slots.places.items c.in-Some-place_of.there
-      ≡ Some c.index_mut.result.now
-  old3 =
-      at-place c.self.inside.slots.places.items c.in-Some-place_of.there c.index_mut.result.now
-      c.in-Some-place_of.ensures.within c.index_mut.ensures.value
+  abbrev at-one : After-index_mut-window g
+  at-one = (goal.at.invariant_of-self g c).After-index_mut-window
 
-  kept3 : slice_get (slice_set c.self.inside.slots.places.items c.in-Some-place_of.there
-      c.replace-other.new.dest) c.in-Some.here ≡ Some c.index_mut-window.result.now
-  kept3 =
-      at-kept c.self.inside.slots.places.items c.in-Some.here c.in-Some-place_of.there
-      c.replace-other.new.dest c.index_mut-window.result.now c.in-Some.ensures.within
-      c.index_mut-window.ensures.value
-
-  left3 : slice_get (slice_set (slice_set c.self.inside.slots.places.items
-      c.in-Some-place_of.there c.replace-other.new.dest) c.in-Some.here
-      c.join_at-reply.new.place) c.in-Some-place_of.there ≡ Some c.index_mut-2.result.now
-  left3 =
-      at-kept (slice_set c.self.inside.slots.places.items c.in-Some-place_of.there
-      c.replace-other.new.dest) c.in-Some-place_of.there c.in-Some.here c.join_at-reply.new.place
-      c.index_mut-2.result.now
-      (omega (
-        arith,
-        c.in-Some-place_of.ensures.within,
-        length-set c.self.inside.slots.places.items c.in-Some-place_of.there
-            c.replace-other.new.dest,
-      )) c.index_mut-2.ensures.value
-
-  one3 : slice_get (windows_of c.self.inside.slots.index.items
-      c.self.inside.slots.numbers.items c.self.inside.slots.places.items) c.args.i
-      ≡ Some c.index_mut-window.result.now
-  one3 =
-      one-there c.self.inside.slots.index.items c.self.inside.slots.numbers.items
-      c.self.inside.slots.places.items c.args.i c.args.j c.in-Some.here c.in-Some-place_of.there
-      c.in-Some.ensures.told c.in-Some.ensures.whose c.in-Some-place_of.ensures.told
-      c.in-Some-place_of.ensures.whose c.if-i-j.false c.index_mut.result.now
-      c.index_mut-window.result.now old3 c.replace-other.new.dest kept3
-
-  other3 : slice_get (windows_of c.self.inside.slots.index.items
-      c.self.inside.slots.numbers.items c.self.inside.slots.places.items) c.args.j
-      ≡ Some c.index_mut.result.now
-  other3 =
-      other-there c.self.inside.slots.index.items c.self.inside.slots.numbers.items
-      c.self.inside.slots.places.items c.args.i c.args.j c.in-Some.here c.in-Some-place_of.there
-      c.in-Some.ensures.told c.in-Some.ensures.whose c.in-Some-place_of.ensures.told
-      c.in-Some-place_of.ensures.whose c.if-i-j.false c.index_mut.result.now
-      c.index_mut-window.result.now old3 c.replace-other.new.dest kept3
+  abbrev at-other : After-index_mut-2 g
+  at-other = (goal.at.invariant_of-self g c).After-index_mut-2
 
   put-at : windows_of c.settle.new.self.index.items c.settle.new.self.numbers.items
       c.settle.new.self.places.items
@@ -298,12 +228,8 @@ module _ (g : Over) (c : After-settle g) where
       c.replace-other.new.dest) c.in-Some.here c.join_at-reply.new.place)
       c.in-Some-place_of.there c.set_slot.new.place) c.settle.ensures.index
       c.settle.ensures.numbers c.settle.ensures.places
-      ∙ set-both c.self.inside.slots.index.items c.self.inside.slots.numbers.items
-      c.self.inside.slots.places.items c.args.i c.args.j c.in-Some.here c.in-Some-place_of.there
-      c.in-Some.ensures.told c.in-Some.ensures.whose c.in-Some-place_of.ensures.told
-      c.in-Some-place_of.ensures.whose c.if-i-j.false c.index_mut.result.now
-      c.index_mut-window.result.now old3 c.replace-other.new.dest kept3
-      c.join_at-reply.new.place c.index_mut-2.result.now left3 c.set_slot.new.place
+      ∙ set-both (found g at-one) c.join_at-reply.new.place c.index_mut-2.result.now
+      (left-there g at-other) c.set_slot.new.place
       ∙ ap (λ x. slice_set (slice_set (windows_of s.index.items s.numbers.items s.places.items)
       c.args.j x) c.args.i c.join_at-reply.new.place) c.set_slot.ensures
 
@@ -317,13 +243,8 @@ module _ (g : Over) (c : After-settle g) where
       c.replace-other.new.dest) c.in-Some.here c.join_at-reply.new.place)
       c.in-Some-place_of.there c.set_slot.new.place) c.settle.ensures.index
       c.settle.ensures.numbers c.settle.ensures.places
-      (both-indexed c.self.inside.slots.index.items c.self.inside.slots.numbers.items
-      c.self.inside.slots.places.items c.args.i c.args.j c.in-Some.here c.in-Some-place_of.there
-      c.in-Some.ensures.told c.in-Some.ensures.whose c.in-Some-place_of.ensures.told
-      c.in-Some-place_of.ensures.whose c.if-i-j.false c.index_mut.result.now
-      c.index_mut-window.result.now old3 c.replace-other.new.dest kept3
-      c.join_at-reply.new.place c.index_mut-2.result.now left3 c.set_slot.new.place
-      c.self.invariant.1)
+      (both-indexed (found g at-one) c.join_at-reply.new.place c.index_mut-2.result.now
+      (left-there g at-other) c.set_slot.new.place c.self.invariant.1)
 
   did : Done (setting g) c.args.self.now (command.Join c.args.i c.args.j)
       (seen_reply g.S.Commands.items_in g.S.Commands.items_in_box g.B.Buffer.list
@@ -341,20 +262,8 @@ module _ (g : Over) (c : After-settle g) where
       let w = c.index_mut-window.result.now in
       let new = c.join_at-reply.new.place in
       let back = c.join_at-reply.new.other in
-      let some : is_some w ≡ true =
-      one-is c.self.inside.slots.index.items c.self.inside.slots.numbers.items
-      c.self.inside.slots.places.items c.args.i c.args.j c.in-Some.here c.in-Some-place_of.there
-      c.in-Some.ensures.told c.in-Some.ensures.whose c.in-Some-place_of.ensures.told
-      c.in-Some-place_of.ensures.whose c.if-i-j.false c.index_mut.result.now
-      c.index_mut-window.result.now old3 c.replace-other.new.dest kept3
-      c.in-Some.ensures.there in
-      let its : is_some o ≡ true =
-      other-is c.self.inside.slots.index.items c.self.inside.slots.numbers.items
-      c.self.inside.slots.places.items c.args.i c.args.j c.in-Some.here c.in-Some-place_of.there
-      c.in-Some.ensures.told c.in-Some.ensures.whose c.in-Some-place_of.ensures.told
-      c.in-Some-place_of.ensures.whose c.if-i-j.false c.index_mut.result.now
-      c.index_mut-window.result.now old3 c.replace-other.new.dest kept3
-      c.in-Some-place_of.ensures.there in
+      let some : is_some w ≡ true = one-is (found g at-one) c.in-Some.ensures.there in
+      let its : is_some o ≡ true = other-is (found g at-one) c.in-Some-place_of.ensures.there in
       let two = apart-test c.args.i c.args.j c.if-i-j.false in
       let said = subst (λ (x : Option (SlotView g.row.S-Item.Denot g.row.M.Denot)).
       IfSome w (λ s. IfSome x (λ o. (k l : ℕ) → (k == l) ≡ false
@@ -365,8 +274,9 @@ module _ (g : Over) (c : After-settle g) where
       c.settle.new.self.numbers.items c.settle.new.self.places.items) after) c.self.view_is
       (subst (λ vs. Done (setting g) (state_of ws passes) (command.Join c.args.i c.args.j) told vs
       after) (sym put-at)
-      (paired-at (setting g) ws passes c.self.invariant.0 c.args.i c.args.j two w o one3 other3 some
-      its after told new back said))
+      (paired-at (setting g) ws passes c.self.invariant.0 c.args.i c.args.j two w o
+      (one-there (found g at-one)) (other-there (found g at-one)) some its after told new back
+      said))
 
 pub invariant_of-self : goal.invariant_of-self
 invariant_of-self g c = (
