@@ -1,8 +1,6 @@
 -- A step keeps the agreement, and so does a run.
-use Rattle.arc_commands.specs.State.{State, CarriesOut}
-use Rattle.arc_commands.specs.Step.{Step}
 use Rattle.arc_commands.proofs.Blocks.{step_agrees, run_agrees}
-use Rattle.arc_commands.proofs.Runs.{run_seen}
+use Rattle.arc_table.proofs.States.{rows_run}
 use Rattle.arc_table.proofs.laws.rows_agree.Goals as goal
 
 pub returns-clause-step : goal.returns-clause-step
@@ -15,6 +13,4 @@ returns-clause-run g c setting old commands replies new =
 pub returns-clause-carried_out : goal.returns-clause-carried_out
 returns-clause-carried_out g c setting old commands replies new run =
     run_agrees setting old.table commands replies new.table
-    (run_seen (CarriesOut setting) (Step setting)
-    (λ (s : State g.row.T.Denot g.row.M.Denot). s.table)
-    (λ before command reply after carried. carried.rows) old commands replies new run)
+    (rows_run setting old commands replies new run)

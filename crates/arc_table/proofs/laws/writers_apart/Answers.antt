@@ -1,8 +1,6 @@
 -- A step keeps it, and so does a run.
-use Rattle.arc_commands.specs.State.{State, CarriesOut}
-use Rattle.arc_commands.specs.Step.{Step}
 use Rattle.arc_commands.proofs.Apart.{empty_lawful, step_lawful, run_lawful}
-use Rattle.arc_commands.proofs.Runs.{run_seen}
+use Rattle.arc_table.proofs.States.{rows_run}
 use Rattle.arc_table.proofs.laws.writers_apart.Goals as goal
 
 pub returns-clause-empty : goal.returns-clause-empty
@@ -19,6 +17,4 @@ returns-clause-run g c setting old commands replies new =
 pub returns-clause-carried_out : goal.returns-clause-carried_out
 returns-clause-carried_out g c setting old commands replies new run =
     run_lawful setting old.table commands replies new.table
-    (run_seen (CarriesOut setting) (Step setting)
-    (λ (s : State g.row.T.Denot g.row.M.Denot). s.table)
-    (λ before command reply after carried. carried.rows) old commands replies new run)
+    (rows_run setting old commands replies new run)
