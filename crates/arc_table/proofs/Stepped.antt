@@ -288,29 +288,28 @@ module _ {T M : Type 0} (setting : Setting T) (slots : List (Option (SlotView T 
   unmade c on places enough r why =
       at (row_by setting places (length passes) c) refl why
     where
+      told : (said : ListReply T M)
+          → answer_by setting (shortage said c) places t c None ≡ (said, t)
+          → MakerAdds c said None passes passes → r ≡ said → Done setting old c r slots passes
+      told said answered adds why =
+          subst (λ r. Done setting old c r slots passes) (sym why)
+          (done fact.1 fact.0
+          (record {
+            places = places;
+            enough = enough;
+            answered = answer-is (shortage said c) places c None on (made-one c on) ∙ answered;
+          })
+          (adds-are c said old None on (made-one c on) (None, adds, refl)))
+
       at : (x : Option (Row T M)) → row_by setting places (length passes) c ≡ x
           → MatchOption x (r ≡ reply.Kind) (λ row. r ≡ reply.Alloc)
           → Done setting old c r slots passes
-      at None is why =
-          subst (λ r. Done setting old c r slots passes) (sym why)
-          (done fact.1 fact.0
-          (record {
-            places = places;
-            enough = enough;
-            answered = answer-is no_shortage places c None on (made-one c on)
-                ∙ ap (λ x. option_map_or (founded no_shortage t) x (reply.Kind, t)) is;
-          })
-          (adds-are c reply.Kind old None on (made-one c on) (None, maker-kind c, refl)))
-      at (Some row) is why =
-          subst (λ r. Done setting old c r slots passes) (sym why)
-          (done fact.1 fact.0
-          (record {
-            places = places;
-            enough = enough;
-            answered = answer-is of_table places c None on (made-one c on)
-                ∙ ap (λ x. option_map_or (founded of_table t) x (reply.Kind, t)) is;
-          })
-          (adds-are c reply.Alloc old None on (made-one c on) (None, maker-alloc c, refl)))
+      at None is =
+          told reply.Kind (ap (λ x. option_map_or (founded no_shortage t) x (reply.Kind, t)) is)
+          (maker-kind c)
+      at (Some row) is =
+          told reply.Alloc (ap (λ x. option_map_or (founded of_table t) x (reply.Kind, t)) is)
+          (maker-alloc c)
 
   module _ (s : SlotView T M) (passes' : List (Pass Whole))
       (founds : Founds (stand_of (Some s)) passes passes') where
