@@ -1,6 +1,7 @@
 -- Where a row lies and where its window stands agree.
 use Rattle.std.proofs.Common.{◌≡◌, ℕ, ◌==◌, if◌then◌else◌, Bool, true, false, List, [], ◌∷◌, length}
-use Rattle.std.proofs.Common.{map, Option, Some, None, is_some, refl, ap, ◌∙◌}
+use Rattle.std.proofs.Common.{map, Option, Some, None, is_some, refl, sym, ap, ◌∙◌}
+use Rattle.std.proofs.lemmas.List.{length-map}
 use Rattle.std.specs.Option.{option_and_then, option_map, option_map_or}
 use Rattle.arc_owners.specs.declared.count.tokens.Pass.{Pass}
 use Rattle.arc_owners.specs.declared.mark.Whole.{Whole}
@@ -11,8 +12,10 @@ use Rattle.arc_block.specs.Table.{Row, block_of, stands_on, owners}
 use Rattle.arc_block.proofs.Alone.{same_owners}
 use Rattle.arc_slots.specs.Slots.{SlotView, row_of, stand_of, stands_of}
 use Rattle.arc_slots.specs.Stands.{numbered, stand_at}
-use Rattle.arc_commands.specs.State.{Agrees}
+use Rattle.arc_commands.specs.State.{Agrees, State}
+use Rattle.arc_slots.specs.Index.{windows_of}
 use Rattle.arc_slots.specs.Slots.{state_of}
+use Rattle.arc_slots.proofs.Index.{many-windows}
 
 abbrev At : Type 0 → Type 0
 At M = Place (Option Owner) M
@@ -58,6 +61,16 @@ module _ {T M : Type 0} where
   slots-agree (x ∷ xs) =
       ap (λ b. b ∷ map row_block (map (option_map row_of) xs)) (slot-agrees x)
       ∙ ap (λ bs. stand_block (stand_of x) ∷ bs) (slots-agree xs)
+
+  -- there is a row for each number
+  pub rows-many : (index numbers : List ℕ) (places : List (Option (SlotView T M)))
+      (passes : List (Pass Whole)) {s : State T M}
+      → state_of (windows_of index numbers places) passes ≡ s
+      → length s.table.rows ≡ length index
+  rows-many index numbers places passes seen =
+      sym (ap (λ (o : State T M). length o.table.rows) seen)
+      ∙ length-map (windows_of index numbers places) (option_map row_of)
+      ∙ many-windows index numbers places
 
   -- each window stands on the block of its row
   pub state-agrees : (slots : List (Option (SlotView T M))) (passes : List (Pass Whole))

@@ -10,15 +10,17 @@ use Rattle.arc_commands.specs.Seen.{map_command, seen_reply}
 use Rattle.arc_commands.specs.State.{CarriesOut}
 use Rattle.arc_commands.specs.Changes.{Setting, setting_of}
 use Rattle.arc_commands.proofs.Runs.{run_push_seen}
+use Rattle.arc_table.proofs.table.Table.run.Given.{Over}
 use Rattle.arc_table.proofs.table.Table.run.Goals as goal
+
+abbrev setting : (g : Over) → Setting g.row.S-Item.Denot
+setting g =
+    setting_of (layout_facts g.L.Layout) g.L.Writable.Layout.ANY g.L.Layout.clone_wants
+    g.S.Slice.DROPS g.S.Subsliceable.boundary
+    (type_size g.row.S-Item) g.S.Zero.ZeroOf.zero g.S.Calls.CallsOf.calls
 
 pub loop-command-preserved : goal.loop-command-preserved
 loop-command-preserved g c =
-    let setting : Setting g.row.S-Item.Denot =
-    setting_of (layout_facts g.L.Layout) g.L.Writable.Layout.ANY g.L.Layout.clone_wants
-    g.S.Slice.DROPS
-    g.S.Subsliceable.boundary (type_size g.row.S-Item)
-    g.S.Zero.ZeroOf.zero g.S.Calls.CallsOf.calls in
     let said_by = map_command g.S.Commands.items_in g.S.Commands.static_in g.B.Buffer.list in
     let at = c.loop-command in
     let said = at.invariant in
@@ -29,12 +31,12 @@ loop-command-preserved g c =
       commands = append_assoc at.yielded (command ∷ []) _ ∙ rw (← next) said.commands;
       left = omega (arith, said.left, c.in-Some.ensures.steps.1, ap length next);
       run =
-          subst (λ rs. RunOf (CarriesOut setting) c.args.self.now
+          subst (λ rs. RunOf (CarriesOut (setting g)) c.args.self.now
           (map said_by (at.yielded ++ command ∷ []))
           (map (seen_reply g.S.Commands.items_in g.S.Commands.items_in_box g.B.Buffer.list) rs)
           c.step.new.self)
           (sym c.push_reserved.ensures.items)
-          (run_push_seen (CarriesOut setting) said_by
+          (run_push_seen (CarriesOut (setting g)) said_by
           (seen_reply g.S.Commands.items_in g.S.Commands.items_in_box g.B.Buffer.list)
           c.args.self.now at.yielded
           at.replies.items at.self command c.step.result c.step.new.self said.run c.step.ensures);
@@ -45,11 +47,6 @@ loop-command-preserved g c =
 
 pub returns-clause-run : goal.returns-clause-run
 returns-clause-run g c =
-    let setting : Setting g.row.S-Item.Denot =
-    setting_of (layout_facts g.L.Layout) g.L.Writable.Layout.ANY g.L.Layout.clone_wants
-    g.S.Slice.DROPS
-    g.S.Subsliceable.boundary (type_size g.row.S-Item)
-    g.S.Zero.ZeroOf.zero g.S.Calls.CallsOf.calls in
     let said_by = map_command g.S.Commands.items_in g.S.Commands.static_in g.B.Buffer.list in
     let at = c.loop-command in
     let said = at.invariant in
@@ -58,6 +55,6 @@ returns-clause-run g c =
     (sym said.left ∙ c.in-None.ensures.steps.0) in
     let all : at.yielded ≡ c.args.commands.items =
     sym (append-nil at.yielded) ∙ rw none at said.commands in
-    subst (λ cs. RunOf (CarriesOut setting) c.args.self.now (map said_by cs)
+    subst (λ cs. RunOf (CarriesOut (setting g)) c.args.self.now (map said_by cs)
     (map (seen_reply g.S.Commands.items_in g.S.Commands.items_in_box g.B.Buffer.list)
     at.replies.items) at.self) all said.run
