@@ -1,5 +1,5 @@
 -- A slot whose window was split, as its rows and where they stand.
-use Rattle.std.proofs.Common.{◌≡◌, ℕ, ◌<◌, ◌==◌, ◌&&◌, Bool, true, if◌then◌else◌, List}
+use Rattle.std.proofs.Common.{◌≡◌, ℕ, ◌<◌, ◌==◌, ◌&&◌, Bool, if◌then◌else◌, List}
 use Rattle.std.proofs.Common.{length, Option, Some, None, sym, ap, ◌∙◌, subst, arith}
 use Rattle.std.proofs.lemmas.Bool.{eq-eqb, ne_eqb}
 use Rattle.arc_owners.specs.declared.count.tokens.Pass.{Pass}
@@ -8,22 +8,17 @@ use Rattle.arc_block.specs.Table.{reader}
 use Rattle.arc_parts.specs.Window.{Window}
 use Rattle.arc_read.specs.Cuts.{SharesPart, SplitsOff, SplitsTo, cut_window}
 use Rattle.arc_slots.specs.Calls.{Beside}
-use Rattle.arc_slots.specs.Slots.{SlotView, row_of, stand_of}
+use Rattle.arc_slots.specs.Slots.{SlotView, read_slot, row_of, stand_of}
 use Rattle.arc_slots.specs.Splits.{IsSplit}
-use Rattle.arc_slots.specs.Stands.{is_numbered, numbered, stand_at, HasPassFor, TakenOut, put_back}
+use Rattle.arc_slots.specs.Stands.{numbered, put_back, stand_at}
 use Rattle.arc_commands.specs.Changes.{part_of, cut_row, off_part, to_part}
-use Rattle.arc_slots.proofs.Slots.{shares-part, part-place, moved-numbered, moved-stand}
+use Rattle.arc_slots.proofs.Slots.{ReadCall, shares-part, part-place, moved-numbered, moved-stand}
 
--- a slot of these
-abbrev pub slot : {T M : Type 0} → Window T M → Option ℕ → SlotView T M
-slot w b = record { window = w; role = reader; block = b }
-
-module _ {T M H : Type 0} (has_static : Bool) (passes left : List (Pass H)) (p new : Pass H)
-    (after : List (Pass H)) (w : Window T M) (b : Option ℕ)
-    (back : after ≡ put_back left b new) (fits : is_numbered b w.place ≡ true)
-    (has : HasPassFor passes (stand_at b w.place)) (took : TakenOut passes b p left) where
-  abbrev s : SlotView T M
-  s = slot w b
+module _ {T M H : Type 0} {w : Window T M} {b : Option ℕ} {s : SlotView T M}
+    {passes left : List (Pass H)} {p : Pass H} (r : ReadCall w b s passes left p) (new : Pass H)
+    (after : List (Pass H)) (back : after ≡ put_back left b new) (has_static : Bool) where
+  abbrev here : SlotView T M
+  here = read_slot w b
 
   -- a part that was made, and the block that its length tells
   module _ (start end : ℕ) (part : Window T M) (block : Option ℕ) (len : ℕ)
@@ -37,7 +32,7 @@ module _ {T M H : Type 0} (has_static : Bool) (passes left : List (Pass H)) (p n
         is ∙ ap (λ n. if has_static && (n == 0) then None else b)
         (counted ∙ ap length made.0)
 
-    part-row : row_of (slot part block) ≡ part_of has_static (row_of s) start end
+    part-row : row_of (read_slot part block) ≡ part_of has_static (row_of here) start end
     part-row =
         ap (λ xs. record { items = xs; place = numbered block part.place; role = reader }) made.0
         ∙ ap (λ o. record {
@@ -46,90 +41,103 @@ module _ {T M H : Type 0} (has_static : Bool) (passes left : List (Pass H)) (p n
           role = reader;
         }) block-is
         ∙ ap (λ q. record { items = sub w.items start end; place = q; role = reader })
-        (part-place p new nothing start b w.place part.place fits made.1)
+        (part-place p new nothing start b w.place part.place r.fits made.1)
 
-    part-added : Beside (stand_of (Some s)) passes after (stand_of (Some (slot part block)))
+    part-added : Beside (stand_of (Some here)) passes after (stand_of (Some (read_slot part block)))
     part-added =
         subst (λ ps. Beside (stand_at b w.place) passes ps (stand_at block part.place)) (sym back)
         (subst (λ o. Beside (stand_at b w.place) passes (put_back left b new)
         (stand_at o part.place)) (sym block-is)
-        (shares-part passes left p new nothing start b w.place part.place fits has took made.1))
+        (shares-part passes left p new nothing start b w.place part.place r.fits r.has r.took
+        made.1))
 
   -- the window itself, cut
   cut-row : (start end : ℕ) (one : Window T M) → one ≡ cut_window w start end
-      → row_of (slot one b) ≡ cut_row (row_of s) start end
+      → row_of (read_slot one b) ≡ cut_row (row_of here) start end
   cut-row start end one is =
-      ap (λ v. row_of (slot v b)) is
+      ap (λ v. row_of (read_slot v b)) is
       ∙ ap (λ q. record { items = sub w.items start end; place = q; role = reader })
       (moved-numbered b start w.place)
 
   cut-stand : (start end : ℕ) (one : Window T M) → one ≡ cut_window w start end
-      → stand_of (Some (slot one b)) ≡ stand_of (Some s)
+      → stand_of (Some (read_slot one b)) ≡ stand_of (Some here)
   cut-stand start end one is =
       ap (λ (v : Window T M). stand_at b v.place) is ∙ moved-stand b start w.place
 
   pub off-start : (at : ℕ) (front behind : Window T M) (block : Option ℕ) (len : ℕ)
       → SplitsOff has_static w at p new front behind → len ≡ length front.items
       → block ≡ (if has_static && (len == 0) then None else b) → at ≡ 0
-      → IsSplit s (slot behind b) (slot front block) (row_of s) (off_part has_static (row_of s) at)
-      passes after
+      → IsSplit s (read_slot behind b) (read_slot front block) (row_of s)
+      (off_part has_static (row_of s) at) passes after
   off-start at front behind block len splits counted is zero =
       let parts = splits.at_start zero in
-      let pick = ap (λ c. if c then part_of has_static (row_of s) 0 0 else
-      part_of has_static (row_of s) at (length w.items)) (eq-eqb at 0 zero) in
-      record {
-        same_is = ap (λ v. row_of (slot v b)) parts.0;
+      let pick = ap (λ c. if c then part_of has_static (row_of here) 0 0 else
+      part_of has_static (row_of here) at (length w.items)) (eq-eqb at 0 zero) in
+      subst (λ (x : SlotView T M). IsSplit x (read_slot behind b) (read_slot front block) (row_of x)
+      (off_part has_static (row_of x) at) passes after) r.view
+      (record {
+        same_is = ap (λ v. row_of (read_slot v b)) parts.0;
         made_is = part-row 0 0 front block len parts.1 counted is ∙ sym pick;
         owner = ap (λ (v : Window T M). stand_at b v.place) parts.0;
         added = part-added 0 0 front block len parts.1 counted is;
-      }
+      })
 
   pub off-later : (at : ℕ) (front behind : Window T M) (block : Option ℕ) (len : ℕ)
       → SplitsOff has_static w at p new front behind → len ≡ length behind.items
       → block ≡ (if has_static && (len == 0) then None else b) → 0 < at
-      → IsSplit s (slot front b) (slot behind block) (cut_row (row_of s) 0 at)
+      → IsSplit s (read_slot front b) (read_slot behind block) (cut_row (row_of s) 0 at)
       (off_part has_static (row_of s) at) passes after
   off-later at front behind block len splits counted is more =
       let parts = splits.later more in
       let long = length w.items in
-      let pick = ap (λ c. if c then part_of has_static (row_of s) 0 0 else
-      part_of has_static (row_of s) at long) (ne_eqb at 0 (λ e. omega (arith, more, e))) in
-      record {
+      let pick = ap (λ c. if c then part_of has_static (row_of here) 0 0 else
+      part_of has_static (row_of here) at long) (ne_eqb at 0 (λ e. omega (arith, more, e))) in
+      subst (λ (x : SlotView T M). IsSplit x (read_slot front b) (read_slot behind block)
+      (cut_row (row_of x) 0 at) (off_part has_static (row_of x) at) passes after) r.view
+      (record {
         same_is = cut-row 0 at front parts.0;
         made_is = part-row at long behind block len parts.1 counted is ∙ sym pick;
         owner = cut-stand 0 at front parts.0;
         added = part-added at long behind block len parts.1 counted is;
-      }
+      })
 
   pub to-end : (at : ℕ) (front behind : Window T M) (block : Option ℕ) (len : ℕ)
       → SplitsTo has_static w at p new front behind → len ≡ length behind.items
-      → block ≡ (if has_static && (len == 0) then None else b) → at ≡ length w.items
-      → IsSplit s (slot front b) (slot behind block) (row_of s) (to_part has_static (row_of s) at)
-      passes after
-  to-end at front behind block len splits counted is last =
+      → block ≡ (if has_static && (len == 0) then None else b) → at ≡ length s.window.items
+      → IsSplit s (read_slot front b) (read_slot behind block) (row_of s)
+      (to_part has_static (row_of s) at) passes after
+  to-end at front behind block len splits counted is =
+      subst (λ (x : SlotView T M). at ≡ length x.window.items → IsSplit x (read_slot front b)
+      (read_slot behind block) (row_of x) (to_part has_static (row_of x) at) passes after) r.view
+      (λ last.
       let parts = splits.at_end last in
-      let pick = ap (λ c. if c then part_of has_static (row_of s) at at else
-      part_of has_static (row_of s) 0 at) (eq-eqb at (length w.items) last) in
+      let pick = ap (λ c. if c then part_of has_static (row_of here) at at else
+      part_of has_static (row_of here) 0 at) (eq-eqb at (length w.items) last) in
       record {
-        same_is = ap (λ v. row_of (slot v b)) parts.0;
+        same_is = ap (λ v. row_of (read_slot v b)) parts.0;
         made_is = part-row at at behind block len parts.1 counted is ∙ sym pick;
         owner = ap (λ (v : Window T M). stand_at b v.place) parts.0;
         added = part-added at at behind block len parts.1 counted is;
-      }
+      })
 
   pub to-earlier : (at : ℕ) (front behind : Window T M) (block : Option ℕ) (len : ℕ)
       → SplitsTo has_static w at p new front behind → len ≡ length front.items
-      → block ≡ (if has_static && (len == 0) then None else b) → at < length w.items
-      → IsSplit s (slot behind b) (slot front block) (cut_row (row_of s) at (length w.items))
-      (to_part has_static (row_of s) at) passes after
-  to-earlier at front behind block len splits counted is inside =
+      → block ≡ (if has_static && (len == 0) then None else b) → at < length s.window.items
+      → IsSplit s (read_slot behind b) (read_slot front block)
+      (cut_row (row_of s) at (length s.window.items)) (to_part has_static (row_of s) at) passes
+      after
+  to-earlier at front behind block len splits counted is =
+      subst (λ (x : SlotView T M). at < length x.window.items → IsSplit x (read_slot behind b)
+      (read_slot front block) (cut_row (row_of x) at (length x.window.items))
+      (to_part has_static (row_of x) at) passes after) r.view
+      (λ inside.
       let parts = splits.earlier inside in
       let long = length w.items in
-      let pick = ap (λ c. if c then part_of has_static (row_of s) at at else
-      part_of has_static (row_of s) 0 at) (ne_eqb at long (λ e. omega (arith, inside, e))) in
+      let pick = ap (λ c. if c then part_of has_static (row_of here) at at else
+      part_of has_static (row_of here) 0 at) (ne_eqb at long (λ e. omega (arith, inside, e))) in
       record {
         same_is = cut-row at long behind parts.0;
         made_is = part-row 0 at front block len parts.1 counted is ∙ sym pick;
         owner = cut-stand at long behind parts.0;
         added = part-added 0 at front block len parts.1 counted is;
-      }
+      })
