@@ -12,12 +12,12 @@ use Rattle.arc_buffer.specs.Slice.{edge_answer}
 use Rattle.arc_block.specs.Owned.{Stand}
 use Rattle.arc_block.specs.Table.{Row, Role, reader, sole_writer, one_writer_of_several, inline}
 use Rattle.arc_block.specs.Table.{forgotten, block_of}
-use Rattle.arc_commands.specs.Additions.{Joins}
-use Rattle.arc_commands.specs.Changes.{Setting, Shortage, no_shortage, of_table, of_clones}
+use Rattle.arc_commands.specs.Additions.{Enters, Joins, RowAdds, refused}
+use Rattle.arc_commands.specs.Changes.{Setting, Shortage, no_shortage, of_table}
 use Rattle.arc_commands.specs.Changes.{Around, Change}
 use Rattle.arc_commands.specs.Step.{answer_any}
 use Rattle.arc_commands.specs.Changes.{in_range, is_now}
-use Rattle.arc_commands.specs.Step.{is_allowed}
+use Rattle.arc_commands.specs.Step.{is_allowed, shortage}
 use Rattle.arc_commands.specs.Changes.{parted}
 use Rattle.arc_commands.specs.Changes.{with_made}
 use Rattle.arc_commands.specs.Blocks.{is_several, is_writer}
@@ -149,6 +149,13 @@ module _ {T M : Type 0} (setting : Setting T) (windows : ℕ) (s : SlotView T M)
         parted setting short around row new_part (if out then new_part else rest_of row part)
         (if out then row else new_part)
 
+    -- both parts, unless the block has as many owners as it may have
+    abbrev unless_full : Bool → Change T M
+    unless_full full =
+        if full then is_now (reply.Owner CountFull) row else
+        with_made around (if out then new_part else rest_of row part)
+        (if out then row else new_part)
+
   -- it is handed out of no window of this role
   pub part-kind : (i : ℕ) (part : Part) → IsSlotRole s.role → is_several s.role ≡ false
       → is_part_of s.role part ≡ false → Said (part_command i part) reply.Kind (Some s) None passes
@@ -259,57 +266,45 @@ module _ {T M : Type 0} (setting : Setting T) (windows : ℕ) (s : SlotView T M)
     module _ (has : HasPassFor passes here) (passes' : List (Pass Whole)) (part : Part)
         (for : is_part_of s.role part ≡ true)
         (ok : part_answer setting.boundary s.window.items part ≡ Ok tt) where
-      -- memory for an owner more was refused
+      -- an owner more was refused, as the row tells
+      refused-so : (e : OwnerError)
+          → RefusesAt setting.clone_wants (new_part i part).place here passes passes' e
+          → hands i part (shortage {T = T} {M = M} (reply.Owner e) (part_command i part))
+          ≡ is_now (reply.Owner e) row
+          → (Enters here here None passes passes' (refused e)
+          → RowAdds here here None passes passes' setting row (part_command i part)
+          (reply.Owner e))
+          → Said (part_command i part) (reply.Owner e) (Some s) None passes'
+      refused-so e why is adds = record {
+        begins = false;
+        places = 0;
+        change =
+            hand-is part (shortage {T = T} {M = M} (reply.Owner e) (part_command i part)) for ok
+            ∙ is;
+        blocks = many-refused passes passes' setting.clone_wants (new_part i part).place here e why;
+        adds = adds (
+          refl,
+          refl,
+          refuses-at passes passes' setting.clone_wants (new_part i part).place e here why,
+        );
+      }
+
+      -- by memory
       part-memory : RefusesAt setting.clone_wants (new_part i part).place here passes passes'
           AllocError
           → Said (part_command i part) (reply.Owner AllocError) (Some s) None passes'
-      part-memory why = record {
-        begins = false;
-        places = 0;
-        change =
-            hand-is part of_clones for ok
-            ∙ ap (λ (b : Bool). if b then is_now (reply.Owner AllocError) row else
-            if around.full && is_some (block_of (new_part i part).place) then
-            is_now (reply.Owner CountFull) row else
-            with_made around (if out i part then new_part i part else rest_of row part)
-            (if out i part then row else new_part i part)) why.0;
-        blocks =
-            many-refused passes passes' setting.clone_wants (new_part i part).place here AllocError
-            why;
-        adds =
-            (part-adds setting i here passes row
-            (part-one s.role part for) part here None passes').1 (
-              refl,
-              refl,
-              refuses-at passes passes' setting.clone_wants (new_part i part).place AllocError here
-                  why,
-            );
-      }
+      part-memory why =
+          refused-so AllocError why
+          (ap (λ (b : Bool). if b then is_now (reply.Owner AllocError) row else
+          unless_full i part (around.full && is_some (block_of (new_part i part).place))) why.0)
+          (part-adds setting i here passes row (part-one s.role part for) part here None passes').1
 
-      -- the block has as many owners as it may have
+      -- as the block has as many as it may have
       part-full : FindsFullAt (new_part i part).place here passes passes'
           → Said (part_command i part) (reply.Owner CountFull) (Some s) None passes'
-      part-full why = record {
-        begins = false;
-        places = 0;
-        change =
-            hand-is part no_shortage for ok
-            ∙ ap (λ (b : Bool). if b then is_now (reply.Owner CountFull) row else
-            with_made around (if out i part then new_part i part else rest_of row part)
-            (if out i part then row else new_part i part))
-            (full-beside here has why);
-        blocks =
-            many-refused passes passes' setting.clone_wants (new_part i part).place here CountFull
-            why;
-        adds =
-            (part-adds setting i here passes row
-            (part-one s.role part for) part here None passes').2 (
-              refl,
-              refl,
-              refuses-at passes passes' setting.clone_wants (new_part i part).place CountFull here
-                  why,
-            );
-      }
+      part-full why =
+          refused-so CountFull why (ap (unless_full i part) (full-beside here has why))
+          (part-adds setting i here passes row (part-one s.role part for) part here None passes').2
         where
           full-beside : (st : Stand) → HasPassFor passes st
               → FindsFullAt (new_part i part).place st passes passes'
@@ -356,10 +351,7 @@ module _ {T M : Type 0} (setting : Setting T) (windows : ℕ) (s : SlotView T M)
             begins = false;
             places = 0;
             change =
-                hand-is part no_shortage for ok
-                ∙ ap (λ (b : Bool). if b then is_now (reply.Owner CountFull) row else
-                with_made around (if out i part then new_part i part else rest_of row part)
-                (if out i part then row else new_part i part)) room
+                hand-is part no_shortage for ok ∙ ap (unless_full i part) room
                 ∙ ap (λ x. with_made around x (if out i part then row else new_part i part))
                 (sym kept-is)
                 ∙ ap (with_made around (row_of kept)) (sym made-is);
