@@ -1,11 +1,13 @@
 -- What asking adds to the pass that was lent for it, it adds to the passes.
-use Rattle.std.proofs.Common.{true, false, Some, sym, ap, subst, ◌∙◌}
+use Rattle.arc_parts.specs.Shared.{AsksAlone}
+use Rattle.std.proofs.Common.{Bool, Some, true, false, ap, ◌∙◌}
 use Rattle.arc_slots.specs.Several.{AsksAt}
-use Rattle.arc_slots.specs.Slots.{SlotView, row_of, stand_of}
-use Rattle.arc_slots.specs.Stands.{stand_at}
-use Rattle.arc_slots.proofs.FilledBeside.{asked-at, beside-fits, beside-has, beside-left}
+use Rattle.arc_slots.specs.Slots.{row_of, stand_of}
+use Rattle.arc_slots.proofs.FilledBeside.{beside-asked, beside-fits, beside-left}
 use Rattle.arc_slots.proofs.FilledBeside.{beside-pass, beside-seen}
 use Rattle.arc_slots.proofs.Shared.{unique-row}
+use Rattle.arc_slots.proofs.slot.Slot.try_into_unique.Given.{Over}
+use Rattle.arc_slots.proofs.slot.Slot.try_into_unique.Goals.{After-give_back}
 use Rattle.arc_slots.proofs.slot.Slot.try_into_unique.Goals as goal
 
 pub try_into_unique_as-made-requires : goal.try_into_unique_as-made-requires
@@ -37,40 +39,23 @@ returns-in-Ok-clause-row g c =
     c.self.invariant) (beside-fits small h w b c.in-Several.is c.self.invariant.0)
     c.in-Ok.window c.in-Ok.ensures.sole
 
+-- what he asked by the pass that was lent is asked of the table
+asked : (g : Over) (c : After-give_back g) (found : Bool)
+    → AsksAlone c.in-Several.window.place c.lend-pass.result
+    c.try_into_unique_as-made.new.pass found
+    → AsksAt (stand_of (Some c.args.self)) c.args.passes.now.of_blocks.items
+    c.give_back.new.self.of_blocks.items found
+asked g c =
+    beside-asked g.S.Small.SmallOf.seen c.self.inside.window c.in-Several.window
+    c.self.inside.block c.in-Several.is c.args.self c.self.view_is g.S.TableKind.SHARES
+    c.self.invariant c.args.passes.now.of_blocks.items c.requires.pass
+    c.lend-pass.new.self.of_blocks.items c.lend-pass.result c.try_into_unique_as-made.new.pass
+    c.lend-pass.ensures.taken c.give_back.new.self.of_blocks.items c.give_back.ensures
+
 pub returns-in-Ok-clause-alone : goal.returns-in-Ok-clause-alone
 returns-in-Ok-clause-alone g c =
-    let small = g.S.Small.SmallOf.seen in
-    let h = c.self.inside.window in
-    let w = c.in-Several.window in
-    let b = c.self.inside.block in
-    let passes = c.args.passes.now.of_blocks.items in
-    let left = c.lend-pass.new.self.of_blocks.items in
-    subst (λ (s : SlotView g.row.S-Item.Denot g.row.M.Denot). AsksAt (stand_of (Some s)) passes
-    c.give_back.new.self.of_blocks.items true)
-    (beside-seen small h w b c.in-Several.is c.args.self c.self.view_is g.S.TableKind.SHARES
-    c.self.invariant)
-    (subst (λ ps. AsksAt (stand_at b w.place) passes ps true) (sym c.give_back.ensures)
-    (asked-at passes left c.lend-pass.result c.try_into_unique_as-made.new.pass true b w.place
-    (beside-fits small h w b c.in-Several.is c.self.invariant.0)
-    (beside-has small h w b c.in-Several.is c.args.self c.self.view_is g.S.TableKind.SHARES
-    c.self.invariant passes c.requires.pass) c.lend-pass.ensures.taken
-    c.in-Ok.ensures.entry).0)
+    asked g (goal.at.returns-in-Ok-clause-alone g c).After-give_back true c.in-Ok.ensures.entry
 
 pub returns-in-Err-clause-beside : goal.returns-in-Err-clause-beside
 returns-in-Err-clause-beside g c =
-    let small = g.S.Small.SmallOf.seen in
-    let h = c.self.inside.window in
-    let w = c.in-Several.window in
-    let b = c.self.inside.block in
-    let passes = c.args.passes.now.of_blocks.items in
-    let left = c.lend-pass.new.self.of_blocks.items in
-    subst (λ (s : SlotView g.row.S-Item.Denot g.row.M.Denot). AsksAt (stand_of (Some s)) passes
-    c.give_back.new.self.of_blocks.items false)
-    (beside-seen small h w b c.in-Several.is c.args.self c.self.view_is g.S.TableKind.SHARES
-    c.self.invariant)
-    (subst (λ ps. AsksAt (stand_at b w.place) passes ps false) (sym c.give_back.ensures)
-    (asked-at passes left c.lend-pass.result c.try_into_unique_as-made.new.pass false b w.place
-    (beside-fits small h w b c.in-Several.is c.self.invariant.0)
-    (beside-has small h w b c.in-Several.is c.args.self c.self.view_is g.S.TableKind.SHARES
-    c.self.invariant passes c.requires.pass) c.lend-pass.ensures.taken
-    c.in-Err.ensures.entry).0)
+    asked g (goal.at.returns-in-Err-clause-beside g c).After-give_back false c.in-Err.ensures.entry
