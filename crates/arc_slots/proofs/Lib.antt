@@ -5,6 +5,7 @@ pub mod Native
 pub mod Have
 pub mod Takes
 pub mod Index
+pub mod Cuts
 pub mod Splits
 pub mod Filled
 pub mod FilledBeside

@@ -14,7 +14,7 @@ use Rattle.arc_parts.specs.Steps.{IsPassAt, Shares, Refuses}
 use Rattle.arc_block.specs.Table.{Row, Role, reader}
 use Rattle.arc_parts.specs.Window.{Window, PartsView}
 use Rattle.arc_parts.specs.Writers.{sole_at}
-use Rattle.arc_slots.specs.Slots.{AnyWindow, SlotView, held, row_of, window_in, read_slot}
+use Rattle.arc_slots.specs.Slots.{AnyWindow, SlotView, held, role_in, row_of, window_in, read_slot}
 use Rattle.arc_slots.specs.Slots.{stand_of, writer_slot}
 use Rattle.arc_slots.specs.declared.window.Held.TheVariants.{Read}
 use Rattle.arc_slots.specs.Calls.{Through, Along, Beside, RefusesAt, AddsNothing}
@@ -36,14 +36,31 @@ module _ {T M K : Type 0} (small : K → PartsView T M) (h : AnyWindow T M K) (w
       → is_numbered b w.place ≡ true
   reads-fits fits = ap (λ x. is_numbered b (window_in small x).place) (sym is) ∙ fits
 
--- what a call by a slot finds whose window is read: how it is seen, that its number is that of its
--- place, and that the passes have the one of its block, which was taken out of them
-pub record ReadCall {T M H : Type 0} (w : Window T M) (b : Option ℕ) (s : SlotView T M)
-    (passes left : List (Pass H)) (p : Pass H) : Type 0 where
-  pub view : read_slot w b ≡ s
+-- what a call by a slot finds whose window has this role: how it is seen, that its number is that
+-- of its place, and that the passes have the one of its block, which was taken out of them
+pub record SlotCall {T M H : Type 0} (w : Window T M) (role : Role) (b : Option ℕ)
+    (s : SlotView T M) (passes left : List (Pass H)) (p : Pass H) : Type 0 where
+  pub view : record { window = w; role = role; block = b } ≡ s
   pub fits : is_numbered b w.place ≡ true
   pub has : HasPassFor passes (stand_at b w.place)
   pub took : TakenOut passes b p left
+
+pub held-call : {T M K H : Type 0} (small : K → PartsView T M) (h : AnyWindow T M K)
+    {b : Option ℕ} {s : SlotView T M} {passes left : List (Pass H)} {p : Pass H}
+    → held small h b ≡ s → is_numbered b (window_in small h).place ≡ true
+    → HasPassFor passes (stand_of (Some s)) → TakenOut passes b p left
+    → SlotCall (window_in small h) (role_in h) b s passes left p
+held-call small h {passes = passes} seen fits has took = record {
+  view = seen;
+  fits = fits;
+  has = subst (λ x. HasPassFor passes (stand_of (Some x))) (sym seen) has;
+  took = took;
+}
+
+-- the same of one whose window is read
+abbrev pub ReadCall : {T M H : Type 0} → Window T M → Option ℕ → SlotView T M → List (Pass H)
+    → List (Pass H) → Pass H → Type 0
+ReadCall w b s passes left p = SlotCall w reader b s passes left p
 
 pub read-call : {T M K H : Type 0} (small : K → PartsView T M) (h : AnyWindow T M K)
     (w : Window T M) {b : Option ℕ} {s : SlotView T M} {passes left : List (Pass H)} {p : Pass H}
@@ -289,25 +306,13 @@ module _ {M H : Type 0} (passes : List (Pass H)) where
 
 -- the pass that was taken out for a slot's window is that of its block, and there is one with its
 -- number
-module _ {T M K H : Type 0} (small : K → PartsView T M) (h : AnyWindow T M K) (b : Option ℕ)
-    (s : SlotView T M) (view : held small h b ≡ s)
-    (fits : is_numbered b (window_in small h).place ≡ true) (passes left : List (Pass H))
-    (p : Pass H) (has : HasPassFor passes (stand_of (Some s))) (took : TakenOut passes b p left)
-  where
-    held-has : HasPassFor passes (stand_at b (window_in small h).place)
-    held-has = subst (λ t. HasPassFor passes (stand_of (Some t))) (sym view) has
+module _ {T M H : Type 0} {w : Window T M} {role : Role} {b : Option ℕ} {s : SlotView T M}
+    {passes left : List (Pass H)} {p : Pass H} (call : SlotCall w role b s passes left p) where
+  pub call-pass : IsPassAt w.place p
+  call-pass = window-pass passes left p b w.place call.fits call.has call.took
 
-    pub held-pass : IsPassAt (window_in small h).place p
-    held-pass = window-pass passes left p b (window_in small h).place fits held-has took
-
-    pub held-left : HasNumber left b
-    held-left = still-number passes left p b (window_in small h).place fits held-has took
-
--- there is a pass with the number of a window that is read, where it was taken out
-pub read-left : {T M H : Type 0} {w : Window T M} {b : Option ℕ} {s : SlotView T M}
-    {passes left : List (Pass H)} {p : Pass H} → ReadCall w b s passes left p → HasNumber left b
-read-left {w = w} {b = b} {passes = passes} {left = left} {p = p} r =
-    still-number passes left p b w.place r.fits r.has r.took
+  pub call-left : HasNumber left b
+  call-left = still-number passes left p b w.place call.fits call.has call.took
 
 -- the new window stands on the block with the same number
 module _ {M H : Type 0} (p new : Pass H) where
@@ -331,27 +336,3 @@ module _ {M H : Type 0} (p new : Pass H) where
   part-fits true start b place there fits made = ap (is_numbered None) made.0
   part-fits false start b place there fits made =
       shares-fits b (moved start place) there (moved-fits b start place ∙ fits) made
-
-  -- at the same place of it
-  for-place : (b : Option ℕ) (owner other : Owner) (offset : ℕ) (facts : BlockInfo M)
-      → numbered b (on_block (Some other) offset facts)
-      ≡ numbered b (on_block (Some owner) offset facts)
-  for-place None owner other offset facts = refl
-  for-place (Some n) owner other offset facts = refl
-
-  pub shares-place : (b : Option ℕ) (place there : At M) → is_numbered b place ≡ true
-      → Shares place p new there → numbered b there ≡ numbered b place
-  shares-place b nowhere there fits made = ap (numbered b) made.0
-  shares-place b static_data there fits made = ap (numbered b) made.0
-  shares-place b (on_block None offset facts) there fits made = ap (numbered b) made.0
-  shares-place b (on_block (Some owner) offset facts) there fits made =
-      ap (numbered b) made.2 ∙ for-place b owner made.0 offset facts
-
-  pub part-place : (nothing : Bool) (start : ℕ) (b : Option ℕ) (place there : At M)
-      → is_numbered b place ≡ true → Shares (part_at nothing start place) p new there
-      → numbered (if nothing then None else b) there
-      ≡ (if nothing then nowhere else moved start (numbered b place))
-  part-place true start b place there fits made = ap (numbered None) made.0
-  part-place false start b place there fits made =
-      shares-place b (moved start place) there (moved-fits b start place ∙ fits) made
-      ∙ moved-numbered b start place

@@ -1,6 +1,6 @@
 -- A slot whose window was split, as its rows and where they stand.
 use Rattle.std.proofs.Common.{◌≡◌, ℕ, ◌<◌, ◌==◌, ◌&&◌, Bool, if◌then◌else◌, List}
-use Rattle.std.proofs.Common.{length, Option, Some, None, sym, ap, ◌∙◌, subst, arith}
+use Rattle.std.proofs.Common.{length, Option, Some, None, refl, sym, ap, ◌∙◌, subst, arith}
 use Rattle.std.proofs.lemmas.Bool.{eq-eqb, ne_eqb}
 use Rattle.arc_owners.specs.declared.count.tokens.Pass.{Pass}
 use Rattle.arc_buffer.specs.Slice.{sub}
@@ -12,7 +12,8 @@ use Rattle.arc_slots.specs.Slots.{SlotView, read_slot, row_of, stand_of}
 use Rattle.arc_slots.specs.Splits.{IsSplit}
 use Rattle.arc_slots.specs.Stands.{numbered, put_back, stand_at}
 use Rattle.arc_commands.specs.Changes.{part_of, cut_row, off_part, to_part}
-use Rattle.arc_slots.proofs.Slots.{ReadCall, shares-part, part-place, moved-numbered, moved-stand}
+use Rattle.arc_slots.proofs.Cuts.{sub-beside, sub-row}
+use Rattle.arc_slots.proofs.Slots.{ReadCall, moved-numbered, moved-stand}
 
 module _ {T M H : Type 0} {w : Window T M} {b : Option ℕ} {s : SlotView T M}
     {passes left : List (Pass H)} {p : Pass H} (r : ReadCall w b s passes left p) (new : Pass H)
@@ -20,36 +21,28 @@ module _ {T M H : Type 0} {w : Window T M} {b : Option ℕ} {s : SlotView T M}
   abbrev here : SlotView T M
   here = read_slot w b
 
+  -- it finds the same of the slot by itself
+  found : ReadCall w b here passes left p
+  found = record { view = refl; fits = r.fits; has = r.has; took = r.took }
+
   -- a part that was made, and the block that its length tells
   module _ (start end : ℕ) (part : Window T M) (block : Option ℕ) (len : ℕ)
       (made : SharesPart has_static w start end p new part) (counted : len ≡ length part.items)
       (is : block ≡ (if has_static && (len == 0) then None else b)) where
-    abbrev nothing : Bool
-    nothing = has_static && (length (sub w.items start end) == 0)
-
-    block-is : block ≡ (if nothing then None else b)
+    block-is : block ≡ (if has_static && (length (sub w.items start end) == 0) then None else b)
     block-is =
         is ∙ ap (λ n. if has_static && (n == 0) then None else b)
         (counted ∙ ap length made.0)
 
     part-row : row_of (read_slot part block) ≡ part_of has_static (row_of here) start end
     part-row =
-        ap (λ xs. record { items = xs; place = numbered block part.place; role = reader }) made.0
-        ∙ ap (λ o. record {
-          items = sub w.items start end;
-          place = numbered o part.place;
-          role = reader;
-        }) block-is
-        ∙ ap (λ q. record { items = sub w.items start end; place = q; role = reader })
-        (part-place p new nothing start b w.place part.place r.fits made.1)
+        sub-row found new has_static start end part made.1 block block-is reader
+        (read_slot part block) refl made.0 refl
 
     part-added : Beside (stand_of (Some here)) passes after (stand_of (Some (read_slot part block)))
     part-added =
-        subst (λ ps. Beside (stand_at b w.place) passes ps (stand_at block part.place)) (sym back)
-        (subst (λ o. Beside (stand_at b w.place) passes (put_back left b new)
-        (stand_at o part.place)) (sym block-is)
-        (shares-part passes left p new nothing start b w.place part.place r.fits r.has r.took
-        made.1))
+        sub-beside found new has_static start end part made.1 block block-is reader
+        (read_slot part block) refl after back
 
   -- the window itself, cut
   cut-row : (start end : ℕ) (one : Window T M) → one ≡ cut_window w start end

@@ -5,7 +5,7 @@ use Rattle.std.specs.Vec.{vec_capacity}
 use Rattle.arc_slots.specs.Slots.{held, parts_in}
 use Rattle.arc_slots.specs.Stands.{HasNumber}
 use Rattle.arc_slots.proofs.Freezing.{slot-frozen, slot-numbered, room-to-read}
-use Rattle.arc_slots.proofs.Slots.{held-left, held-pass}
+use Rattle.arc_slots.proofs.Slots.{call-left, call-pass, held-call}
 use Rattle.arc_slots.proofs.Taken.{back-same}
 use Rattle.arc_slots.proofs.slot.Slot.try_freeze.Given.{Over}
 use Rattle.arc_slots.proofs.slot.Slot.try_freeze.Goals.{After-lend-pass}
@@ -13,18 +13,14 @@ use Rattle.arc_slots.proofs.slot.Slot.try_freeze.Goals as goal
 
 pub freeze_window-requires-clause-pass : goal.freeze_window-requires-clause-pass
 freeze_window-requires-clause-pass g c =
-    held-pass g.S.Small.SmallOf.seen c.self.inside.window c.self.inside.block c.args.self
-    c.self.view_is c.self.invariant.0 c.args.passes.now.of_blocks.items
-    c.lend-pass.new.self.of_blocks.items c.lend-pass.result c.requires.pass
-    c.lend-pass.ensures.taken
+    call-pass (held-call g.S.Small.SmallOf.seen c.self.inside.window c.self.view_is
+    c.self.invariant.0 c.requires.pass c.lend-pass.ensures.taken)
 
 left : (g : Over) (c : After-lend-pass g)
     → HasNumber c.lend-pass.new.self.of_blocks.items c.self.inside.block
 left g c =
-    held-left g.S.Small.SmallOf.seen c.self.inside.window c.self.inside.block c.args.self
-    c.self.view_is c.self.invariant.0 c.args.passes.now.of_blocks.items
-    c.lend-pass.new.self.of_blocks.items c.lend-pass.result c.requires.pass
-    c.lend-pass.ensures.taken
+    call-left (held-call g.S.Small.SmallOf.seen c.self.inside.window c.self.view_is
+    c.self.invariant.0 c.requires.pass c.lend-pass.ensures.taken)
 
 pub keep-block-requires-clause-number : goal.keep-block-requires-clause-number
 keep-block-requires-clause-number g c =

@@ -1,24 +1,18 @@
 -- Of the two parts one has the owner, and what the other adds to the pass that was lent for it, it
 -- adds to the passes.
-use Rattle.arc_slots.proofs.Slots.{ReadCall, read-call, read-left}
+use Rattle.arc_slots.proofs.Slots.{call-left, read-call}
 use Rattle.arc_slots.proofs.Splits.{to-end, to-earlier}
-use Rattle.arc_slots.proofs.slot.Slot.try_split_to.Given.{Over}
-use Rattle.arc_slots.proofs.slot.Slot.try_split_to.Goals.{After-lend-pass}
 use Rattle.arc_slots.proofs.slot.Slot.try_split_to.Goals as goal
 
-call : (g : Over) (c : After-lend-pass g)
-    → ReadCall c.in-Read.back c.self.inside.block c.args.self.now c.args.passes.now.of_blocks.items
-    c.lend-pass.new.self.of_blocks.items c.lend-pass.result
-call g c =
-    read-call g.S.Small.SmallOf.seen c.self.inside.window c.in-Read.back c.in-Read.is
-    c.self.view_is c.self.invariant.0 c.requires.pass c.lend-pass.ensures.taken
-
 pub give_back-requires : goal.give_back-requires
-give_back-requires g c = read-left (call g (goal.at.give_back-requires g c).After-lend-pass)
+give_back-requires g c =
+    call-left (read-call g.S.Small.SmallOf.seen c.self.inside.window c.in-Read.back c.in-Read.is
+    c.self.view_is c.self.invariant.0 c.requires.pass c.lend-pass.ensures.taken)
 
 pub returns-then-len-at-clause-end : goal.returns-then-len-at-clause-end
 returns-then-len-at-clause-end g c =
-    to-end (call g (goal.at.returns-then-len-at-clause-end g c).After-lend-pass)
+    to-end (read-call g.S.Small.SmallOf.seen c.self.inside.window c.in-Read.back c.in-Read.is
+    c.self.view_is c.self.invariant.0 c.requires.pass c.lend-pass.ensures.taken)
     c.try_split_to_as-made.new.pass c.give_back.new.self.of_blocks.items c.give_back.ensures
     g.L.Layout.STATIC c.args.at c.in-Ok.window c.try_split_to_as-made.new.self
     c.part_block-self-inside.result c.len.result c.in-Ok.ensures.ok c.len.ensures
@@ -26,7 +20,8 @@ returns-then-len-at-clause-end g c =
 
 pub returns-clause-earlier : goal.returns-clause-earlier
 returns-clause-earlier g c =
-    to-earlier (call g (goal.at.returns-clause-earlier g c).After-lend-pass)
+    to-earlier (read-call g.S.Small.SmallOf.seen c.self.inside.window c.in-Read.back c.in-Read.is
+    c.self.view_is c.self.invariant.0 c.requires.pass c.lend-pass.ensures.taken)
     c.try_split_to_as-made.new.pass c.give_back.new.self.of_blocks.items c.give_back.ensures
     g.L.Layout.STATIC c.args.at c.in-Ok.window c.try_split_to_as-made.new.self
     c.part_block-block.result c.len-2.result c.in-Ok.ensures.ok c.len-2.ensures
