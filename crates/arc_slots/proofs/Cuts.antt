@@ -4,11 +4,10 @@ use Rattle.std.proofs.Common.{◌≡◌, ℕ, ◌==◌, ◌&&◌, Bool, true, if
 use Rattle.std.proofs.Common.{None, length, sym, ap, ◌∙◌, subst}
 use Rattle.arc_owners.specs.declared.count.tokens.Pass.{Pass}
 use Rattle.arc_owners.specs.declared.error.OwnerError.{OwnerError}
-use Rattle.arc_owners.specs.count.Calls.{Owner}
 use Rattle.arc_buffer.specs.Slice.{sub}
 use Rattle.arc_block.specs.Block.{Sort}
-use Rattle.arc_block.specs.Place.{Place, part_place}
-use Rattle.arc_block.specs.Table.{Role}
+use Rattle.arc_block.specs.Place.{part_place}
+use Rattle.arc_block.specs.Table.{Role, Row}
 use Rattle.arc_parts.specs.Steps.{Refuses, Shares}
 use Rattle.arc_parts.specs.Window.{Window}
 use Rattle.arc_commands.specs.Changes.{part_of}
@@ -19,6 +18,12 @@ use Rattle.arc_slots.proofs.Slots.{SlotCall, part-fits, part-numbered, part_at, 
 use Rattle.arc_slots.proofs.Slots.{refuses-part, same-row, shares, shares-fits, shares-numbered}
 use Rattle.arc_slots.proofs.Slots.{shares-part}
 
+-- a slot that was made beside another one: its row, and where it stands
+pub record MadeBeside {T M H : Type 0} (s t : SlotView T M) (row : Row T M)
+    (passes after : List (Pass H)) : Type 0 where
+  pub row_is : row_of t ≡ row
+  pub stand : Beside (stand_of (Some s)) passes after (stand_of (Some t))
+
 module _ {T M H : Type 0} {w : Window T M} {role : Role} {b : Option ℕ} {s : SlotView T M}
     {passes left : List (Pass H)} {p : Pass H} (call : SlotCall w role b s passes left p)
     (new : Pass H) where
@@ -28,22 +33,22 @@ module _ {T M H : Type 0} {w : Window T M} {role : Role} {b : Option ℕ} {s : S
     pub clone-fits : is_numbered b k.place ≡ true
     clone-fits = shares-fits p new b w.place k.place call.fits made
 
-    module _ (can : Role) (t : SlotView T M)
-        (seen : t ≡ record { window = k; role = can; block = b }) where
-      pub clone-row : k.items ≡ w.items → can ≡ role → row_of t ≡ row_of s
-      clone-row items is =
+    pub clone-made : (can : Role) (t : SlotView T M)
+        → t ≡ record { window = k; role = can; block = b } → k.items ≡ w.items → can ≡ role
+        → (after : List (Pass H)) → after ≡ put_back left b new
+        → MadeBeside s t (row_of s) passes after
+    clone-made can t seen items is after back = record {
+      row_is =
           ap row_of seen ∙ same-row items (shares-numbered p new b w.place k.place made) is
-          ∙ ap row_of call.view
-
-      pub clone-beside : (after : List (Pass H)) → after ≡ put_back left b new
-          → Beside (stand_of (Some s)) passes after (stand_of (Some t))
-      clone-beside after back =
+          ∙ ap row_of call.view;
+      stand =
           subst (λ (x : SlotView T M). Beside (stand_of (Some s)) passes after (stand_of (Some x)))
           (sym seen)
           (subst (λ (x : SlotView T M). Beside (stand_of (Some x)) passes after
           (stand_at b k.place)) call.view
           (subst (λ ps. Beside (stand_at b w.place) passes ps (stand_at b k.place)) (sym back)
-          (shares passes left p new b w.place k.place call.fits call.has call.took made)))
+          (shares passes left p new b w.place k.place call.fits call.has call.took made)));
+    }
 
   pub clone-refused : (wants : Sort → Bool) (e : OwnerError) → Refuses wants w.place p new e
       → (after : List (Pass H)) → after ≡ put_back left b new
@@ -68,22 +73,20 @@ module _ {T M H : Type 0} {w : Window T M} {role : Role} {b : Option ℕ} {s : S
           ap (λ o. is_numbered o k.place) is
           ∙ part-fits p new nothing start b w.place k.place call.fits made
 
-      module _ (can : Role) (t : SlotView T M)
-          (seen : t ≡ record { window = k; role = can; block = block }) where
-        pub sub-row : k.items ≡ sub w.items start end → can ≡ role
-            → row_of t ≡ part_of has_static (row_of s) start end
-        sub-row items can_is =
+      pub sub-made : (can : Role) (t : SlotView T M)
+          → t ≡ record { window = k; role = can; block = block } → k.items ≡ sub w.items start end
+          → can ≡ role → (after : List (Pass H)) → after ≡ put_back left b new
+          → MadeBeside s t (part_of has_static (row_of s) start end) passes after
+      sub-made can t seen items can_is after back = record {
+        row_is =
             ap row_of seen
             ∙ same-row items
             (ap (λ o. numbered o k.place) is
             ∙ shares-numbered p new (if nothing then None else b) (part_at nothing start w.place)
             k.place made
             ∙ part-numbered nothing start b w.place) can_is
-            ∙ ap (λ (x : SlotView T M). part_of has_static (row_of x) start end) call.view
-
-        pub sub-beside : (after : List (Pass H)) → after ≡ put_back left b new
-            → Beside (stand_of (Some s)) passes after (stand_of (Some t))
-        sub-beside after back =
+            ∙ ap (λ (x : SlotView T M). part_of has_static (row_of x) start end) call.view;
+        stand =
             subst (λ (x : SlotView T M). Beside (stand_of (Some s)) passes after
             (stand_of (Some x))) (sym seen)
             (subst (λ (x : SlotView T M). Beside (stand_of (Some x)) passes after
@@ -92,7 +95,8 @@ module _ {T M H : Type 0} {w : Window T M} {role : Role} {b : Option ℕ} {s : S
             (subst (λ o. Beside (stand_at b w.place) passes (put_back left b new)
             (stand_at o k.place)) (sym is)
             (shares-part passes left p new nothing start b w.place k.place call.fits call.has
-            call.took made))))
+            call.took made))));
+      }
 
     pub sub-refused : (wants : Sort → Bool) (e : OwnerError)
         → Refuses wants (part_at nothing start w.place) p new e

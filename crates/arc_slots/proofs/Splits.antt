@@ -1,18 +1,17 @@
 -- A slot whose window was split, as its rows and where they stand.
-use Rattle.std.proofs.Common.{◌≡◌, ℕ, ◌<◌, ◌==◌, ◌&&◌, Bool, if◌then◌else◌, List}
-use Rattle.std.proofs.Common.{length, Option, Some, None, refl, sym, ap, ◌∙◌, subst, arith}
+use Rattle.std.proofs.Common.{◌≡◌, ℕ, ◌<◌, ◌==◌, ◌&&◌, Bool, if◌then◌else◌, List, length, Option}
+use Rattle.std.proofs.Common.{Some, None, refl, sym, ap, ◌∙◌, subst, arith}
 use Rattle.std.proofs.lemmas.Bool.{eq-eqb, ne_eqb}
 use Rattle.arc_owners.specs.declared.count.tokens.Pass.{Pass}
 use Rattle.arc_buffer.specs.Slice.{sub}
 use Rattle.arc_block.specs.Table.{reader}
 use Rattle.arc_parts.specs.Window.{Window}
 use Rattle.arc_read.specs.Cuts.{SharesPart, SplitsOff, SplitsTo, cut_window}
-use Rattle.arc_slots.specs.Calls.{Beside}
 use Rattle.arc_slots.specs.Slots.{SlotView, read_slot, row_of, stand_of}
 use Rattle.arc_slots.specs.Splits.{IsSplit}
-use Rattle.arc_slots.specs.Stands.{numbered, put_back, stand_at}
+use Rattle.arc_slots.specs.Stands.{put_back, stand_at}
 use Rattle.arc_commands.specs.Changes.{part_of, cut_row, off_part, to_part}
-use Rattle.arc_slots.proofs.Cuts.{sub-beside, sub-row}
+use Rattle.arc_slots.proofs.Cuts.{MadeBeside, sub-made}
 use Rattle.arc_slots.proofs.Slots.{ReadCall, moved-numbered, moved-stand}
 
 module _ {T M H : Type 0} {w : Window T M} {b : Option ℕ} {s : SlotView T M}
@@ -34,15 +33,11 @@ module _ {T M H : Type 0} {w : Window T M} {b : Option ℕ} {s : SlotView T M}
         is ∙ ap (λ n. if has_static && (n == 0) then None else b)
         (counted ∙ ap length made.0)
 
-    part-row : row_of (read_slot part block) ≡ part_of has_static (row_of here) start end
-    part-row =
-        sub-row found new has_static start end part made.1 block block-is reader
-        (read_slot part block) refl made.0 refl
-
-    part-added : Beside (stand_of (Some here)) passes after (stand_of (Some (read_slot part block)))
-    part-added =
-        sub-beside found new has_static start end part made.1 block block-is reader
-        (read_slot part block) refl after back
+    part-made : MadeBeside here (read_slot part block) (part_of has_static (row_of here) start end)
+        passes after
+    part-made =
+        sub-made found new has_static start end part made.1 block block-is reader
+        (read_slot part block) refl made.0 refl after back
 
   -- the window itself, cut
   cut-row : (start end : ℕ) (one : Window T M) → one ≡ cut_window w start end
@@ -70,9 +65,9 @@ module _ {T M H : Type 0} {w : Window T M} {b : Option ℕ} {s : SlotView T M}
       (off_part has_static (row_of x) at) passes after) r.view
       (record {
         same_is = ap (λ v. row_of (read_slot v b)) parts.0;
-        made_is = part-row 0 0 front block len parts.1 counted is ∙ sym pick;
+        made_is = (part-made 0 0 front block len parts.1 counted is).row_is ∙ sym pick;
         owner = ap (λ (v : Window T M). stand_at b v.place) parts.0;
-        added = part-added 0 0 front block len parts.1 counted is;
+        added = (part-made 0 0 front block len parts.1 counted is).stand;
       })
 
   pub off-later : (at : ℕ) (front behind : Window T M) (block : Option ℕ) (len : ℕ)
@@ -89,9 +84,9 @@ module _ {T M H : Type 0} {w : Window T M} {b : Option ℕ} {s : SlotView T M}
       (cut_row (row_of x) 0 at) (off_part has_static (row_of x) at) passes after) r.view
       (record {
         same_is = cut-row 0 at front parts.0;
-        made_is = part-row at long behind block len parts.1 counted is ∙ sym pick;
+        made_is = (part-made at long behind block len parts.1 counted is).row_is ∙ sym pick;
         owner = cut-stand 0 at front parts.0;
-        added = part-added at long behind block len parts.1 counted is;
+        added = (part-made at long behind block len parts.1 counted is).stand;
       })
 
   pub to-end : (at : ℕ) (front behind : Window T M) (block : Option ℕ) (len : ℕ)
@@ -108,9 +103,9 @@ module _ {T M H : Type 0} {w : Window T M} {b : Option ℕ} {s : SlotView T M}
       part_of has_static (row_of here) 0 at) (eq-eqb at (length w.items) last) in
       record {
         same_is = ap (λ v. row_of (read_slot v b)) parts.0;
-        made_is = part-row at at behind block len parts.1 counted is ∙ sym pick;
+        made_is = (part-made at at behind block len parts.1 counted is).row_is ∙ sym pick;
         owner = ap (λ (v : Window T M). stand_at b v.place) parts.0;
-        added = part-added at at behind block len parts.1 counted is;
+        added = (part-made at at behind block len parts.1 counted is).stand;
       })
 
   pub to-earlier : (at : ℕ) (front behind : Window T M) (block : Option ℕ) (len : ℕ)
@@ -130,7 +125,7 @@ module _ {T M H : Type 0} {w : Window T M} {b : Option ℕ} {s : SlotView T M}
       part_of has_static (row_of here) 0 at) (ne_eqb at long (λ e. omega (arith, inside, e))) in
       record {
         same_is = cut-row at long behind parts.0;
-        made_is = part-row 0 at front block len parts.1 counted is ∙ sym pick;
+        made_is = (part-made 0 at front block len parts.1 counted is).row_is ∙ sym pick;
         owner = cut-stand at long behind parts.0;
-        added = part-added 0 at front block len parts.1 counted is;
+        added = (part-made 0 at front block len parts.1 counted is).stand;
       })

@@ -2,11 +2,12 @@
 use Rattle.std.proofs.Common.{◌≡◌, ◌==◌, ◌&&◌, if◌then◌else◌, None, length, sym, ap, ◌∙◌}
 use Rattle.arc_buffer.specs.Slice.{sub}
 use Rattle.arc_buffer.proofs.Sub.{length-sub}
-use Rattle.arc_slots.specs.Slots.{SlotView, as_held, role_in, window_in}
-use Rattle.arc_slots.proofs.Cuts.{sub-beside, sub-fits, sub-refused, sub-row}
+use Rattle.arc_commands.specs.Changes.{part_of}
+use Rattle.arc_slots.specs.Slots.{SlotView, as_held, role_in, row_of, window_in}
+use Rattle.arc_slots.proofs.Cuts.{MadeBeside, sub-fits, sub-made, sub-refused}
 use Rattle.arc_slots.proofs.Slots.{call-left, held-call}
 use Rattle.arc_slots.proofs.slot.Slot.try_subslice.Given.{Over}
-use Rattle.arc_slots.proofs.slot.Slot.try_subslice.Goals.{After-part_block}
+use Rattle.arc_slots.proofs.slot.Slot.try_subslice.Goals.{After-part_block, After-read_only}
 use Rattle.arc_slots.proofs.slot.Slot.try_subslice.Goals as goal
 
 -- the block of the part
@@ -43,22 +44,24 @@ returns-in-Err-clause-refused g c =
     g.L.Layout.STATIC c.args.start c.args.end g.L.Layout.clone_wants c.in-Err.e
     c.in-Err.ensures.refused c.give_back.new.self.of_blocks.items c.give_back.ensures
 
-pub returns-in-Ok-clause-stand : goal.returns-in-Ok-clause-stand
-returns-in-Ok-clause-stand g c =
-    sub-beside (held-call g.S.Small.SmallOf.seen c.self.inside.window c.self.view_is
-    c.self.invariant.0 c.requires.pass c.lend-pass.ensures.taken) c.cut_window-made.new.pass
-    g.L.Layout.STATIC c.args.start c.args.end
-    (window_in g.S.Small.SmallOf.seen (as_held c.in-Ok.window)) c.in-Ok.ensures.place
-    c.part_block.result (part-block g (goal.at.returns-in-Ok-clause-stand g c).After-part_block)
-    (role_in (as_held c.in-Ok.window)) c.read_only.result c.read_only.ensures
-    c.give_back.new.self.of_blocks.items c.give_back.ensures
-
-pub returns-in-Ok-clause-row : goal.returns-in-Ok-clause-row
-returns-in-Ok-clause-row g c =
-    sub-row (held-call g.S.Small.SmallOf.seen c.self.inside.window c.self.view_is
+made : (g : Over) (c : After-read_only g)
+    → MadeBeside c.args.self.now c.read_only.result
+    (part_of g.L.Layout.STATIC (row_of c.args.self.now) c.args.start c.args.end)
+    c.args.passes.now.of_blocks.items c.give_back.new.self.of_blocks.items
+made g c =
+    sub-made (held-call g.S.Small.SmallOf.seen c.self.inside.window c.self.view_is
     c.self.invariant.0 c.requires.pass c.lend-pass.ensures.taken) c.cut_window-made.new.pass
     g.L.Layout.STATIC c.args.start c.args.end
     (window_in g.S.Small.SmallOf.seen (as_held c.in-Ok.window)) c.in-Ok.ensures.place
     c.part_block.result (part-block g (goal.at.returns-in-Ok-clause-row g c).After-part_block)
     (role_in (as_held c.in-Ok.window)) c.read_only.result c.read_only.ensures
-    c.in-Ok.ensures.items c.in-Ok.ensures.role
+    c.in-Ok.ensures.items c.in-Ok.ensures.role c.give_back.new.self.of_blocks.items
+    c.give_back.ensures
+
+pub returns-in-Ok-clause-stand : goal.returns-in-Ok-clause-stand
+returns-in-Ok-clause-stand g c =
+    (made g (goal.at.returns-in-Ok-clause-stand g c).After-read_only).stand
+
+pub returns-in-Ok-clause-row : goal.returns-in-Ok-clause-row
+returns-in-Ok-clause-row g c =
+    (made g (goal.at.returns-in-Ok-clause-row g c).After-read_only).row_is
