@@ -202,6 +202,14 @@ put-behind : {H : Type 0} (left : List (Pass H)) (first q : Pass H) (b : Option 
 put-behind left first q None has = refl
 put-behind left first q (Some n) has = set-append_left left (first ∷ []) n q has
 
+-- a slot that was on a vector is on a block more, with this window, which is one of several still
+pub record LeftVector {T M : Type 0} (s : SlotView T M) (v : PartsView T M) (n : Option ℕ)
+    (before after : List (Pass Whole)) : Type 0 where
+  pub fits : is_numbered n v.place ≡ true
+  pub shares : is_several v.role ≡ true
+  pub row : row_of (writer_slot v n) ≡ on_native false (Some (length before)) (row_of s)
+  pub moved : MovesTo (stand_of (Some s)) (stand_of (Some (writer_slot v n))) before after
+
 -- ---- a slot whose window is one of several
 module _ {T M K : Type 0} (small : K → PartsView T M) (h : AnyWindow T M K) (w : PartsView T M)
     (b : Option ℕ) (is : h ≡ Several w) where
@@ -330,15 +338,15 @@ module _ {T M K : Type 0} (small : K → PartsView T M) (h : AnyWindow T M K) (w
       abbrev native-one : PartsView T M
       native-one = on_native false (Some leaves.owner) w
 
-      pub moved-by-number : is_numbered n v.place ≡ true
+      moved-by-number : is_numbered n v.place ≡ true
       moved-by-number =
           ap (λ m. is_numbered m v.place) number
           ∙ ap (λ (x : PartsView T M). is_numbered (Some (length left)) x.place) leaves.made
 
-      pub moved-several : is_several w.role ≡ true → is_several v.role ≡ true
+      moved-several : is_several w.role ≡ true → is_several v.role ≡ true
       moved-several several = ap (λ (x : PartsView T M). is_several x.role) leaves.made ∙ several
 
-      pub moved-row : row_of (writer_slot v n) ≡ on_native false (Some (length passes)) (row_of s)
+      moved-row : row_of (writer_slot v n) ≡ on_native false (Some (length passes)) (row_of s)
       moved-row =
           ap (λ (x : PartsView T M). row_of (writer_slot x n)) leaves.made
           ∙ ap (λ m. row_of (writer_slot native-one m)) number
@@ -350,7 +358,7 @@ module _ {T M K : Type 0} (small : K → PartsView T M) (h : AnyWindow T M K) (w
           back ∙ ap (λ ps. put_back ps b q) pushed
           ∙ put-behind left first q b shared-still
 
-      pub moved-to : MovesTo (stand_of (Some s)) (stand_of (Some (writer_slot v n))) passes after
+      moved-to : MovesTo (stand_of (Some s)) (stand_of (Some (writer_slot v n))) passes after
       moved-to =
           let ends : Along (stand_of (Some s)) passes (put_back left b q) Ended =
           subst (λ (x : SlotView T M). Along (stand_of (Some x)) passes (put_back left b q) Ended)
@@ -366,6 +374,14 @@ module _ {T M K : Type 0} (small : K → PartsView T M) (h : AnyWindow T M K) (w
             stands = refl;
             begins = (sym (put-many left q b), leaves.first, first, leaves.pass, behind-others);
           }))
+
+      pub left-vector : is_several w.role ≡ true → LeftVector s v n passes after
+      left-vector several = record {
+        fits = moved-by-number;
+        shares = moved-several several;
+        row = moved-row;
+        moved = moved-to;
+      }
 
 -- ---- a block that was founded
 

@@ -3,14 +3,15 @@ use Rattle.std.proofs.Common.{◌≡◌, ◌∙◌, ◌<◌, length, refl, sym, 
 use Rattle.std.specs.Vec.{vec_capacity}
 use Rattle.arc_slots.specs.Slots.{SlotView, stand_of, window_in}
 use Rattle.arc_slots.specs.Stands.{HasNumber, HasPassFor, IsAttested}
-use Rattle.arc_slots.proofs.Parted.{left-many, moved-by-number, moved-row, moved-several, moved-to}
+use Rattle.arc_slots.proofs.Parted.{LeftVector, left-many, left-vector}
 use Rattle.arc_slots.proofs.FilledBeside.{beside-several, beside-shares}
 use Rattle.arc_slots.proofs.Parted.{shared-still, shared-vector}
 use Rattle.arc_slots.proofs.Parted.{slot-nothing, still-more}
 use Rattle.arc_slots.proofs.Slots.{has-number}
 use Rattle.arc_slots.proofs.Taken.{back-same}
 use Rattle.arc_slots.proofs.slot.Slot.leave_vector.Given.{Over}
-use Rattle.arc_slots.proofs.slot.Slot.leave_vector.Goals.{After-give_back-in-Err}
+use Rattle.arc_slots.proofs.slot.Slot.leave_vector.Goals.{After-give_back, After-give_back-in-Err}
+use Rattle.arc_slots.proofs.slot.Slot.leave_vector.Goals.{After-lend-pass}
 use Rattle.arc_slots.proofs.slot.Slot.leave_vector.Goals as goal
 
 pub try_leave_vector_as-requires-clause-vector : goal.try_leave_vector_as-requires-clause-vector
@@ -26,43 +27,27 @@ keep-self-inside-requires-clause-room g c begins =
     (sym (left-many c.args.passes.now.of_blocks.items c.lend-pass.new.self.of_blocks.items
     c.lend-pass.result c.self.inside.block c.lend-pass.ensures.taken)) c.requires.room)
 
+-- the pass comes back to its place
+left : (g : Over) (c : After-lend-pass g)
+    → HasNumber c.lend-pass.new.self.of_blocks.items c.self.inside.block
+left g c =
+    shared-still g.S.Small.SmallOf.seen c.self.inside.window c.in-Several.window
+    c.self.inside.block c.in-Several.is c.args.self.now c.self.view_is c.self.invariant.0
+    c.args.passes.now.of_blocks.items c.lend-pass.new.self.of_blocks.items c.lend-pass.result
+    c.requires.pass c.lend-pass.ensures.taken
+
 pub give_back-requires : goal.give_back-requires
 give_back-requires g c =
     subst (λ ps. HasNumber ps c.self.inside.block)
     (sym (c.keep-self-inside.ensures.new refl).1)
     (still-more c.lend-pass.new.self.of_blocks.items c.in-Ok.first c.self.inside.block
-    (shared-still g.S.Small.SmallOf.seen c.self.inside.window c.in-Several.window
-    c.self.inside.block c.in-Several.is c.args.self.now c.self.view_is c.self.invariant.0
-    c.args.passes.now.of_blocks.items c.lend-pass.new.self.of_blocks.items c.lend-pass.result
-    c.requires.pass c.lend-pass.ensures.taken))
+    (left g (goal.at.give_back-requires g c).After-lend-pass))
 
-pub invariant_of-self : goal.invariant_of-self
-invariant_of-self g c = (
-  moved-by-number g.S.Small.SmallOf.seen c.self.inside.window c.in-Several.window
-      c.self.inside.block c.in-Several.is c.args.self.now c.self.view_is c.self.invariant.0
-      c.args.passes.now.of_blocks.items c.lend-pass.new.self.of_blocks.items c.lend-pass.result
-      c.requires.pass c.lend-pass.ensures.taken
-      c.try_leave_vector_as.new.window c.try_leave_vector_as.new.pass c.in-Ok.first
-      c.in-Ok.ensures.moved c.keep-self-inside.result c.keep-self-inside.new.self.of_blocks.items
-      c.give_back.new.self.of_blocks.items (c.keep-self-inside.ensures.new refl).0
-      (c.keep-self-inside.ensures.new refl).1 c.give_back.ensures,
-  moved-several g.S.Small.SmallOf.seen c.self.inside.window c.in-Several.window
-      c.self.inside.block c.in-Several.is c.args.self.now c.self.view_is c.self.invariant.0
-      c.args.passes.now.of_blocks.items c.lend-pass.new.self.of_blocks.items c.lend-pass.result
-      c.requires.pass c.lend-pass.ensures.taken
-      c.try_leave_vector_as.new.window c.try_leave_vector_as.new.pass c.in-Ok.first
-      c.in-Ok.ensures.moved c.keep-self-inside.result c.keep-self-inside.new.self.of_blocks.items
-      c.give_back.new.self.of_blocks.items (c.keep-self-inside.ensures.new refl).0
-      (c.keep-self-inside.ensures.new refl).1 c.give_back.ensures
-      (beside-several g.S.Small.SmallOf.seen c.self.inside.window c.in-Several.window
-      c.self.inside.block c.in-Several.is c.self.invariant.1),
-  beside-shares g.S.Small.SmallOf.seen c.self.inside.window c.in-Several.window c.self.inside.block
-      c.in-Several.is g.S.TableKind.SHARES c.self.invariant.2,
-)
-
-pub returns-in-Ok-clause-row : goal.returns-in-Ok-clause-row
-returns-in-Ok-clause-row g c =
-    moved-row g.S.Small.SmallOf.seen c.self.inside.window c.in-Several.window
+did : (g : Over) (c : After-give_back g)
+    → LeftVector c.args.self.now c.try_leave_vector_as.new.window c.keep-self-inside.result
+    c.args.passes.now.of_blocks.items c.give_back.new.self.of_blocks.items
+did g c =
+    left-vector g.S.Small.SmallOf.seen c.self.inside.window c.in-Several.window
     c.self.inside.block c.in-Several.is c.args.self.now c.self.view_is c.self.invariant.0
     c.args.passes.now.of_blocks.items c.lend-pass.new.self.of_blocks.items c.lend-pass.result
     c.requires.pass c.lend-pass.ensures.taken
@@ -70,24 +55,28 @@ returns-in-Ok-clause-row g c =
     c.in-Ok.ensures.moved c.keep-self-inside.result c.keep-self-inside.new.self.of_blocks.items
     c.give_back.new.self.of_blocks.items (c.keep-self-inside.ensures.new refl).0
     (c.keep-self-inside.ensures.new refl).1 c.give_back.ensures
+    (beside-several g.S.Small.SmallOf.seen c.self.inside.window c.in-Several.window
+    c.self.inside.block c.in-Several.is c.self.invariant.1)
+
+pub invariant_of-self : goal.invariant_of-self
+invariant_of-self g c =
+    let d = did g (goal.at.invariant_of-self g c).After-give_back in (
+      d.fits,
+      d.shares,
+      beside-shares g.S.Small.SmallOf.seen c.self.inside.window c.in-Several.window
+          c.self.inside.block c.in-Several.is g.S.TableKind.SHARES c.self.invariant.2,
+    )
+
+pub returns-in-Ok-clause-row : goal.returns-in-Ok-clause-row
+returns-in-Ok-clause-row g c = (did g (goal.at.returns-in-Ok-clause-row g c).After-give_back).row
 
 pub returns-in-Ok-clause-moved : goal.returns-in-Ok-clause-moved
 returns-in-Ok-clause-moved g c =
-    moved-to g.S.Small.SmallOf.seen c.self.inside.window c.in-Several.window
-    c.self.inside.block c.in-Several.is c.args.self.now c.self.view_is c.self.invariant.0
-    c.args.passes.now.of_blocks.items c.lend-pass.new.self.of_blocks.items c.lend-pass.result
-    c.requires.pass c.lend-pass.ensures.taken
-    c.try_leave_vector_as.new.window c.try_leave_vector_as.new.pass c.in-Ok.first
-    c.in-Ok.ensures.moved c.keep-self-inside.result c.keep-self-inside.new.self.of_blocks.items
-    c.give_back.new.self.of_blocks.items (c.keep-self-inside.ensures.new refl).0
-    (c.keep-self-inside.ensures.new refl).1 c.give_back.ensures
+    (did g (goal.at.returns-in-Ok-clause-moved g c).After-give_back).moved
 
 pub give_back-requires-in-Err : goal.give_back-requires-in-Err
 give_back-requires-in-Err g c =
-    shared-still g.S.Small.SmallOf.seen c.self.inside.window c.in-Several.window
-    c.self.inside.block c.in-Several.is c.args.self.now c.self.view_is c.self.invariant.0
-    c.args.passes.now.of_blocks.items c.lend-pass.new.self.of_blocks.items c.lend-pass.result
-    c.requires.pass c.lend-pass.ensures.taken
+    left g (goal.at.give_back-requires-in-Err g c).After-lend-pass
 
 -- the passes are then as before
 same-passes : (g : Over) (c : After-give_back-in-Err g)
