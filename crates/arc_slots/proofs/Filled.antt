@@ -36,7 +36,7 @@ use Rattle.arc_slots.specs.Writing.{is_fresh, Fills}
 use Rattle.arc_slots.specs.declared.window.Held.TheVariants.{Write}
 use Rattle.arc_commands.proofs.Parts.{sole-with}
 use Rattle.arc_commands.proofs.Roles.{several-with}
-use Rattle.arc_slots.proofs.Slots.{still-number}
+use Rattle.arc_slots.proofs.Slots.{fits-as, held-as, role-as, still-number}
 use Rattle.arc_slots.proofs.Taken.{back-same}
 
 -- where no items are written, there is room and nothing else
@@ -69,19 +69,6 @@ numbered_each P none static uncounted block (Some n) (on_block None offset info)
     absurd (false≢true fits)
 numbered_each P none static uncounted block (Some n) (on_block (Some o) offset info) fits =
     block n o offset info
-
--- a slot whose window is written
-module _ {T M K : Type 0} (small : K → PartsView T M) (h : AnyWindow T M K) (w : PartsView T M)
-    (b : Option ℕ) (is : h ≡ Write w) where
-  pub writes-view : held small h b ≡ writer_slot w b
-  writes-view = ap (λ x. held small x b) is
-
-  pub writes-fits : is_numbered b (window_in small h).place ≡ true
-      → is_numbered b w.place ≡ true
-  writes-fits fits = ap (λ x. is_numbered b (window_in small x).place) (sym is) ∙ fits
-
-  pub writes-sole : role_fits h ≡ true → is_sole w.role ≡ true
-  writes-sole sole = ap role_fits (sym is) ∙ sole
 
 -- what holds of each room that a block may have holds of what it has: only a caller's buffer makes
 -- its own
@@ -508,13 +495,13 @@ module _ {T M K : Type 0} (small : K → PartsView T M) (h : AnyWindow T M K) (w
     (b : Option ℕ) (is : h ≡ Write w) (s : SlotView T M) (view : held small h b ≡ s)
     (fact : (is_numbered b (window_in small h).place ≡ true) × (role_fits h ≡ true)) where
   seen : writer_slot w b ≡ s
-  seen = sym (writes-view small h w b is) ∙ view
+  seen = sym (held-as h (Write w) is small b) ∙ view
 
   fit : is_numbered b w.place ≡ true
-  fit = writes-fits small h w b is fact.0
+  fit = fits-as h (Write w) is small b fact.0
 
   writer : is_sole w.role ≡ true
-  writer = writes-sole small h w b is fact.1
+  writer = role-as h (Write w) is fact.1
 
   -- there is a pass with the block's number, where it was taken out
   pub written-left : (passes left : List (Pass Whole)) (p : Pass Whole)

@@ -38,28 +38,13 @@ use Rattle.arc_slots.specs.Writing.{Fills, IsUnchanged, is_fresh}
 use Rattle.arc_slots.specs.declared.window.Held.TheVariants.{Several}
 use Rattle.arc_slots.proofs.Filled.{fills, keeps-several, none-fresh, numbered_each, reclaims}
 use Rattle.arc_slots.proofs.Filled.{room-same, room_each, unchanged}
-use Rattle.arc_slots.proofs.Slots.{along, still-number, window-pass}
+use Rattle.arc_slots.proofs.Slots.{along, fits-as, held-as, role-as, shares-as, still-number}
+use Rattle.arc_slots.proofs.Slots.{window-pass}
 use Rattle.arc_slots.proofs.Taken.{back-same, set-twice}
 
 -- where a window stands, by its owner
 abbrev At : Type 0 → Type 0
 At M = Place (Option Owner) M
-
--- a slot whose window is that of one of several
-module _ {T M K : Type 0} (small : K → PartsView T M) (h : AnyWindow T M K) (w : PartsView T M)
-    (b : Option ℕ) (is : h ≡ Several w) where
-  pub beside-view : held small h b ≡ writer_slot w b
-  beside-view = ap (λ x. held small x b) is
-
-  pub beside-fits : is_numbered b (window_in small h).place ≡ true
-      → is_numbered b w.place ≡ true
-  beside-fits fits = ap (λ x. is_numbered b (window_in small x).place) (sym is) ∙ fits
-
-  pub beside-several : role_fits h ≡ true → is_several w.role ≡ true
-  beside-several several = ap role_fits (sym is) ∙ several
-
-  pub beside-shares : (shares : Bool) → may_be_shared shares h ≡ true → shares ≡ true
-  beside-shares shares may = ap (may_be_shared shares) (sym is) ∙ may
 
 -- ---- the question
 
@@ -375,16 +360,16 @@ module _ {T M K : Type 0} (small : K → PartsView T M) (h : AnyWindow T M K) (w
     (shares : Bool) (fact : (is_numbered b (window_in small h).place ≡ true)
     × (role_fits h ≡ true) × (may_be_shared shares h ≡ true)) where
   pub beside-seen : writer_slot w b ≡ s
-  beside-seen = sym (beside-view small h w b is) ∙ view
+  beside-seen = sym (held-as h (Several w) is small b) ∙ view
 
   fit : is_numbered b w.place ≡ true
-  fit = beside-fits small h w b is fact.0
+  fit = fits-as h (Several w) is small b fact.0
 
   one : is_several w.role ≡ true
-  one = beside-several small h w b is fact.1
+  one = role-as h (Several w) is fact.1
 
   kind : shares ≡ true
-  kind = beside-shares small h w b is shares fact.2
+  kind = shares-as h (Several w) is shares fact.2
 
   module _ (passes : List (Pass Whole)) (has : HasPassFor passes (stand_of (Some s))) where
     pub beside-has : HasPassFor passes (stand_at b w.place)

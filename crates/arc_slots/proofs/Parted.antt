@@ -34,7 +34,6 @@ use Rattle.arc_slots.specs.Calls.{AddsNothing, Along, Beside, FindsFullAt, Throu
 use Rattle.arc_kinds.specs.Passes.{is_any}
 use Rattle.arc_slots.specs.Several.{MovesTo, RefusesPlaces, SplitsThere, handed_places}
 use Rattle.arc_slots.specs.Several.{kept_places}
-use Rattle.arc_slots.proofs.FilledBeside.{beside-fits, beside-view}
 use Rattle.arc_slots.specs.Slots.{AnyWindow, SlotView, held, row_of}
 use Rattle.arc_slots.specs.Slots.{stand_of, window_in, writer_slot}
 use Rattle.arc_slots.specs.Stands.{HasNumber, HasPassFor, IsAttested, TakenOut, is_numbered}
@@ -43,7 +42,8 @@ use Rattle.arc_slots.specs.declared.part.Part.{Part}
 use Rattle.arc_slots.specs.declared.part.Part.TheVariants.{Whole as All, Range, Back, Front}
 use Rattle.arc_slots.specs.declared.window.Held.TheVariants.{Several}
 use Rattle.arc_slots.proofs.Added.{Ended}
-use Rattle.arc_slots.proofs.Slots.{along, moved-fits, moved-numbered, moved-stand, refuses}
+use Rattle.arc_slots.proofs.Slots.{along, fits-as, held-as, moved-fits, moved-numbered}
+use Rattle.arc_slots.proofs.Slots.{moved-stand, refuses}
 use Rattle.arc_slots.proofs.Slots.{same-row, shares, shares-fits, shares-numbered, still-number}
 use Rattle.arc_slots.proofs.Slots.{window-pass}
 use Rattle.arc_slots.proofs.Taken.{set-back}
@@ -216,10 +216,10 @@ module _ {T M K : Type 0} (small : K → PartsView T M) (h : AnyWindow T M K) (w
   module _ (s : SlotView T M) (view : held small h b ≡ s)
       (numbers : is_numbered b (window_in small h).place ≡ true) where
     pub shared-seen : writer_slot w b ≡ s
-    shared-seen = sym (beside-view small h w b is) ∙ view
+    shared-seen = sym (held-as h (Several w) is small b) ∙ view
 
     fits : is_numbered b w.place ≡ true
-    fits = beside-fits small h w b is numbers
+    fits = fits-as h (Several w) is small b numbers
 
     -- whether it stands on a vector
     pub shared-vector : is_vector_at w.place ≡ is_vector_at (row_of s).place

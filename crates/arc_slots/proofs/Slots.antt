@@ -14,7 +14,8 @@ use Rattle.arc_parts.specs.Steps.{IsPassAt, Shares, Refuses}
 use Rattle.arc_block.specs.Table.{Row, Role, reader}
 use Rattle.arc_parts.specs.Window.{Window, PartsView}
 use Rattle.arc_parts.specs.Writers.{sole_at}
-use Rattle.arc_slots.specs.Slots.{AnyWindow, SlotView, held, role_in, row_of, window_in, read_slot}
+use Rattle.arc_slots.specs.Slots.{AnyWindow, SlotView, held, may_be_shared, read_slot, role_fits}
+use Rattle.arc_slots.specs.Slots.{role_in, row_of, window_in}
 use Rattle.arc_slots.specs.Slots.{stand_of, writer_slot}
 use Rattle.arc_slots.specs.declared.window.Held.TheVariants.{Read}
 use Rattle.arc_slots.specs.Calls.{Through, Along, Beside, RefusesAt, AddsNothing}
@@ -26,15 +27,21 @@ use Rattle.arc_slots.proofs.Taken.{back-same, left-number}
 abbrev At : Type 0 → Type 0
 At M = Place (Option Owner) M
 
--- a slot whose window is read
-module _ {T M K : Type 0} (small : K → PartsView T M) (h : AnyWindow T M K) (w : Window T M)
-    (b : Option ℕ) (is : h ≡ Read w) where
-  pub reads-view : held small h b ≡ record { window = w; role = reader; block = b }
-  reads-view = ap (λ x. held small x b) is
+-- what is said of a slot's window is said of that which it is
+module _ {T M K : Type 0} (h v : AnyWindow T M K) (is : h ≡ v) where
+  pub role-as : role_fits h ≡ true → role_fits v ≡ true
+  role-as fits = ap role_fits (sym is) ∙ fits
 
-  pub reads-fits : is_numbered b (window_in small h).place ≡ true
-      → is_numbered b w.place ≡ true
-  reads-fits fits = ap (λ x. is_numbered b (window_in small x).place) (sym is) ∙ fits
+  pub shares-as : (shares : Bool) → may_be_shared shares h ≡ true → may_be_shared shares v ≡ true
+  shares-as shares may = ap (may_be_shared shares) (sym is) ∙ may
+
+  module _ (small : K → PartsView T M) (b : Option ℕ) where
+    pub held-as : held small h b ≡ held small v b
+    held-as = ap (λ x. held small x b) is
+
+    pub fits-as : is_numbered b (window_in small h).place ≡ true
+        → is_numbered b (window_in small v).place ≡ true
+    fits-as fits = ap (λ x. is_numbered b (window_in small x).place) (sym is) ∙ fits
 
 -- what a call by a slot finds whose window has this role: how it is seen, that its number is that
 -- of its place, and that the passes have the one of its block, which was taken out of them
@@ -68,10 +75,10 @@ pub read-call : {T M K H : Type 0} (small : K → PartsView T M) (h : AnyWindow 
     → HasPassFor passes (stand_of (Some s)) → TakenOut passes b p left
     → ReadCall w b s passes left p
 read-call small h w {b = b} {s = s} {passes = passes} is seen fits has took =
-    let view : read_slot w b ≡ s = sym (reads-view small h w b is) ∙ seen in
+    let view : read_slot w b ≡ s = sym (held-as h (Read w) is small b) ∙ seen in
     record {
       view = view;
-      fits = reads-fits small h w b is fits;
+      fits = fits-as h (Read w) is small b fits;
       has = subst (λ x. HasPassFor passes (stand_of (Some x))) (sym view) has;
       took = took;
     }

@@ -20,7 +20,7 @@ use Rattle.arc_slots.specs.declared.take.Taking.{Taking}
 use Rattle.arc_slots.specs.declared.window.Held.TheVariants.{Read}
 use Rattle.arc_slots.proofs.Have.{have-is, have-numbered, have-says}
 use Rattle.arc_slots.proofs.Native.{refuses-out, takes}
-use Rattle.arc_slots.proofs.Slots.{along, reads-fits, reads-view, still-number, window-pass}
+use Rattle.arc_slots.proofs.Slots.{along, fits-as, held-as, still-number, window-pass}
 use Rattle.arc_slots.proofs.Taken.{back-same}
 
 -- What a call finds that takes apart a slot's window of this role: its parts are those that the slot
@@ -42,9 +42,10 @@ module _ {T M H : Type 0} {b : Option ℕ} {s : SlotView T M} {q : PartsView T M
   apart-reader small h w is view fits parts has took = record {
     view =
         ap (λ (r : PartsView T M). record { window = window_of r; role = reader; block = b }) parts
-        ∙ sym (reads-view small h w b is) ∙ view;
+        ∙ sym (held-as h (Read w) is small b) ∙ view;
     fits =
-        ap (λ (r : PartsView T M). is_numbered b r.place) parts ∙ reads-fits small h w b is fits;
+        ap (λ (r : PartsView T M). is_numbered b r.place) parts
+        ∙ fits-as h (Read w) is small b fits;
     has = has;
     took = took;
   }

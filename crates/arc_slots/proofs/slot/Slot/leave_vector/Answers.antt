@@ -3,11 +3,11 @@ use Rattle.std.proofs.Common.{◌≡◌, ◌∙◌, ◌<◌, length, refl, sym, 
 use Rattle.std.specs.Vec.{vec_capacity}
 use Rattle.arc_slots.specs.Slots.{SlotView, stand_of, window_in}
 use Rattle.arc_slots.specs.Stands.{HasNumber, HasPassFor, IsAttested}
+use Rattle.arc_slots.specs.declared.window.Held.TheVariants.{Several}
 use Rattle.arc_slots.proofs.Parted.{LeftVector, left-many, left-vector}
-use Rattle.arc_slots.proofs.FilledBeside.{beside-several, beside-shares}
 use Rattle.arc_slots.proofs.Parted.{shared-still, shared-vector}
 use Rattle.arc_slots.proofs.Parted.{slot-nothing, still-more}
-use Rattle.arc_slots.proofs.Slots.{has-number}
+use Rattle.arc_slots.proofs.Slots.{has-number, role-as, shares-as}
 use Rattle.arc_slots.proofs.Taken.{back-same}
 use Rattle.arc_slots.proofs.slot.Slot.leave_vector.Given.{Over}
 use Rattle.arc_slots.proofs.slot.Slot.leave_vector.Goals.{After-give_back, After-give_back-in-Err}
@@ -55,16 +55,16 @@ did g c =
     c.in-Ok.ensures.moved c.keep-self-inside.result c.keep-self-inside.new.self.of_blocks.items
     c.give_back.new.self.of_blocks.items (c.keep-self-inside.ensures.new refl).0
     (c.keep-self-inside.ensures.new refl).1 c.give_back.ensures
-    (beside-several g.S.Small.SmallOf.seen c.self.inside.window c.in-Several.window
-    c.self.inside.block c.in-Several.is c.self.invariant.1)
+    (role-as c.self.inside.window (Several c.in-Several.window) c.in-Several.is
+    c.self.invariant.1)
 
 pub invariant_of-self : goal.invariant_of-self
 invariant_of-self g c =
     let d = did g (goal.at.invariant_of-self g c).After-give_back in (
       d.fits,
       d.shares,
-      beside-shares g.S.Small.SmallOf.seen c.self.inside.window c.in-Several.window
-          c.self.inside.block c.in-Several.is g.S.TableKind.SHARES c.self.invariant.2,
+      shares-as c.self.inside.window (Several c.in-Several.window) c.in-Several.is
+          g.S.TableKind.SHARES c.self.invariant.2,
     )
 
 pub returns-in-Ok-clause-row : goal.returns-in-Ok-clause-row

@@ -3,9 +3,11 @@ use Rattle.arc_parts.specs.Shared.{AsksAlone}
 use Rattle.std.proofs.Common.{Bool, Some, true, false, ap, ◌∙◌}
 use Rattle.arc_slots.specs.Several.{AsksAt}
 use Rattle.arc_slots.specs.Slots.{row_of, stand_of}
-use Rattle.arc_slots.proofs.FilledBeside.{beside-asked, beside-fits, beside-left}
+use Rattle.arc_slots.specs.declared.window.Held.TheVariants.{Several}
+use Rattle.arc_slots.proofs.FilledBeside.{beside-asked, beside-left}
 use Rattle.arc_slots.proofs.FilledBeside.{beside-pass, beside-seen}
 use Rattle.arc_slots.proofs.Shared.{unique-row}
+use Rattle.arc_slots.proofs.Slots.{fits-as}
 use Rattle.arc_slots.proofs.slot.Slot.try_into_unique.Given.{Over}
 use Rattle.arc_slots.proofs.slot.Slot.try_into_unique.Goals.{After-give_back}
 use Rattle.arc_slots.proofs.slot.Slot.try_into_unique.Goals as goal
@@ -36,7 +38,7 @@ returns-in-Ok-clause-row g c =
     ap row_of c.written.ensures
     ∙ unique-row w b c.args.self
     (beside-seen small h w b c.in-Several.is c.args.self c.self.view_is g.S.TableKind.SHARES
-    c.self.invariant) (beside-fits small h w b c.in-Several.is c.self.invariant.0)
+    c.self.invariant) (fits-as h (Several w) c.in-Several.is small b c.self.invariant.0)
     c.in-Ok.window c.in-Ok.ensures.sole
 
 -- what he asked by the pass that was lent is asked of the table

@@ -3,7 +3,8 @@ use Rattle.std.proofs.Common.{◌≡◌, Option, true, sym, ap, ◌∙◌, subst
 use Rattle.std.specs.Prelude.{IfNone}
 use Rattle.arc_parts.specs.Window.{IsOfBuffer, PartsView}
 use Rattle.arc_slots.specs.Slots.{row_of}
-use Rattle.arc_slots.proofs.Filled.{writes-fits, writes-view}
+use Rattle.arc_slots.specs.declared.window.Held.TheVariants.{Write}
+use Rattle.arc_slots.proofs.Slots.{fits-as, held-as}
 use Rattle.arc_slots.proofs.Shared.{may-not-share, may-share, shared-row}
 use Rattle.arc_slots.proofs.slot.Slot.try_share.Goals as goal
 
@@ -14,8 +15,8 @@ returns-in-Some-clause-row g c =
     let h = c.self.inside.window in
     ap row_of c.written_beside.ensures
     ∙ shared-row w b c.args.self
-    (sym (writes-view g.S.Small.SmallOf.seen h w b c.in-Write.is) ∙ c.self.view_is)
-    (writes-fits g.S.Small.SmallOf.seen h w b c.in-Write.is c.self.invariant.0)
+    (sym (held-as h (Write w) c.in-Write.is g.S.Small.SmallOf.seen b) ∙ c.self.view_is)
+    (fits-as h (Write w) c.in-Write.is g.S.Small.SmallOf.seen b c.self.invariant.0)
     c.in-Some.window c.in-Some.ensures.shared.0
 
 pub returns-in-Some-clause-may : goal.returns-in-Some-clause-may
@@ -24,8 +25,8 @@ returns-in-Some-clause-may g c =
     let w = c.in-Write.window in
     let h = c.self.inside.window in
     may-share w b c.args.self
-    (sym (writes-view g.S.Small.SmallOf.seen h w b c.in-Write.is) ∙ c.self.view_is)
-    (writes-fits g.S.Small.SmallOf.seen h w b c.in-Write.is c.self.invariant.0)
+    (sym (held-as h (Write w) c.in-Write.is g.S.Small.SmallOf.seen b) ∙ c.self.view_is)
+    (fits-as h (Write w) c.in-Write.is g.S.Small.SmallOf.seen b c.self.invariant.0)
     g.S.Slice.DROPS c.known_kind.ensures c.known_place.ensures c.in-Some.ensures.shared.1
 
 pub returns-clause-may_not : goal.returns-clause-may_not
@@ -34,8 +35,8 @@ returns-clause-may_not g c =
     let w = c.in-Write.window in
     let h = c.self.inside.window in
     may-not-share w b c.args.self
-    (sym (writes-view g.S.Small.SmallOf.seen h w b c.in-Write.is) ∙ c.self.view_is)
-    (writes-fits g.S.Small.SmallOf.seen h w b c.in-Write.is c.self.invariant.0)
+    (sym (held-as h (Write w) c.in-Write.is g.S.Small.SmallOf.seen b) ∙ c.self.view_is)
+    (fits-as h (Write w) c.in-Write.is g.S.Small.SmallOf.seen b c.self.invariant.0)
     g.S.Slice.DROPS
     (subst (λ (r : Option (PartsView g.row.S-Item.Denot g.row.M.Denot)).
     IfNone r (g.S.Calls.CallsOf.calls.shares ≡ true → IsOfBuffer w.place))

@@ -1,6 +1,8 @@
 -- What is taken out by the pass that was lent for it is taken out of the table.
 use Rattle.arc_slots.specs.declared.take.Taking.TheVariants.{Vector}
-use Rattle.arc_slots.proofs.FilledBeside.{beside-fits, beside-seen}
+use Rattle.arc_slots.specs.declared.window.Held.TheVariants.{Several}
+use Rattle.arc_slots.proofs.FilledBeside.{beside-seen}
+use Rattle.arc_slots.proofs.Slots.{fits-as}
 use Rattle.arc_slots.proofs.Takes.{TakenApart, apart-writer, parts-number, parts-pass}
 use Rattle.arc_slots.proofs.Takes.{slot-refuses, slot-takes}
 use Rattle.arc_slots.proofs.slot.Slot.try_take_beside.Given.{Over}
@@ -18,7 +20,7 @@ apart g c =
     let b = c.self.inside.block in
     apart-writer w
     (beside-seen small h w b c.in-Several.is c.args.self c.self.view_is g.S.TableKind.SHARES
-    c.self.invariant) (beside-fits small h w b c.in-Several.is c.self.invariant.0)
+    c.self.invariant) (fits-as h (Several w) c.in-Several.is small b c.self.invariant.0)
     c.into_shared_parts.ensures.parts c.requires.pass c.lend-pass.ensures.taken
 
 pub try_into_vec_as-taken-requires : goal.try_into_vec_as-taken-requires

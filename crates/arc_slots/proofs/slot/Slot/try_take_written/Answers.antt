@@ -2,7 +2,8 @@
 use Rattle.std.proofs.Common.{sym, ap, ◌∙◌}
 use Rattle.arc_parts.specs.Window.{PartsView}
 use Rattle.arc_slots.specs.Slots.{writer_slot}
-use Rattle.arc_slots.proofs.Filled.{writes-fits, writes-view}
+use Rattle.arc_slots.specs.declared.window.Held.TheVariants.{Write}
+use Rattle.arc_slots.proofs.Slots.{fits-as, held-as}
 use Rattle.arc_slots.proofs.Takes.{TakenApart, apart-writer, parts-number, parts-pass, sole-back}
 use Rattle.arc_slots.proofs.Takes.{sole-leaves, sole-unwanted, sole-wanted}
 use Rattle.arc_slots.proofs.slot.Slot.try_take_written.Given.{Over}
@@ -17,8 +18,8 @@ apart g c =
     let h = c.self.inside.window in
     let w = c.in-Write.window in
     let b = c.self.inside.block in
-    apart-writer w (sym (writes-view small h w b c.in-Write.is) ∙ c.self.view_is)
-    (writes-fits small h w b c.in-Write.is c.self.invariant.0) c.into_parts.ensures.parts
+    apart-writer w (sym (held-as h (Write w) c.in-Write.is small b) ∙ c.self.view_is)
+    (fits-as h (Write w) c.in-Write.is small b c.self.invariant.0) c.into_parts.ensures.parts
     c.requires.pass c.lend-pass.ensures.taken
 
 pub try_sole_into_reply-taken-requires-clause-pass :
@@ -47,8 +48,8 @@ returns-in-Err-clause-back g c =
     let b = c.self.inside.block in (
       ap (λ (w : PartsView g.row.S-Item.Denot g.row.M.Denot). writer_slot w b)
           (c.from_parts.ensures ∙ c.in-Err.ensures.back ∙ c.into_parts.ensures.parts)
-          ∙ sym (writes-view g.S.Small.SmallOf.seen c.self.inside.window c.in-Write.window b
-          c.in-Write.is)
+          ∙ sym (held-as c.self.inside.window (Write c.in-Write.window) c.in-Write.is
+          g.S.Small.SmallOf.seen b)
           ∙ c.self.view_is,
       sole-back (apart g (goal.at.returns-in-Err-clause-back g c).After-into_parts)
           c.try_sole_into_reply-taken.new.pass c.give_back.new.self.of_blocks.items
