@@ -18,4 +18,5 @@ pub mod Several
 pub mod Windows
 pub mod Others
 pub mod WorkedRows
+pub mod AddsEach
 pub mod OtherHistories

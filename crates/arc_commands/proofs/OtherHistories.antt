@@ -1,35 +1,26 @@
 -- No command adds to the history of a block on which its window doesn't stand, and the other
 -- windows stand where they stood.
-use Rattle.std.proofs.Common.{inl, inr, ◌≡◌, ℕ, ◌<◌, Bool, true, false, List, length}
-use Rattle.std.proofs.Common.{Option, Some, None, slice_get, slice_set, refl, ap, ◌∙◌}
-use Rattle.std.proofs.Common.{arith}
+use Rattle.std.proofs.Common.{inl, inr, ◌≡◌, ℕ, ◌<◌, Bool, true, List, length, Option, Some, None}
+use Rattle.std.proofs.Common.{slice_get, slice_set, refl, ap, ◌∙◌, arith}
 use Rattle.std.specs.Prelude.{MatchOption}
 use Rattle.std.proofs.lemmas.Option.{none-some, same_Some, slice_get_within}
-use Rattle.arc_owners.specs.declared.error.TryReserveError.{TryReserveError}
-use Rattle.arc_owners.specs.declared.error.TryReserveError.TheVariants as reserve
 use Rattle.arc_owners.specs.declared.count.tokens.Pass.{Pass}
 use Rattle.arc_owners.specs.declared.history.entry.Entry.{Entry}
 use Rattle.arc_owners.specs.count.Calls.{Owner}
-use Rattle.arc_block.specs.Block.{Sort, native, vector, buffer, raw}
 use Rattle.arc_block.specs.Owned.{Stand}
-use Rattle.arc_block.specs.Place.{Place, nowhere, static_data, on_block}
 use Rattle.arc_block.specs.Table.{Row, Table, row_at}
 use Rattle.arc_block.proofs.Lists.{get-front, get-set_other}
 use Rattle.arc_commands.specs.Additions.{Standing, Adds, AddsBy, AddsTo, AddsAt, Raises, Founds}
-use Rattle.arc_commands.specs.Additions.{MayBegin, Takes, TakesAs, AsksIf}
-use Rattle.arc_commands.specs.Additions.{AsksInVain, AsksInVainAt, RowAdds, MakerAdds, with_stand}
-use Rattle.arc_commands.specs.Additions.{stand_in, raised, asked, refused, ended}
-use Rattle.arc_commands.specs.Additions.{AddsOn, AsksFirst, HasMade, HasRefused, JoinAdds, Joins}
-use Rattle.arc_commands.specs.Additions.{MovesAndJoins, Splits, asks_first}
-use Rattle.arc_commands.specs.Blocks.{is_several, is_sole}
-use Rattle.arc_commands.specs.Changes.{Setting, is_box_whole, is_buffer_whole, is_on_block}
-use Rattle.arc_commands.specs.Changes.{is_raw_whole, is_vector_part, is_writable_at}
-use Rattle.arc_commands.specs.Several.{is_vector_at}
+use Rattle.arc_commands.specs.Additions.{MayBegin, Takes, RowAdds, MakerAdds, with_stand, stand_in}
+use Rattle.arc_commands.specs.Additions.{raised, asked, refused, ended, AddsOn, JoinAdds, Joins}
+use Rattle.arc_commands.specs.Additions.{MovesAndJoins}
+use Rattle.arc_commands.specs.Changes.{Setting}
 use Rattle.arc_commands.specs.Commands.{ListCmd, ListReply}
 use Rattle.arc_commands.specs.Others.{OtherHistoriesStay}
 use Rattle.arc_commands.specs.Step.{other_of, window_of}
 use Rattle.arc_commands.specs.declared.command.Cmd.TheVariants as command
 use Rattle.arc_commands.specs.declared.command.Reply.TheVariants as reply
+use Rattle.arc_commands.proofs.AddsEach.{row_adds_each}
 
 -- behind the stands that are there one more may be
 with-stand-stays : (stands : List Stand) (made : Option Stand) (j : ℕ) (stand : Stand)
@@ -82,10 +73,6 @@ module _ {H : Type 0} where
         at-stay here ended adds.2 new adds.4 n pass apart
         (at-stay here (asked true) old adds.2 adds.3 n pass apart at)
 
-    takes-as-stay : (sole : Bool) → TakesAs here there made old new sole → PassesStay here old new
-    takes-as-stay true adds = at-stay here ended old new adds.2
-    takes-as-stay false adds = takes-stay adds
-
     joins-stay : (handed_out : Bool) → Joins here there made old new handed_out
         → PassesStay here old new
     joins-stay handed_out adds = raises-stay here adds.0 old new adds.1
@@ -109,107 +96,20 @@ module _ {H : Type 0} where
         (on-new there m.between m.begun_with m.begins n
         (slice_get_within m.between n pass one)) two
 
-    splits-stay : (several on_vector handed_out : Bool)
-        → Splits here there made old new several on_vector handed_out → PassesStay here old new
-    splits-stay false on_vector handed_out adds = joins-stay handed_out adds
-    splits-stay true false handed_out adds = joins-stay false adds
-    splits-stay true true handed_out adds = moves-stay adds
-
-    first-stay : (asks alone : Bool) → AsksFirst here there made old new asks alone
-        → PassesStay here old new
-    first-stay true alone adds = at-stay here (asked alone) old new adds.2
-    first-stay false alone adds = same-stay here old new adds.2
-
-    made-room-stay : (asks : Bool) → HasMade here there made old new asks → PassesStay here old new
-    made-room-stay true adds = at-stay here (asked true) old new adds.2
-    made-room-stay false adds = begins-stay here there old new adds.0
-
-    no-room-stay : (asks : Bool) (e : TryReserveError) → HasRefused here there made old new asks e
-        → PassesStay here old new
-    no-room-stay asks reserve.NotUnique adds = first-stay asks false adds
-    no-room-stay asks reserve.AllocError adds = first-stay asks true adds
-    no-room-stay asks reserve.Unsupported adds = first-stay asks true adds
-    no-room-stay asks reserve.CapacityOverflow adds = first-stay asks true adds
-
-    asks-stay : (asks : Bool) → AsksIf here there made old new asks → PassesStay here old new
-    asks-stay true adds = at-stay here (asked false) old new adds.2
-    asks-stay false adds = same-stay here old new adds.2
-
-    vain-stay : (sort : Sort) → AsksInVain here there made old new sort → PassesStay here old new
-    vain-stay native adds = at-stay here (asked false) old new adds.2
-    vain-stay vector adds = at-stay here (asked false) old new adds.2
-    vain-stay (buffer writable) adds = at-stay here (asked adds.0) old new adds.1.2
-    vain-stay raw adds = same-stay here old new adds.2
-
-    in-vain-stay : {M : Type 0} (place : Place (Option ℕ) M)
-        → AsksInVainAt here there made old new place → PassesStay here old new
-    in-vain-stay nowhere adds = same-stay here old new adds.2
-    in-vain-stay static_data adds = same-stay here old new adds.2
-    in-vain-stay (on_block block offset info) adds = vain-stay info.sort adds
-
     row-stay : {T M : Type 0} (setting : Setting T) (row : Row T M) (c : ListCmd T M)
         (r : ListReply T M) → RowAdds here there made old new setting row c r
         → PassesStay here old new
-    row-stay setting row (command.Clone i) (reply.New number) adds =
-        raises-stay here adds.0 old new adds.1
-    row-stay setting row (command.Sub i start end) (reply.New number) adds =
-        raises-stay here adds.0 old new adds.1
-    row-stay setting row (command.Off i at) (reply.New number) adds =
-        splits-stay (is_several row.role) (is_vector_at row.place) _ adds
-    row-stay setting row (command.To i at) (reply.New number) adds =
-        splits-stay (is_several row.role) (is_vector_at row.place) _ adds
-    row-stay setting row (command.Clone i) (reply.Owner e) adds =
-        at-stay here (refused e) old new adds.2
-    row-stay setting row (command.Sub i start end) (reply.Owner e) adds =
-        at-stay here (refused e) old new adds.2
-    row-stay setting row (command.Off i at) (reply.Owner e) adds =
-        at-stay here (refused e) old new adds.2
-    row-stay setting row (command.To i at) (reply.Owner e) adds =
-        at-stay here (refused e) old new adds.2
-    row-stay setting row (command.Uniq i) reply.Yes adds = at-stay here (asked true) old new adds.2
-    row-stay setting row (command.Uniq i) reply.No adds = in-vain-stay row.place adds
-    row-stay setting row (command.Mut i) reply.Ok adds = at-stay here (asked true) old new adds.2
-    row-stay setting row (command.Mut i) reply.Refused adds =
-        asks-stay (is_writable_at setting.writes_any row.place) adds
-    row-stay setting row (command.Unique i) reply.Ok adds =
-        at-stay here (asked true) old new adds.2
-    row-stay setting row (command.Unique i) reply.Refused adds =
-        asks-stay (is_on_block row.place) adds
-    row-stay setting row (command.Res i additional) reply.Ok adds =
-        made-room-stay (asks_first row additional) adds
-    row-stay setting row (command.Push i item) reply.Ok adds =
-        made-room-stay (asks_first row 1) adds
-    row-stay setting row (command.Ext i items) reply.Ok adds =
-        made-room-stay (asks_first row (length items)) adds
-    row-stay setting row (command.Res i additional) (reply.Reserve e) adds =
-        no-room-stay (asks_first row additional) e adds
-    row-stay setting row (command.Push i item) (reply.Reserve e) adds =
-        no-room-stay (asks_first row 1) e adds
-    row-stay setting row (command.Ext i items) (reply.Reserve e) adds =
-        no-room-stay (asks_first row (length items)) e adds
-    row-stay setting row (command.Rec i additional) reply.Yes adds =
-        first-stay (asks_first row additional) true adds
-    row-stay setting row (command.Rec i additional) reply.No adds =
-        first-stay (asks_first row additional) adds.0 adds.1
-    row-stay setting row (command.Freeze i) reply.Ok adds = begins-stay here there old new adds.0
-    row-stay setting row (command.Drop i) reply.Ok adds = at-stay here ended old new adds.2
-    row-stay setting row (command.Take i) (reply.Vec items) adds =
-        takes-as-stay (is_sole row.role) adds
-    row-stay setting row (command.TakeBuf i) (reply.Buffer items) adds =
-        takes-as-stay (is_sole row.role) adds
-    row-stay setting row (command.TakeRaw i) (reply.Raw items) adds = takes-stay adds
-    row-stay setting row (command.TakeBox i) (reply.Boxed items) adds = takes-stay adds
-    row-stay setting row (command.Take i) reply.Refused adds =
-        asks-stay (is_vector_part setting.drops row.place (length row.items)) adds
-    row-stay setting row (command.TakeBox i) reply.Refused adds =
-        asks-stay (is_box_whole row.place (length row.items)) adds
-    row-stay setting row (command.TakeBuf i) reply.Refused adds =
-        asks-stay (is_buffer_whole row.place (length row.items)) adds
-    row-stay setting row (command.TakeRaw i) reply.Refused adds =
-        asks-stay (is_raw_whole row.place (length row.items)) adds
-    row-stay setting row (command.TakeStatic i) (reply.Static items) adds =
-        same-stay here old new adds.3
-    row-stay setting row c r adds = same-stay here old new adds.2
+    row-stay =
+        row_adds_each (record {
+          joins = joins-stay;
+          moves = moves-stay;
+          asks = λ alone adds. at-stay here (asked alone) old new adds.2;
+          refuses = λ e adds. at-stay here (refused e) old new adds.2;
+          stays = λ adds. begins-stay here there old new adds.0;
+          goes = λ adds. at-stay here ended old new adds.2;
+          takes = takes-stay;
+          none = λ adds. same-stay here old new adds.2;
+        })
 
   maker-stay : {T M : Type 0} (c : ListCmd T M) (r : ListReply T M) (made : Option Stand)
       (old new : List (Pass H)) → MakerAdds c r made old new → PassesStay None old new

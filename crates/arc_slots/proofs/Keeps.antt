@@ -9,37 +9,25 @@ use Rattle.std.proofs.lemmas.Option.{slice_get_cases}
 use Rattle.std.proofs.lemmas.List.Sorted.{length_permutation, list_any-IsPermutation}
 use Rattle.arc_owners.specs.declared.count.tokens.Pass.{Pass}
 use Rattle.arc_owners.specs.declared.error.OwnerError.{OwnerError}
-use Rattle.arc_owners.specs.declared.error.TryReserveError.{TryReserveError}
-use Rattle.arc_owners.specs.declared.error.TryReserveError.TheVariants as reserve
 use Rattle.arc_owners.specs.declared.history.entry.Entry.{Entry}
 use Rattle.arc_owners.specs.declared.history.entry.Entry.TheVariants as entry
 use Rattle.arc_owners.specs.history.Histories.{is_counted, is_in, live_owners}
 use Rattle.arc_owners.specs.count.Invariant.{BlockId}
-use Rattle.arc_owners.specs.count.Calls.{Owner, Appends, seen}
-use Rattle.arc_owners.specs.count.Calls.{history_of}
+use Rattle.arc_owners.specs.count.Calls.{Owner, Appends, seen, history_of}
 use Rattle.arc_owners.proofs.Steps.{one_is}
 use Rattle.arc_owners.proofs.Wholes.{may-stand}
 use Rattle.arc_block.specs.declared.block.TheConstants.{MAX_OWNERS}
 use Rattle.arc_block.specs.Owned.{Stand, IsKept, number_on, owners_on}
-use Rattle.arc_block.specs.Block.{Sort, native, vector, buffer, raw}
-use Rattle.arc_block.specs.Place.{Place, nowhere, static_data, on_block}
 use Rattle.arc_block.specs.Table.{Row}
 use Rattle.arc_block.proofs.Lists.{filter_map-in, get-set}
 use Rattle.arc_block.proofs.Owned.{kept-asked, kept-begun, kept-full, kept-gone, kept-gone-nowhere}
 use Rattle.arc_block.proofs.Owned.{kept-new, kept-nowhere, kept-same, kept-shared, kept-turned}
 use Rattle.arc_commands.specs.Additions.{AddsAt, Enters, Founds, Goes, Joins, MayBegin, Raises}
-use Rattle.arc_commands.specs.Additions.{AsksIf, AsksInVain, AsksInVainAt, RowAdds, Takes, asked}
-use Rattle.arc_commands.specs.Additions.{TakesAs, ended, refused, with_stand}
-use Rattle.arc_commands.specs.Additions.{AsksFirst, HasMade, HasRefused, MovesAndJoins, Splits}
-use Rattle.arc_commands.specs.Additions.{asks_first}
-use Rattle.arc_commands.specs.Several.{is_vector_at}
-use Rattle.arc_commands.specs.Changes.{Setting, is_box_whole, is_vector_part, is_writable_at}
-use Rattle.arc_commands.specs.Changes.{is_buffer_whole, is_raw_whole}
-use Rattle.arc_commands.specs.Changes.{is_on_block}
-use Rattle.arc_commands.specs.Blocks.{is_several, is_sole}
+use Rattle.arc_commands.specs.Additions.{RowAdds, Takes, asked, ended, refused, with_stand}
+use Rattle.arc_commands.specs.Additions.{MovesAndJoins}
+use Rattle.arc_commands.specs.Changes.{Setting}
 use Rattle.arc_commands.specs.Commands.{ListCmd, ListReply}
-use Rattle.arc_commands.specs.declared.command.Cmd.TheVariants as command
-use Rattle.arc_commands.specs.declared.command.Reply.TheVariants as reply
+use Rattle.arc_commands.proofs.AddsEach.{row_adds_each}
 use Rattle.arc_slots.specs.Answers.{live_on}
 use Rattle.arc_slots.specs.Stands.{HasPassFor}
 use Rattle.arc_slots.proofs.Added.{entries-refused}
@@ -270,28 +258,6 @@ module _ {H : Type 0} (stands : List Stand) (passes : List (Pass H))
         subst (λ m. IsKept MAX_OWNERS (with_stand (slice_set stands i there) m) passes')
         (sym adds.1) (begins-at stands passes k i here there at passes' adds.0)
 
-    splits-kept : (several on_vector out : Bool)
-        → Splits here there made passes passes' several on_vector out → Kept
-    splits-kept false on_vector out adds = joins-kept out adds
-    splits-kept true false out adds = joins-kept false adds
-    splits-kept true true out adds = moves-kept stands passes k i here at passes' there made adds
-
-    first-kept : (asks alone : Bool) → AsksFirst here there made passes passes' asks alone → Kept
-    first-kept true alone adds =
-        enters-kept (asked alone) (asked-at stands passes k i here at alone passes' adds.2) adds
-    first-kept false alone adds = none-kept adds
-
-    room-kept : (asks : Bool) → HasMade here there made passes passes' asks → Kept
-    room-kept true adds = first-kept true true adds
-    room-kept false adds = stays-kept adds
-
-    no-room-kept : (asks : Bool) (e : TryReserveError)
-        → HasRefused here there made passes passes' asks e → Kept
-    no-room-kept asks reserve.NotUnique adds = first-kept asks false adds
-    no-room-kept asks reserve.AllocError adds = first-kept asks true adds
-    no-room-kept asks reserve.Unsupported adds = first-kept asks true adds
-    no-room-kept asks reserve.CapacityOverflow adds = first-kept asks true adds
-
     goes-kept : Goes here there made passes passes' ended → Kept
     goes-kept adds =
         subst (λ m. IsKept MAX_OWNERS (with_stand (slice_set stands i there) m) passes')
@@ -308,94 +274,19 @@ module _ {H : Type 0} (stands : List Stand) (passes : List (Pass H))
         (gone-at stands adds.2
         (asked-at stands passes k i here at true adds.2 adds.3) i here at passes' adds.4))
 
-    takes-as-kept : (sole : Bool) → TakesAs here there made passes passes' sole → Kept
-    takes-as-kept true adds = goes-kept adds
-    takes-as-kept false adds = takes-kept adds
-
-    -- where only the count could decide
-    asks-kept : (asks : Bool) → AsksIf here there made passes passes' asks → Kept
-    asks-kept true adds =
-        enters-kept (asked false) (asked-at stands passes k i here at false passes' adds.2) adds
-    asks-kept false adds = none-kept adds
-
-    vain-kept : (sort : Sort) → AsksInVain here there made passes passes' sort → Kept
-    vain-kept native adds =
-        enters-kept (asked false) (asked-at stands passes k i here at false passes' adds.2) adds
-    vain-kept vector adds =
-        enters-kept (asked false) (asked-at stands passes k i here at false passes' adds.2) adds
-    vain-kept (buffer writable) adds =
-        enters-kept (asked adds.0)
-        (asked-at stands passes k i here at adds.0 passes' adds.1.2) adds.1
-    vain-kept raw adds = none-kept adds
-
-    in-vain-kept : {M : Type 0} (place : Place (Option ℕ) M)
-        → AsksInVainAt here there made passes passes' place → Kept
-    in-vain-kept nowhere adds = none-kept adds
-    in-vain-kept static_data adds = none-kept adds
-    in-vain-kept (on_block block offset info) adds = vain-kept info.sort adds
-
-    -- the slice under a window that stood on nothing was taken
-    taken-kept : (here ≡ None) × (there ≡ None) × (made ≡ None) × (passes' ≡ passes) → Kept
-    taken-kept adds = none-kept (adds.1 ∙ sym adds.0, adds.2, adds.3)
-
     -- what a command on a row adds keeps them together
     pub row-kept : {T M : Type 0} (setting : Setting T) (row : Row T M) (c : ListCmd T M)
         (r : ListReply T M) → RowAdds here there made passes passes' setting row c r → Kept
-    row-kept setting row (command.Clone n) (reply.New number) adds = joins-kept false adds
-    row-kept setting row (command.Sub n start end) (reply.New number) adds = joins-kept false adds
-    row-kept setting row (command.Off n at) (reply.New number) adds =
-        splits-kept (is_several row.role) (is_vector_at row.place) (at == 0) adds
-    row-kept setting row (command.To n at) (reply.New number) adds =
-        splits-kept (is_several row.role) (is_vector_at row.place) (at == length row.items) adds
-    row-kept setting row (command.Clone n) (reply.Owner e) adds =
-        enters-kept (refused e) (refused-at stands passes k i here at e passes' adds.2) adds
-    row-kept setting row (command.Sub n start end) (reply.Owner e) adds =
-        enters-kept (refused e) (refused-at stands passes k i here at e passes' adds.2) adds
-    row-kept setting row (command.Off n place) (reply.Owner e) adds =
-        enters-kept (refused e) (refused-at stands passes k i here at e passes' adds.2) adds
-    row-kept setting row (command.To n place) (reply.Owner e) adds =
-        enters-kept (refused e) (refused-at stands passes k i here at e passes' adds.2) adds
-    row-kept setting row (command.Uniq n) reply.Yes adds =
-        enters-kept (asked true) (asked-at stands passes k i here at true passes' adds.2) adds
-    row-kept setting row (command.Uniq n) reply.No adds = in-vain-kept row.place adds
-    row-kept setting row (command.Mut n) reply.Ok adds =
-        enters-kept (asked true) (asked-at stands passes k i here at true passes' adds.2) adds
-    row-kept setting row (command.Mut n) reply.Refused adds =
-        asks-kept (is_writable_at setting.writes_any row.place) adds
-    row-kept setting row (command.Unique n) reply.Ok adds = first-kept true true adds
-    row-kept setting row (command.Unique n) reply.Refused adds =
-        asks-kept (is_on_block row.place) adds
-    row-kept setting row (command.Res n additional) reply.Ok adds =
-        room-kept (asks_first row additional) adds
-    row-kept setting row (command.Push n item) reply.Ok adds = room-kept (asks_first row 1) adds
-    row-kept setting row (command.Ext n items) reply.Ok adds =
-        room-kept (asks_first row (length items)) adds
-    row-kept setting row (command.Res n additional) (reply.Reserve e) adds =
-        no-room-kept (asks_first row additional) e adds
-    row-kept setting row (command.Push n item) (reply.Reserve e) adds =
-        no-room-kept (asks_first row 1) e adds
-    row-kept setting row (command.Ext n items) (reply.Reserve e) adds =
-        no-room-kept (asks_first row (length items)) e adds
-    row-kept setting row (command.Rec n additional) reply.Yes adds =
-        first-kept (asks_first row additional) true adds
-    row-kept setting row (command.Rec n additional) reply.No adds =
-        first-kept (asks_first row additional) adds.0 adds.1
-    row-kept setting row (command.Freeze n) reply.Ok adds = stays-kept adds
-    row-kept setting row (command.Drop n) reply.Ok adds = goes-kept adds
-    row-kept setting row (command.Take n) (reply.Vec items) adds =
-        takes-as-kept (is_sole row.role) adds
-    row-kept setting row (command.TakeBuf n) (reply.Buffer items) adds =
-        takes-as-kept (is_sole row.role) adds
-    row-kept setting row (command.TakeRaw n) (reply.Raw items) adds = takes-kept adds
-    row-kept setting row (command.TakeBox n) (reply.Boxed items) adds = takes-kept adds
-    row-kept setting row (command.Take n) reply.Refused adds =
-        asks-kept (is_vector_part setting.drops row.place (length row.items)) adds
-    row-kept setting row (command.TakeBox n) reply.Refused adds =
-        asks-kept (is_box_whole row.place (length row.items)) adds
-    row-kept setting row (command.TakeBuf n) reply.Refused adds =
-        asks-kept (is_buffer_whole row.place (length row.items)) adds
-    row-kept setting row (command.TakeRaw n) reply.Refused adds =
-        asks-kept (is_raw_whole row.place (length row.items)) adds
-    row-kept setting row (command.TakeStatic n) (reply.Static items) adds =
-        taken-kept adds
-    row-kept setting row c r adds = none-kept adds
+    row-kept =
+        row_adds_each (record {
+          joins = joins-kept;
+          moves = moves-kept stands passes k i here at passes' there made;
+          asks = λ alone adds. enters-kept (asked alone) (asked-at stands passes k i here at alone
+              passes' adds.2) adds;
+          refuses = λ e adds. enters-kept (refused e) (refused-at stands passes k i here at e
+              passes' adds.2) adds;
+          stays = stays-kept;
+          goes = goes-kept;
+          takes = takes-kept;
+          none = none-kept;
+        })

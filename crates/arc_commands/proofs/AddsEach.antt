@@ -1,0 +1,135 @@
+-- What a command on a row adds to the histories is of a few sorts: what follows of each of them
+-- follows of it.
+use Rattle.std.proofs.Common.{◌==◌, Bool, true, false, List, length, Option}
+use Rattle.std.proofs.Common.{sym, ◌∙◌}
+use Rattle.arc_owners.specs.declared.error.OwnerError.{OwnerError}
+use Rattle.arc_owners.specs.declared.error.TryReserveError.{TryReserveError}
+use Rattle.arc_owners.specs.declared.error.TryReserveError.TheVariants as reserve
+use Rattle.arc_owners.specs.declared.count.tokens.Pass.{Pass}
+use Rattle.arc_block.specs.Block.{Sort, native, vector, buffer, raw}
+use Rattle.arc_block.specs.Owned.{Stand}
+use Rattle.arc_block.specs.Place.{Place, nowhere, static_data, on_block}
+use Rattle.arc_block.specs.Table.{Row}
+use Rattle.arc_commands.specs.Additions.{AddsNone, AsksFirst, AsksIf, AsksInVain, AsksInVainAt}
+use Rattle.arc_commands.specs.Additions.{Enters, Goes, HasMade, HasRefused, Joins, MovesAndJoins}
+use Rattle.arc_commands.specs.Additions.{RowAdds, Splits, Stays, Takes, TakesAs, asked, asks_first}
+use Rattle.arc_commands.specs.Additions.{ended, refused}
+use Rattle.arc_commands.specs.Blocks.{is_several, is_sole}
+use Rattle.arc_commands.specs.Changes.{Setting, is_box_whole, is_buffer_whole, is_on_block}
+use Rattle.arc_commands.specs.Changes.{is_raw_whole, is_vector_part, is_writable_at}
+use Rattle.arc_commands.specs.Commands.{ListCmd, ListReply}
+use Rattle.arc_commands.specs.Several.{is_vector_at}
+use Rattle.arc_commands.specs.declared.command.Cmd.TheVariants as command
+use Rattle.arc_commands.specs.declared.command.Reply.TheVariants as reply
+
+-- P follows of each
+pub record AddsEach {H : Type 0} (here there : Stand) (made : Option Stand) (old new : List (Pass H))
+    (P : Type 0) : Type 0 where
+  pub joins : (handed_out : Bool) → Joins here there made old new handed_out → P
+  pub moves : MovesAndJoins here there made old new → P
+  pub asks : (alone : Bool) → Enters here there made old new (asked alone) → P
+  pub refuses : (e : OwnerError) → Enters here there made old new (refused e) → P
+  pub stays : Stays here there made old new → P
+  pub goes : Goes here there made old new ended → P
+  pub takes : Takes here there made old new → P
+  pub none : AddsNone here there made old new → P
+
+module _ {H : Type 0} {here there : Stand} {made : Option Stand} {old new : List (Pass H)}
+    {P : Type 0} (each : AddsEach here there made old new P) where
+  takes_as_each : (sole : Bool) → TakesAs here there made old new sole → P
+  takes_as_each true adds = each.goes adds
+  takes_as_each false adds = each.takes adds
+
+  splits_each : (several on_vector handed_out : Bool)
+      → Splits here there made old new several on_vector handed_out → P
+  splits_each false on_vector handed_out adds = each.joins handed_out adds
+  splits_each true false handed_out adds = each.joins false adds
+  splits_each true true handed_out adds = each.moves adds
+
+  first_each : (asks alone : Bool) → AsksFirst here there made old new asks alone → P
+  first_each true alone adds = each.asks alone adds
+  first_each false alone adds = each.none adds
+
+  made_room_each : (asks : Bool) → HasMade here there made old new asks → P
+  made_room_each true adds = each.asks true adds
+  made_room_each false adds = each.stays adds
+
+  no_room_each : (asks : Bool) (e : TryReserveError) → HasRefused here there made old new asks e
+      → P
+  no_room_each asks reserve.NotUnique adds = first_each asks false adds
+  no_room_each asks reserve.AllocError adds = first_each asks true adds
+  no_room_each asks reserve.Unsupported adds = first_each asks true adds
+  no_room_each asks reserve.CapacityOverflow adds = first_each asks true adds
+
+  asks_each : (asks : Bool) → AsksIf here there made old new asks → P
+  asks_each true adds = each.asks false adds
+  asks_each false adds = each.none adds
+
+  vain_each : (sort : Sort) → AsksInVain here there made old new sort → P
+  vain_each native adds = each.asks false adds
+  vain_each vector adds = each.asks false adds
+  vain_each (buffer writable) adds = each.asks adds.0 adds.1
+  vain_each raw adds = each.none adds
+
+  in_vain_each : {N M : Type 0} (place : Place N M) → AsksInVainAt here there made old new place
+      → P
+  in_vain_each nowhere adds = each.none adds
+  in_vain_each static_data adds = each.none adds
+  in_vain_each (on_block block offset info) adds = vain_each info.sort adds
+
+  pub row_adds_each : {T M : Type 0} (setting : Setting T) (row : Row T M) (c : ListCmd T M)
+      (r : ListReply T M) → RowAdds here there made old new setting row c r → P
+  row_adds_each setting row (command.Clone i) (reply.New number) adds = each.joins false adds
+  row_adds_each setting row (command.Sub i start end) (reply.New number) adds =
+      each.joins false adds
+  row_adds_each setting row (command.Off i at) (reply.New number) adds =
+      splits_each (is_several row.role) (is_vector_at row.place) (at == 0) adds
+  row_adds_each setting row (command.To i at) (reply.New number) adds =
+      splits_each (is_several row.role) (is_vector_at row.place) (at == length row.items) adds
+  row_adds_each setting row (command.Clone i) (reply.Owner e) adds = each.refuses e adds
+  row_adds_each setting row (command.Sub i start end) (reply.Owner e) adds = each.refuses e adds
+  row_adds_each setting row (command.Off i at) (reply.Owner e) adds = each.refuses e adds
+  row_adds_each setting row (command.To i at) (reply.Owner e) adds = each.refuses e adds
+  row_adds_each setting row (command.Uniq i) reply.Yes adds = each.asks true adds
+  row_adds_each setting row (command.Uniq i) reply.No adds = in_vain_each row.place adds
+  row_adds_each setting row (command.Mut i) reply.Ok adds = each.asks true adds
+  row_adds_each setting row (command.Mut i) reply.Refused adds =
+      asks_each (is_writable_at setting.writes_any row.place) adds
+  row_adds_each setting row (command.Unique i) reply.Ok adds = each.asks true adds
+  row_adds_each setting row (command.Unique i) reply.Refused adds =
+      asks_each (is_on_block row.place) adds
+  row_adds_each setting row (command.Res i additional) reply.Ok adds =
+      made_room_each (asks_first row additional) adds
+  row_adds_each setting row (command.Push i item) reply.Ok adds =
+      made_room_each (asks_first row 1) adds
+  row_adds_each setting row (command.Ext i items) reply.Ok adds =
+      made_room_each (asks_first row (length items)) adds
+  row_adds_each setting row (command.Res i additional) (reply.Reserve e) adds =
+      no_room_each (asks_first row additional) e adds
+  row_adds_each setting row (command.Push i item) (reply.Reserve e) adds =
+      no_room_each (asks_first row 1) e adds
+  row_adds_each setting row (command.Ext i items) (reply.Reserve e) adds =
+      no_room_each (asks_first row (length items)) e adds
+  row_adds_each setting row (command.Rec i additional) reply.Yes adds =
+      first_each (asks_first row additional) true adds
+  row_adds_each setting row (command.Rec i additional) reply.No adds =
+      first_each (asks_first row additional) adds.0 adds.1
+  row_adds_each setting row (command.Freeze i) reply.Ok adds = each.stays adds
+  row_adds_each setting row (command.Drop i) reply.Ok adds = each.goes adds
+  row_adds_each setting row (command.Take i) (reply.Vec items) adds =
+      takes_as_each (is_sole row.role) adds
+  row_adds_each setting row (command.TakeBuf i) (reply.Buffer items) adds =
+      takes_as_each (is_sole row.role) adds
+  row_adds_each setting row (command.TakeRaw i) (reply.Raw items) adds = each.takes adds
+  row_adds_each setting row (command.TakeBox i) (reply.Boxed items) adds = each.takes adds
+  row_adds_each setting row (command.Take i) reply.Refused adds =
+      asks_each (is_vector_part setting.drops row.place (length row.items)) adds
+  row_adds_each setting row (command.TakeBox i) reply.Refused adds =
+      asks_each (is_box_whole row.place (length row.items)) adds
+  row_adds_each setting row (command.TakeBuf i) reply.Refused adds =
+      asks_each (is_buffer_whole row.place (length row.items)) adds
+  row_adds_each setting row (command.TakeRaw i) reply.Refused adds =
+      asks_each (is_raw_whole row.place (length row.items)) adds
+  row_adds_each setting row (command.TakeStatic i) (reply.Static items) adds =
+      each.none (adds.1 ∙ sym adds.0, adds.2, adds.3)
+  row_adds_each setting row c r adds = each.none adds
