@@ -48,7 +48,7 @@ use Rattle.arc_slots.proofs.Taken.{set-twice}
 use Rattle.arc_slots.proofs.Told.{alone-told, many_along}
 use Rattle.arc_slots.proofs.Answered.{for-role, not-for, reads-for, same, stays, writes-for}
 use Rattle.arc_slots.specs.Several.{AsksAt}
-use Rattle.arc_slots.proofs.Roles.{several_each}
+use Rattle.arc_commands.proofs.Roles.{several_each}
 use Rattle.arc_commands.proofs.Roles.{several-sole}
 use Rattle.arc_slots.proofs.Have.{have-on}
 use Rattle.arc_slots.proofs.Before.{before_of}

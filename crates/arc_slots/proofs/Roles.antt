@@ -3,7 +3,7 @@ use Rattle.std.proofs.Common.{◌≡◌, ℕ, true}
 use Rattle.std.proofs.lemmas.Bool.{false≢true}
 use Rattle.arc_block.specs.Table.{Role, reader, sole_writer, one_writer_of_several, inline}
 use Rattle.arc_block.specs.Table.{forgotten}
-use Rattle.arc_commands.specs.Blocks.{is_several, is_writer}
+use Rattle.arc_commands.specs.Blocks.{is_writer}
 
 -- what holds of each writer's role holds of a role that is one
 pub writer_each : (P : Role → Type 0) → ((places : ℕ) → P (sole_writer places))
@@ -14,12 +14,3 @@ writer_each P writes beside (sole_writer places) is = writes places
 writer_each P writes beside (one_writer_of_several places) is = beside places
 writer_each P writes beside inline is = absurd (false≢true is)
 writer_each P writes beside forgotten is = absurd (false≢true is)
-
--- what holds of one of several holds of a role that is his
-pub several_each : (P : Role → Type 0) → ((places : ℕ) → P (one_writer_of_several places))
-    → (role : Role) → is_several role ≡ true → P role
-several_each P each reader is = absurd (false≢true is)
-several_each P each (sole_writer places) is = absurd (false≢true is)
-several_each P each (one_writer_of_several places) is = each places
-several_each P each inline is = absurd (false≢true is)
-several_each P each forgotten is = absurd (false≢true is)
