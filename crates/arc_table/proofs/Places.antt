@@ -6,12 +6,13 @@ use Rattle.std.specs.Option.{option_and_then, option_map, option_map_or}
 use Rattle.arc_owners.specs.declared.count.tokens.Pass.{Pass}
 use Rattle.arc_owners.specs.declared.mark.Whole.{Whole}
 use Rattle.arc_owners.specs.count.Calls.{Owner}
-use Rattle.arc_block.specs.Owned.{Stand, number_on, owners_on}
+use Rattle.arc_block.specs.Owned.{number_on, owners_on}
 use Rattle.arc_block.specs.Place.{Place, nowhere, static_data, on_block}
 use Rattle.arc_block.specs.Table.{Row, block_of, stands_on, owners}
 use Rattle.arc_block.proofs.Alone.{same_owners}
 use Rattle.arc_slots.specs.Slots.{SlotView, row_of, stand_of, stands_of}
 use Rattle.arc_slots.specs.Stands.{numbered, stand_at}
+use Rattle.arc_slots.proofs.Told.{place_agrees, stand_block}
 use Rattle.arc_commands.specs.State.{Agrees, State}
 use Rattle.arc_slots.specs.Index.{windows_of}
 use Rattle.arc_slots.specs.Slots.{state_of}
@@ -20,20 +21,9 @@ use Rattle.arc_slots.proofs.Index.{many-windows}
 abbrev At : Type 0 → Type 0
 At M = Place (Option Owner) M
 
--- the number of the block on which a row lies, and on which a window stands
+-- the number of the block on which a row lies
 abbrev row_block : {T M : Type 0} → Option (Row T M) → Option ℕ
 row_block row = option_and_then (λ r. block_of r.place) row
-
-abbrev pub stand_block : Stand → Option ℕ
-stand_block stand = option_map (λ s. s.0) stand
-
-pub place_agrees : {M : Type 0} (b : Option ℕ) (place : At M)
-    → block_of (numbered b place) ≡ stand_block (stand_at b place)
-place_agrees b nowhere = refl
-place_agrees b static_data = refl
-place_agrees b (on_block None offset facts) = refl
-place_agrees None (on_block (Some owner) offset facts) = refl
-place_agrees (Some n) (on_block (Some owner) offset facts) = refl
 
 number-if : (b : Bool) (n : ℕ) → b ≡ is_some (if b then Some n else None)
 number-if true n = refl
