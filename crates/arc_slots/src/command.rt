@@ -26,95 +26,122 @@ use std::alloc::Allocator;
 use std::mem;
 use std::sync::Wait;
 
-/// The window is read from now on, if it was written.
-fn freeze_at<S: Commands<A>, L: Layout, B: BufferMut<S::Item> + Drop, M: Drop, A: Allocator + Copy>(
-    place: &mut Option<Slot<S, L, B, M, A>>,
-    passes: &mut Passes<A>,
-) -> TableReply<S, B, M, A>
+impl<S: Commands<A>, L: Layout, B: BufferMut<S::Item> + Drop, M: Drop, A: Allocator + Copy> Slot<
+    S,
+    L,
+    B,
+    M,
+    A,
+>
 where
     L::Writable: LayoutMut,
     S::Small: SmallOf<S, L, B, M, A>,
-    requires { HasPassFor passes.old.of_blocks.items (stand_of place.old) }
-    ensures { IfSome place.old (λ s. (next i : ℕ) → Answers (setting_of (layout_facts L.Layout)
-        L.Writable.ANY L.clone_wants
-        S.DROPS S.boundary (type_size S.Item.row) S.Zero.zero S.Calls.calls) next (command.Freeze i)
-        s passes.old.of_blocks.items (seen_reply S.items_in S.items_in_box B.list result)
-        place.new None passes.new.of_blocks.items) }
 {
-    let Some(slot) = mem::replace(place, None) else {
-        return Reply::NoWindow;
-    };
-    let (reply, slot) = slot.freeze(passes);
-    set_slot(place, Some(slot));
-    reply
-}
+    /// The window is read from now on, if it was written.
+    fn freeze_at(place: &mut Option<Self>, passes: &mut Passes<A>) -> TableReply<S, B, M, A>
+        requires { HasPassFor passes.old.of_blocks.items (stand_of place.old) }
+        ensures { IfSome place.old (λ s. (next i : ℕ) → Answers (setting_of (layout_facts L.Layout)
+            L.Writable.ANY L.clone_wants S.DROPS S.boundary (type_size S.Item.row)
+            S.Zero.zero S.Calls.calls) next (command.Freeze i)
+            s passes.old.of_blocks.items (seen_reply S.items_in S.items_in_box B.list result)
+            place.new None passes.new.of_blocks.items) }
+    {
+        let Some(slot) = mem::replace(place, None) else {
+            return Reply::NoWindow;
+        };
+        let (reply, slot) = slot.freeze(passes);
+        set_slot(place, Some(slot));
+        reply
+    }
 
-/// The window is written from now on, if it was read and is alone.
-fn mut_at<S: Commands<A>, L: Layout, B: BufferMut<S::Item> + Drop, M: Drop, A: Allocator + Copy>(
-    place: &mut Option<Slot<S, L, B, M, A>>,
-    passes: &mut Passes<A>,
-) -> TableReply<S, B, M, A>
-where
-    L::Writable: LayoutMut,
-    S::Small: SmallOf<S, L, B, M, A>,
-    requires { HasPassFor passes.old.of_blocks.items (stand_of place.old) }
-    ensures { IfSome place.old (λ s. (next i : ℕ) → Answers (setting_of (layout_facts L.Layout)
-        L.Writable.ANY L.clone_wants
-        S.DROPS S.boundary (type_size S.Item.row) S.Zero.zero S.Calls.calls) next (command.Mut i)
-        s passes.old.of_blocks.items (seen_reply S.items_in S.items_in_box B.list result)
-        place.new None passes.new.of_blocks.items) }
-{
-    let Some(slot) = mem::replace(place, None) else {
-        return Reply::NoWindow;
-    };
-    let (reply, slot) = slot.make_mut(passes);
-    set_slot(place, Some(slot));
-    reply
-}
+    /// The window is written from now on, if it was read and is alone.
+    fn mut_at(place: &mut Option<Self>, passes: &mut Passes<A>) -> TableReply<S, B, M, A>
+        requires { HasPassFor passes.old.of_blocks.items (stand_of place.old) }
+        ensures { IfSome place.old (λ s. (next i : ℕ) → Answers (setting_of (layout_facts L.Layout)
+            L.Writable.ANY L.clone_wants S.DROPS S.boundary (type_size S.Item.row)
+            S.Zero.zero S.Calls.calls) next (command.Mut i)
+            s passes.old.of_blocks.items (seen_reply S.items_in S.items_in_box B.list result)
+            place.new None passes.new.of_blocks.items) }
+    {
+        let Some(slot) = mem::replace(place, None) else {
+            return Reply::NoWindow;
+        };
+        let (reply, slot) = slot.make_mut(passes);
+        set_slot(place, Some(slot));
+        reply
+    }
 
-/// The window is one of several from now on, if it was written alone.
-fn share_at<S: Commands<A>, L: Layout, B: BufferMut<S::Item> + Drop, M: Drop, A: Allocator + Copy>(
-    place: &mut Option<Slot<S, L, B, M, A>>,
-    passes: &Passes<A>,
-) -> TableReply<S, B, M, A>
-where
-    L::Writable: LayoutMut,
-    S::Small: SmallOf<S, L, B, M, A>,
-    ensures { IfSome place.old (λ s. (next i : ℕ) → Answers (setting_of (layout_facts L.Layout)
-        L.Writable.ANY L.clone_wants
-        S.DROPS S.boundary (type_size S.Item.row) S.Zero.zero S.Calls.calls) next (command.Share i)
-        s passes.now.of_blocks.items (seen_reply S.items_in S.items_in_box B.list result)
-        place.new None passes.now.of_blocks.items) }
-{
-    let Some(slot) = mem::replace(place, None) else {
-        return Reply::NoWindow;
-    };
-    let (reply, slot) = slot.share(passes);
-    set_slot(place, Some(slot));
-    reply
-}
+    /// The window is one of several from now on, if it was written alone.
+    fn share_at(place: &mut Option<Self>, passes: &Passes<A>) -> TableReply<S, B, M, A>
+        ensures { IfSome place.old (λ s. (next i : ℕ) → Answers (setting_of (layout_facts L.Layout)
+            L.Writable.ANY L.clone_wants S.DROPS S.boundary (type_size S.Item.row)
+            S.Zero.zero S.Calls.calls) next (command.Share i)
+            s passes.now.of_blocks.items (seen_reply S.items_in S.items_in_box B.list result)
+            place.new None passes.now.of_blocks.items) }
+    {
+        let Some(slot) = mem::replace(place, None) else {
+            return Reply::NoWindow;
+        };
+        let (reply, slot) = slot.share(passes);
+        set_slot(place, Some(slot));
+        reply
+    }
 
-/// The window is the only one that is written from now on, if it was one of several and is alone.
-fn unique_at<S: Commands<A>, L: Layout, B: BufferMut<S::Item> + Drop, M: Drop, A: Allocator + Copy>(
-    place: &mut Option<Slot<S, L, B, M, A>>,
-    passes: &mut Passes<A>,
-) -> TableReply<S, B, M, A>
-where
-    L::Writable: LayoutMut,
-    S::Small: SmallOf<S, L, B, M, A>,
-    requires { HasPassFor passes.old.of_blocks.items (stand_of place.old) }
-    ensures { IfSome place.old (λ s. (next i : ℕ) → Answers (setting_of (layout_facts L.Layout)
-        L.Writable.ANY L.clone_wants
-        S.DROPS S.boundary (type_size S.Item.row) S.Zero.zero S.Calls.calls) next (command.Unique i)
-        s passes.old.of_blocks.items (seen_reply S.items_in S.items_in_box B.list result)
-        place.new None passes.new.of_blocks.items) }
-{
-    let Some(slot) = mem::replace(place, None) else {
-        return Reply::NoWindow;
-    };
-    let (reply, slot) = slot.make_unique(passes);
-    set_slot(place, Some(slot));
-    reply
+    /// The window is the only one that is written from now on, if it was one of several and is
+    /// alone.
+    fn unique_at(place: &mut Option<Self>, passes: &mut Passes<A>) -> TableReply<S, B, M, A>
+        requires { HasPassFor passes.old.of_blocks.items (stand_of place.old) }
+        ensures { IfSome place.old (λ s. (next i : ℕ) → Answers (setting_of (layout_facts L.Layout)
+            L.Writable.ANY L.clone_wants S.DROPS S.boundary (type_size S.Item.row)
+            S.Zero.zero S.Calls.calls) next (command.Unique i)
+            s passes.old.of_blocks.items (seen_reply S.items_in S.items_in_box B.list result)
+            place.new None passes.new.of_blocks.items) }
+    {
+        let Some(slot) = mem::replace(place, None) else {
+            return Reply::NoWindow;
+        };
+        let (reply, slot) = slot.make_unique(passes);
+        set_slot(place, Some(slot));
+        reply
+    }
+
+    /// What the window stands on is taken out, if it can be had; then the window is gone.
+    fn take_at(
+        place: &mut Option<Self>,
+        what: Taking,
+        passes: &mut Passes<A>,
+    ) -> TableReply<S, B, M, A>
+        requires { HasPassFor passes.old.of_blocks.items (stand_of place.old) }
+        ensures { IfSome place.old (λ s. (next i : ℕ) → Answers (setting_of (layout_facts L.Layout)
+            L.Writable.ANY L.clone_wants S.DROPS S.boundary (type_size S.Item.row)
+            S.Zero.zero S.Calls.calls) next (take_command i what)
+            s passes.old.of_blocks.items (seen_reply S.items_in S.items_in_box B.list result)
+            place.new None passes.new.of_blocks.items) }
+    {
+        let Some(slot) = mem::replace(place, None) else {
+            return Reply::NoWindow;
+        };
+        let (reply, slot) = slot.take(what, passes);
+        set_slot(place, slot);
+        reply
+    }
+
+    /// The items of the window for good, if it is read and stands on no block; then the window is
+    /// gone.
+    fn static_at(place: &mut Option<Self>, passes: &Passes<A>) -> TableReply<S, B, M, A>
+        ensures { IfSome place.old (λ s. (next i : ℕ) → Answers (setting_of (layout_facts L.Layout)
+            L.Writable.ANY L.clone_wants S.DROPS S.boundary (type_size S.Item.row)
+            S.Zero.zero S.Calls.calls) next (command.TakeStatic i)
+            s passes.now.of_blocks.items (seen_reply S.items_in S.items_in_box B.list result)
+            place.new None passes.now.of_blocks.items) }
+    {
+        let Some(slot) = mem::replace(place, None) else {
+            return Reply::NoWindow;
+        };
+        let (reply, slot) = slot.take_static(passes);
+        set_slot(place, slot);
+        reply
+    }
 }
 
 /// The window ends, if there is one, whatever the table is run under. Takes no memory.
@@ -150,54 +177,6 @@ where
     };
     slot.drop_window(passes);
     Reply::Ok
-}
-
-/// What the window stands on is taken out, if it can be had; then the window is gone.
-fn take_at<S: Commands<A>, L: Layout, B: BufferMut<S::Item> + Drop, M: Drop, A: Allocator + Copy>(
-    place: &mut Option<Slot<S, L, B, M, A>>,
-    what: Taking,
-    passes: &mut Passes<A>,
-) -> TableReply<S, B, M, A>
-where
-    L::Writable: LayoutMut,
-    S::Small: SmallOf<S, L, B, M, A>,
-    requires { HasPassFor passes.old.of_blocks.items (stand_of place.old) }
-    ensures { IfSome place.old (λ s. (next i : ℕ) → Answers (setting_of (layout_facts L.Layout)
-        L.Writable.ANY L.clone_wants
-        S.DROPS S.boundary (type_size S.Item.row) S.Zero.zero S.Calls.calls) next
-        (take_command i what)
-        s passes.old.of_blocks.items (seen_reply S.items_in S.items_in_box B.list result)
-        place.new None passes.new.of_blocks.items) }
-{
-    let Some(slot) = mem::replace(place, None) else {
-        return Reply::NoWindow;
-    };
-    let (reply, slot) = slot.take(what, passes);
-    set_slot(place, slot);
-    reply
-}
-
-/// The items of the window for good, if it is read and stands on no block; then the window is gone.
-fn static_at<S: Commands<A>, L: Layout, B: BufferMut<S::Item> + Drop, M: Drop, A: Allocator + Copy>(
-    place: &mut Option<Slot<S, L, B, M, A>>,
-    passes: &Passes<A>,
-) -> TableReply<S, B, M, A>
-where
-    L::Writable: LayoutMut,
-    S::Small: SmallOf<S, L, B, M, A>,
-    ensures { IfSome place.old (λ s. (next i : ℕ) → Answers (setting_of (layout_facts L.Layout)
-        L.Writable.ANY L.clone_wants
-        S.DROPS S.boundary (type_size S.Item.row) S.Zero.zero S.Calls.calls) next
-        (command.TakeStatic i)
-        s passes.now.of_blocks.items (seen_reply S.items_in S.items_in_box B.list result)
-        place.new None passes.now.of_blocks.items) }
-{
-    let Some(slot) = mem::replace(place, None) else {
-        return Reply::NoWindow;
-    };
-    let (reply, slot) = slot.take_static(passes);
-    set_slot(place, slot);
-    reply
 }
 
 /// Carries out a command on the window that is here, if there is one: the window that was made
@@ -269,17 +248,17 @@ where
         Cmd::Rec { additional, .. } => Err(slot.reclaim(additional, passes)),
         Cmd::Adv { by, .. } => Err(slot.skip(by, passes)),
         Cmd::Trunc { len, .. } => Err(slot.cut(len, passes)),
-        Cmd::Freeze { .. } => Err(freeze_at(place, passes)),
-        Cmd::Mut { .. } => Err(mut_at(place, passes)),
-        Cmd::Share { .. } => Err(share_at(place, passes)),
-        Cmd::Unique { .. } => Err(unique_at(place, passes)),
+        Cmd::Freeze { .. } => Err(Slot::freeze_at(place, passes)),
+        Cmd::Mut { .. } => Err(Slot::mut_at(place, passes)),
+        Cmd::Share { .. } => Err(Slot::share_at(place, passes)),
+        Cmd::Unique { .. } => Err(Slot::unique_at(place, passes)),
         Cmd::Join { .. } => Err(slot.join(passes)),
         Cmd::Drop { .. } => Err(drop_at(place, passes)),
-        Cmd::Take { .. } => Err(take_at(place, Taking::Vector, passes)),
-        Cmd::TakeBox { .. } => Err(take_at(place, Taking::Boxed, passes)),
-        Cmd::TakeBuf { .. } => Err(take_at(place, Taking::Buffer, passes)),
-        Cmd::TakeRaw { .. } => Err(take_at(place, Taking::Raw, passes)),
-        Cmd::TakeStatic { .. } => Err(static_at(place, passes)),
+        Cmd::Take { .. } => Err(Slot::take_at(place, Taking::Vector, passes)),
+        Cmd::TakeBox { .. } => Err(Slot::take_at(place, Taking::Boxed, passes)),
+        Cmd::TakeBuf { .. } => Err(Slot::take_at(place, Taking::Buffer, passes)),
+        Cmd::TakeRaw { .. } => Err(Slot::take_at(place, Taking::Raw, passes)),
+        Cmd::TakeStatic { .. } => Err(Slot::static_at(place, passes)),
         // These are on no window.
         Cmd::Slice(_) => Err(Reply::Kind),
         Cmd::Small(_) => Err(Reply::Kind),
