@@ -62,6 +62,18 @@ cut_behind whole line more input each cut =
       },
     )
 
+-- an input that ends with a line feed has whole lines alone
+whole_lines : (whole : List (List ℕ)) (input : List ℕ) → AllByRecursion HasNoFeed whole
+    → input ≡ ended whole ++ [] → AreLines input (whole ++ [])
+whole_lines whole input each cut = record {
+  whole = whole;
+  rest = [];
+  cut = cut;
+  each = each;
+  last = empty_has_no_feed;
+  are = refl;
+}
+
 -- a line of which something is held isn't empty
 held_is_line : (held line : List ℕ) (too_long : Bool) → (held ≡ [] → too_long ≡ false → ⊥)
     → Holds held too_long line → last_line line ≡ line ∷ []
@@ -230,14 +242,7 @@ module _ {layout : ScriptLayout} {start input out held : List ℕ} {writer : Tra
     fit = record {
       lines = u.whole;
       replies = u.replies;
-      cut = record {
-        whole = u.whole;
-        rest = [];
-        cut = sym (append-nil (ended u.whole));
-        each = u.each;
-        last = empty_has_no_feed;
-        are = refl;
-      };
+      cut = whole_lines u.whole (ended u.whole) u.each (sym (append-nil (ended u.whole)));
       run = u.run;
       written = ap (λ xs. u.text ++ xs) (sym none) ∙ u.written;
     };
@@ -263,7 +268,27 @@ module _ {layout : ScriptLayout} {start input out held : List ℕ} {writer : Tra
         lacks = none_lacks fault;
       }
 
-  -- so also where a line feed has come, and the line isn't answered, or not in out
+  -- so also where the line was answered, and not in out
+  answered_lost : (state' : ByteState) (answer : Option ByteReply)
+      → AnswersHeld layout held too_long state answer state' → (input' : List ℕ)
+      (left : List (List ℕ)) → AreLines input' ((u.whole ++ u.line ∷ []) ++ left)
+      → IsBegun layout Alloc start input' writer out state'
+  answered_lost state' answer answered input' left cut = record {
+    text = u.text;
+    left = left;
+    lacking = answer_text answer ++ line_feed ∷ [];
+    taken = u.taken;
+    begins = record {
+      lines = u.whole ++ u.line ∷ [];
+      replies = u.replies ++ answer ∷ [];
+      cut = cut;
+      run = run_on answer state' answered;
+      written = one_answered answer;
+    };
+    lacks = inr (answer, refl);
+  }
+
+  -- a line feed has come, and the line isn't answered, or not in out
   pub line_broken : (state' : ByteState) (more : List ℕ) → MayEnd layout held too_long state state'
       → IsBegun layout Alloc start (input ++ (line_feed ∷ [] ++ more)) writer out state'
   line_broken state' more (inl same) =
@@ -274,22 +299,9 @@ module _ {layout : ScriptLayout} {start input out held : List ℕ} {writer : Tra
       let cut =
       cut_behind lines [] more (input ++ line_feed ∷ []) all_ended
       (one_ended ∙ sym (append-nil (ended lines))) in
-      record {
-        text = u.text;
-        left = cut.0;
-        lacking = answer_text does.0 ++ line_feed ∷ [];
-        taken = u.taken;
-        begins = record {
-          lines = lines;
-          replies = u.replies ++ does.0 ∷ [];
-          cut =
-              subst (λ xs. AreLines xs (lines ++ cut.0)) (append_assoc input (line_feed ∷ []) more)
-              cut.1;
-          run = run_on does.0 state' does.1;
-          written = one_answered does.0;
-        };
-        lacks = inr (does.0, refl);
-      }
+      answered_lost state' does.0 does.1 (input ++ (line_feed ∷ [] ++ more)) cut.0
+      (subst (λ xs. AreLines xs (lines ++ cut.0)) (append_assoc input (line_feed ∷ []) more)
+      cut.1)
 
   -- at the end of the input what is held of a line is the last line
   module _ (some : held ≡ [] → too_long ≡ false → ⊥) where
@@ -328,40 +340,20 @@ module _ {layout : ScriptLayout} {start input out held : List ℕ} {writer : Tra
         subst (IsBegun layout Alloc start input writer out) (sym same)
         (subst (λ xs. IsBegun layout Alloc start xs writer out state) (append-nil input)
         (still_begun Alloc []))
-    last_broken state' (inr does) = record {
-      text = u.text;
-      left = [];
-      lacking = answer_text does.0 ++ line_feed ∷ [];
-      taken = u.taken;
-      begins = record {
-        lines = u.whole ++ u.line ∷ [];
-        replies = u.replies ++ does.0 ∷ [];
-        cut = last_cut;
-        run = run_on does.0 state' does.1;
-        written = one_answered does.0;
-      };
-      lacks = inr (does.0, refl);
-    }
+    last_broken state' (inr does) = answered_lost state' does.0 does.1 input [] last_cut
 
 -- at the end of the input nothing is left of a line
 pub all_answered : {layout : ScriptLayout} {start input out : List ℕ} {writer : Traffic}
     {state : ByteState}
     → IsUnderway layout start input writer out state [] false → IsAnswered layout start input writer
     out state
-all_answered u = record {
+all_answered {input = input} u = record {
   text = u.text;
   taken = u.taken;
   all = record {
     lines = u.whole;
     replies = u.replies;
-    cut = record {
-      whole = u.whole;
-      rest = [];
-      cut = u.cut ∙ ap (λ xs. ended u.whole ++ xs) (sym u.holds);
-      each = u.each;
-      last = empty_has_no_feed;
-      are = refl;
-    };
+    cut = whole_lines u.whole input u.each (u.cut ∙ ap (λ xs. ended u.whole ++ xs) (sym u.holds));
     run = u.run;
     written = u.written;
   };
