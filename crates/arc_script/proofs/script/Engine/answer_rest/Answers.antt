@@ -5,35 +5,35 @@ use Rattle.arc_script.specs.Underway.{IsBegun}
 use Rattle.arc_script.specs.declared.script.ScriptError.TheVariants.{Alloc}
 use Rattle.arc_forms.proofs.Forms.{on_err}
 use Rattle.arc_script.proofs.Underway.{last_answered, last_broken}
+use Rattle.arc_script.proofs.script.Engine.answer_rest.Given.{Over}
+use Rattle.arc_script.proofs.script.Engine.answer_rest.Goals.{After-end_line}
 use Rattle.arc_script.proofs.script.Engine.answer_rest.Goals as goal
 use Rattle.arc_script.proofs.script.Engine.answer_rest.Goals.{else-not-self-via-then-not-self+else-is_empty}
 use Rattle.arc_script.proofs.script.Engine.answer_rest.Goals.{else-not-self-via-else-not-self}
 
-pub returns-in_err-end_line-clause-err : goal.returns-in_err-end_line-clause-err
-returns-in_err-end_line-clause-err g c =
+-- something is held of a line
+some : (g : Over) (c : After-end_line g) → c.args.self.now.line.items ≡ []
+    → c.args.self.now.too_long ≡ false → ⊥
+some g c none short =
     let engine = c.args.self.now in
-    let some : engine.line.items ≡ [] → engine.too_long ≡ false → ⊥ = λ none short.
     elim c.else-not-self.branch [
       | else-not-self-via-then-not-self+else-is_empty w ↦
           let empty : vec_len engine.line ≡ 0 = omega (arith, engine.line.ok.0, ap length none) in
           eqb-false _ _ (sym w.is_empty.ensures ∙ w.if-is_empty.false) empty
       | else-not-self-via-else-not-self w ↦ cc
-    ] in
+    ]
+
+pub returns-in_err-end_line-clause-err : goal.returns-in_err-end_line-clause-err
+returns-in_err-end_line-clause-err g c =
     let end = c.in_err-end_line.ensures in
     on_err c.from_residual.result (λ start input writer read.
     subst (λ o. IsBegun g.L.NamedLayout.named Alloc start input writer o c.end_line.new.self.table)
     (sym end.err)
-    (last_broken read some c.end_line.new.self.table end.broken))
+    (last_broken read (some g (goal.at.returns-in_err-end_line-clause-err g c).After-end_line)
+    c.end_line.new.self.table end.broken))
 
 pub returns-clause-ok : goal.returns-clause-ok
 returns-clause-ok g c = λ start input writer read.
-    let engine = c.args.self.now in
-    let some : engine.line.items ≡ [] → engine.too_long ≡ false → ⊥ = λ none short.
-    elim c.else-not-self.branch [
-      | else-not-self-via-then-not-self+else-is_empty w ↦
-          let empty : vec_len engine.line ≡ 0 = omega (arith, engine.line.ok.0, ap length none) in
-          eqb-false _ _ (sym w.is_empty.ensures ∙ w.if-is_empty.false) empty
-      | else-not-self-via-else-not-self w ↦ cc
-    ] in
-    last_answered read some c.end_line.new.self.table c.end_line.new.self.out.items
+    last_answered read (some g (goal.at.returns-clause-ok g c).After-end_line)
+    c.end_line.new.self.table c.end_line.new.self.out.items
     c.in_ok-end_line.ensures.ok
