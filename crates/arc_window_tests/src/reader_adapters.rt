@@ -98,7 +98,7 @@ fn byte_text_prints(alloc: Global, bytes: &[u8], texts: [&str; 4]) -> Option<[bo
 }
 
 /// What a hasher says of a value.
-fn hash_of<T: Hash>(value: &T) -> u64 {
+pub fn hash_of<T: Hash>(value: &T) -> u64 {
     let mut state = DefaultHasher::new();
     value.hash(&mut state);
     state.finish()
