@@ -46,6 +46,8 @@ mod threads;
 #[cfg(test)]
 mod vectors;
 #[cfg(test)]
+mod with_passes;
+#[cfg(test)]
 mod writer_adapters;
 #[cfg(test)]
 mod writers;

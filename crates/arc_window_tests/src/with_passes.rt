@@ -1,0 +1,231 @@
+//! Calls with a pass that no other test makes, each once: what goes into a window with a pass comes
+//! out with it, and what a window becomes with a pass has its items.
+use arc_block::layout::{ArcLayout, DefaultLayout, DefaultLayoutMut, VecLayout};
+use arc_buffer::kinds::{Plain, Text};
+use arc_owners::owners::Pass;
+use arc_read::slice::ArcSlice;
+use arc_write::slice_mut::{ArcBytesMut, ArcBytesShared, ArcSliceMut, ArcStrMut};
+use std::alloc::Global;
+use std::sync::{Arc, Wait};
+use std::test::Fail;
+
+/// Readers of bytes.
+type Reader = ArcSlice<Plain<u8>>;
+
+/// Two bytes.
+fn two_bytes(alloc: Global) -> Option<Vec<u8>> {
+    Vec::from_slice(alloc, &[1, 2]).ok()
+}
+
+/// Whether an array, and a vector, come back from readers.
+fn array_and_vector_read(alloc: Global) -> Option<[bool; 2]> {
+    let mut pass = Pass::none();
+    let window = Reader::try_from_array_as(alloc, [1, 2], &mut pass).ok()?;
+    let array: [u8; 2] = window.try_into_array_as(&mut pass).ok()?;
+    let mut pass = Pass::none();
+    let window = Reader::try_from_vec_as(alloc, two_bytes(alloc)?, &mut pass).ok()?;
+    let items = window.try_into_vec_as(&mut pass).ok()?;
+    Some([array == [1, 2], items.as_slice() == [1, 2].as_slice()])
+}
+
+/// Whether a box, a buffer, and a buffer behind an `Arc`, come back from readers.
+fn lent_read(alloc: Global) -> Option<[bool; 3]> {
+    let mut pass = Pass::none();
+    let boxed = two_bytes(alloc)?.into_boxed_slice();
+    let window = Reader::try_from_boxed_as(alloc, boxed, &mut pass).ok()?;
+    let boxed = window.try_into_boxed_as(&mut pass).ok()?;
+    let mut pass = Pass::none();
+    let window = Reader::try_from_buffer_as(alloc, two_bytes(alloc)?, &mut pass).ok()?;
+    let buffer = window.try_into_buffer_as(&mut pass).ok()?;
+    let mut pass = Pass::none();
+    let shared = Arc::new(alloc, two_bytes(alloc)?).ok()?;
+    let window = Reader::try_from_raw_buffer_as(alloc, shared, &mut pass).ok()?;
+    let shared = window.try_into_raw_buffer_as(&mut pass).ok()?;
+    Some([
+        boxed.as_slice() == [1, 2].as_slice(),
+        buffer.as_slice() == [1, 2].as_slice(),
+        shared.as_slice() == [1, 2].as_slice(),
+    ])
+}
+
+/// Whether a text is read, and has its characters under another layout.
+fn text_read(alloc: Global, text: &str) -> Option<[bool; 2]> {
+    let mut pass = Pass::none();
+    let window = ArcSlice::<Text>::try_from_str_as(alloc, text, &mut pass).ok()?;
+    let is_text = window.as_str() == text;
+    let moved = window
+        .try_with_layout_as::<ArcLayout<false, true>>(&mut pass)
+        .ok()?;
+    Some([is_text, moved.as_str() == text])
+}
+
+#[test]
+fn read_with_a_pass(rt: HostRuntime) -> Result<(), Fail> {
+    assert!(rt; array_and_vector_read(rt.alloc()) == Some([true; 2]));
+    assert!(rt; lent_read(rt.alloc()) == Some([true; 3]));
+    assert!(rt; text_read(rt.alloc(), "aé") == Some([true; 2]));
+    Ok(())
+}
+
+/// Whether an array, a vector and a box come back from writers.
+fn lists_written(alloc: Global) -> Option<[bool; 3]> {
+    let mut pass = Pass::none();
+    let window: ArcBytesMut = ArcSliceMut::try_from_array_as(alloc, [1, 2], &mut pass).ok()?;
+    let array: [u8; 2] = window.try_into_array_as(&mut pass).ok()?;
+    let mut pass = Pass::none();
+    let window: ArcBytesMut = ArcSliceMut::try_from_vec_as(
+        alloc,
+        two_bytes(alloc)?,
+        &mut pass,
+    ).ok()?;
+    let items = window.try_into_vec_as(&mut pass).ok()?;
+    let mut pass = Pass::none();
+    let window: ArcBytesMut = ArcSliceMut::try_from_vec_as(
+        alloc,
+        two_bytes(alloc)?,
+        &mut pass,
+    ).ok()?;
+    let boxed = window.try_into_boxed_as(&mut pass).ok()?;
+    Some([
+        array == [1, 2],
+        items.as_slice() == [1, 2].as_slice(),
+        boxed.as_slice() == [1, 2].as_slice(),
+    ])
+}
+
+/// Whether a buffer comes back from a writer, and zeros have three bytes behind them once there is
+/// room.
+fn buffer_and_zeros_written(alloc: Global) -> Option<[bool; 2]> {
+    let mut pass = Pass::none();
+    let window: ArcBytesMut = ArcSliceMut::try_from_buffer_as(
+        alloc,
+        two_bytes(alloc)?,
+        &mut pass,
+    ).ok()?;
+    let buffer = window.try_into_buffer_as(&mut pass).ok()?;
+    let mut pass = Pass::none();
+    let mut zeros: ArcBytesMut = ArcSliceMut::try_zeroed_as(alloc, 2, &mut pass).ok()?;
+    zeros.try_reserve_as(3, &mut pass).ok()?;
+    zeros.try_extend_from_slice_as(&[3, 4, 5], &mut pass).ok()?;
+    Some([
+        buffer.as_slice() == [1, 2].as_slice(),
+        zeros.as_slice() == [0, 0, 3, 4, 5].as_slice(),
+    ])
+}
+
+/// Whether a text is written, and has its characters under another layout and once it is frozen.
+fn text_written(alloc: Global, text: &str, more: &str, whole: &str) -> Option<[bool; 3]> {
+    let mut pass = Pass::none();
+    let mut window: ArcStrMut = ArcSliceMut::try_from_str_as(alloc, text, &mut pass).ok()?;
+    window.try_extend_from_str_as(more, &mut pass).ok()?;
+    let is_text = window.as_str() == whole;
+    let moved = window.try_with_layout_as::<VecLayout>(&mut pass).ok()?;
+    let is_moved = moved.as_str() == whole;
+    let frozen = moved.try_freeze_as::<DefaultLayout>(&mut pass).ok()?;
+    Some([is_text, is_moved, frozen.as_str() == whole])
+}
+
+#[test]
+fn written_with_a_pass(rt: HostRuntime) -> Result<(), Fail> {
+    assert!(rt; lists_written(rt.alloc()) == Some([true; 3]));
+    assert!(rt; buffer_and_zeros_written(rt.alloc()) == Some([true; 2]));
+    assert!(rt; text_written(rt.alloc(), "a", "é", "aé") == Some([true; 3]));
+    Ok(())
+}
+
+/// Two bytes, as those of one of several writers, and a pass of their block.
+fn shared(alloc: Global) -> Option<ArcBytesShared> {
+    ArcBytesMut::<DefaultLayoutMut>::try_from_slice(alloc, &[1, 2])
+        .ok()?
+        .into_shared()
+        .ok()
+}
+
+/// Two bytes of one of several writers are split before the second, each part gets room and a byte
+/// where it may, and they are joined again: the length of each part, whether the front had room
+/// beside the back, and whether the whole is as before.
+fn split_and_joined(rt: &impl Wait, alloc: Global) -> Option<([usize; 2], [bool; 2])> {
+    let mut front = shared(alloc)?;
+    front.check_split_off(1).ok()?;
+    let mut pass = front.pass();
+    let back = front.try_split_off_as(rt, 1, &mut pass).ok()?;
+    let lens = [front.len(), back.len()];
+    let has_room = front.try_reclaim_as(1, &mut pass);
+    front.try_unsplit_as(back, &mut pass).ok()?;
+    let is_whole = front.as_slice() == [1, 2].as_slice();
+    front.release_as(&mut pass);
+    Some((lens, [has_room, is_whole]))
+}
+
+/// One of several writers that is alone takes a byte and two more, and is then its block's only
+/// writer.
+fn alone_of_several(alloc: Global) -> Option<bool> {
+    let mut window = shared(alloc)?;
+    let mut pass = window.pass();
+    window.try_reserve_as(3, &mut pass).ok()?;
+    window.try_push_as(3, &mut pass).ok()?;
+    window.try_extend_from_slice_as(&[4, 5], &mut pass).ok()?;
+    let sole = window.try_into_unique_as(&mut pass).ok()?;
+    let is_there = sole.as_slice() == [1, 2, 3, 4, 5].as_slice();
+    sole.drop_with_unique_hint_as(&mut pass);
+    Some(is_there)
+}
+
+#[test]
+fn several_with_a_pass(rt: HostRuntime) -> Result<(), Fail> {
+    let told = Some(([1, 1], [false, true]));
+    assert!(rt; split_and_joined(&rt, rt.alloc()) == told);
+    assert!(rt; alone_of_several(rt.alloc()) == Some(true));
+    Ok(())
+}
+
+/// A vector of two bytes, as that of one of several writers.
+fn shared_vector(alloc: Global) -> Option<ArcBytesShared> {
+    let window: ArcBytesMut = ArcSliceMut::try_from_vec(alloc, two_bytes(alloc)?).ok()?;
+    window.into_shared().ok()
+}
+
+/// Whether what one of several writers has comes back: a vector, that as a box, and an array; and
+/// whether a vector's places have their items on a block of their own.
+fn taken_from_several(alloc: Global) -> Option<[bool; 4]> {
+    let window = shared_vector(alloc)?;
+    let mut pass = window.pass();
+    let items = window.try_into_vec_as(&mut pass).ok()?;
+    let window = shared_vector(alloc)?;
+    let mut pass = window.pass();
+    let boxed = window.try_into_boxed_as(&mut pass).ok()?;
+    let window = shared(alloc)?;
+    let mut pass = window.pass();
+    let array: [u8; 2] = window.try_into_array_as(&mut pass).ok()?;
+    let mut window = shared_vector(alloc)?;
+    if !window.is_on_vector() {
+        return None;
+    }
+    let mut pass = window.pass();
+    let mut next = window.try_leave_vector_as(&mut pass).ok()?;
+    let has_left = window.as_slice() == [1, 2].as_slice() && !window.is_on_vector();
+    window.drop_with_unique_hint_as(&mut next);
+    Some([
+        items.as_slice() == [1, 2].as_slice(),
+        boxed.as_slice() == [1, 2].as_slice(),
+        array == [1, 2],
+        has_left,
+    ])
+}
+
+/// Whether one of several writers has its items under another layout, and once it is frozen.
+fn changed_of_several(alloc: Global) -> Option<[bool; 2]> {
+    let window = shared(alloc)?;
+    let mut pass = window.pass();
+    let moved = window.try_with_layout_as::<VecLayout>(&mut pass).ok()?;
+    let is_moved = moved.as_slice() == [1, 2].as_slice();
+    let frozen = moved.try_freeze_as::<DefaultLayout>(&mut pass).ok()?;
+    Some([is_moved, frozen.as_slice() == [1, 2].as_slice()])
+}
+
+#[test]
+fn taken_and_changed_with_a_pass(rt: HostRuntime) -> Result<(), Fail> {
+    assert!(rt; taken_from_several(rt.alloc()) == Some([true; 4]));
+    assert!(rt; changed_of_several(rt.alloc()) == Some([true; 2]));
+    Ok(())
+}
