@@ -22,4 +22,6 @@ mod several_units;
 #[cfg(test)]
 mod static_slices;
 #[cfg(test)]
+mod writer_memories;
+#[cfg(test)]
 mod writers;

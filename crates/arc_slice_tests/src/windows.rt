@@ -93,6 +93,32 @@ fn taken_as(alloc: Global, bytes: &[u8]) -> Option<[usize; 2]> {
     Some([of_vec, of_boxed])
 }
 
+/// A small window of texts of whose block there is one pass.
+type WholeText = SmallArcStr<DefaultLayout, Vec<u8>, (), Global, WholeMark>;
+
+/// How many bytes windows have that are made of arrays, a short and a long one, each with a pass,
+/// with which it is then released.
+fn arrays_as(alloc: Global) -> Option<[usize; 2]> {
+    let mut pass = Pass::none();
+    let window = Whole::try_from_array_as(alloc, [1, 2, 3], &mut pass).ok()?;
+    let short = window.len();
+    window.release_as(&mut pass);
+    let mut pass = Pass::none();
+    let window = Whole::try_from_array_as(alloc, [7; 40], &mut pass).ok()?;
+    let long = window.len();
+    window.release_as(&mut pass);
+    Some([short, long])
+}
+
+/// The same of a window over a text.
+fn text_as(alloc: Global, text: &str) -> Option<usize> {
+    let mut pass = Pass::none();
+    let window = WholeText::try_from_str_as(alloc, text, &mut pass).ok()?;
+    let len = window.len();
+    window.release_as(&mut pass);
+    Some(len)
+}
+
 /// A window over a text: whether it has none, and whether it is that text.
 fn text_seen(alloc: Global, text: &str) -> Option<[bool; 2]> {
     let window: SmallArcStr = SmallArcSlice::try_from_str(alloc, text).ok()?;
@@ -140,6 +166,8 @@ fn cut_and_cloned(rt: HostRuntime) -> Result<(), Fail> {
     assert!(rt; called_as(&rt, rt.alloc(), &[1, 2, 3, 4]) == Ok([4, 2, 4]));
     assert!(rt; called_as(&rt, rt.alloc(), &long) == Ok([40, 2, 40]));
     assert!(rt; taken_as(rt.alloc(), &[1, 2, 3]) == Some([3, 3]));
+    assert!(rt; arrays_as(rt.alloc()) == Some([3, 40]));
+    assert!(rt; text_as(rt.alloc(), "aé") == Some(3));
     Ok(())
 }
 

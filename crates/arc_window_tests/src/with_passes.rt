@@ -5,6 +5,7 @@ use arc_buffer::kinds::{Plain, Text};
 use arc_owners::owners::Pass;
 use arc_read::slice::ArcSlice;
 use arc_write::slice_mut::{ArcBytesMut, ArcBytesShared, ArcSliceMut, ArcStrMut};
+use counting_heap::CountingHeap;
 use std::alloc::Global;
 use std::sync::{Arc, Wait};
 use std::test::Fail;
@@ -227,5 +228,49 @@ fn changed_of_several(alloc: Global) -> Option<[bool; 2]> {
 fn taken_and_changed_with_a_pass(rt: HostRuntime) -> Result<(), Fail> {
     assert!(rt; taken_from_several(rt.alloc()) == Some([true; 4]));
     assert!(rt; changed_of_several(rt.alloc()) == Some([true; 2]));
+    Ok(())
+}
+
+/// A heap that counts, and refuses what it is told to.
+type Heap<'a> = &'a CountingHeap<Global>;
+
+/// Readers whose memory comes from it.
+type InHeap<'a> = ArcSlice<Plain<u8>, DefaultLayout, Vec<u8, Heap<'a>>, (), Heap<'a>>;
+
+/// A box that is refused memory for its count: whether it comes back, and goes in and out again.
+fn box_refused(heap: Heap<'_>) -> Option<[bool; 2]> {
+    let items = Vec::from_slice(heap, &[1, 2]).ok()?.into_boxed_slice();
+    heap.refuse(1);
+    let mut pass = Pass::none();
+    let Err(items) = InHeap::try_from_boxed_as(heap, items, &mut pass) else {
+        return None;
+    };
+    let is_same = items.as_slice() == [1, 2].as_slice();
+    let window = InHeap::try_from_boxed_as(heap, items, &mut pass).ok()?;
+    let items = window.try_into_boxed_as(&mut pass).ok()?;
+    Some([is_same, items.as_slice() == [1, 2].as_slice()])
+}
+
+/// The same of a buffer behind an `Arc`.
+fn arc_refused(heap: Heap<'_>) -> Option<[bool; 2]> {
+    let items = Vec::from_slice(heap, &[1, 2]).ok()?;
+    let shared = Arc::new(heap, items).ok()?;
+    heap.refuse(1);
+    let mut pass = Pass::none();
+    let Err(shared) = InHeap::try_from_raw_buffer_as(heap, shared, &mut pass) else {
+        return None;
+    };
+    let is_same = shared.as_slice() == [1, 2].as_slice();
+    let window = InHeap::try_from_raw_buffer_as(heap, shared, &mut pass).ok()?;
+    let shared = window.try_into_raw_buffer_as(&mut pass).ok()?;
+    Some([is_same, shared.as_slice() == [1, 2].as_slice()])
+}
+
+#[test]
+fn refused_with_a_pass(rt: HostRuntime) -> Result<(), Fail> {
+    let heap = CountingHeap::new(rt.alloc());
+    assert!(rt; box_refused(&heap) == Some([true; 2]));
+    assert!(rt; arc_refused(&heap) == Some([true; 2]));
+    assert!(rt; heap.pieces() == 0);
     Ok(())
 }
