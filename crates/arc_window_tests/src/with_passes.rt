@@ -107,6 +107,7 @@ fn buffer_and_zeros_written(alloc: Global) -> Option<[bool; 2]> {
     let mut pass = Pass::none();
     let mut zeros: ArcBytesMut = ArcSliceMut::try_zeroed_as(alloc, 2, &mut pass).ok()?;
     zeros.try_reserve_as(3, &mut pass).ok()?;
+    let mut pass = zeros.pass();
     zeros.try_extend_from_slice_as(&[3, 4, 5], &mut pass).ok()?;
     Some([
         buffer.as_slice() == [1, 2].as_slice(),
@@ -142,20 +143,33 @@ fn shared(alloc: Global) -> Option<ArcBytesShared> {
         .ok()
 }
 
-/// Two bytes of one of several writers are split before the second, each part gets room and a byte
-/// where it may, and they are joined again: the length of each part, whether the front had room
-/// beside the back, and whether the whole is as before.
-fn split_and_joined(rt: &impl Wait, alloc: Global) -> Option<([usize; 2], [bool; 2])> {
+/// Two bytes of one of several writers are split before the second and joined again: the length of
+/// each part, and whether the whole is as before.
+fn split_and_joined(rt: &impl Wait, alloc: Global) -> Option<([usize; 2], bool)> {
     let mut front = shared(alloc)?;
     front.check_split_off(1).ok()?;
     let mut pass = front.pass();
     let back = front.try_split_off_as(rt, 1, &mut pass).ok()?;
     let lens = [front.len(), back.len()];
-    let has_room = front.try_reclaim_as(1, &mut pass);
     front.try_unsplit_as(back, &mut pass).ok()?;
     let is_whole = front.as_slice() == [1, 2].as_slice();
+    let mut pass = front.pass();
     front.release_as(&mut pass);
-    Some((lens, [has_room, is_whole]))
+    Some((lens, is_whole))
+}
+
+/// Whether the part before the second byte has room for one more while the other part lives, and
+/// once that has ended.
+fn reclaimed_by_several(rt: &impl Wait, alloc: Global) -> Option<[bool; 2]> {
+    let mut back = shared(alloc)?;
+    back.check_split_off(1).ok()?;
+    let mut pass = back.pass();
+    let mut front = back.try_split_to_as(rt, 1, &mut pass).ok()?;
+    let mut pass = front.pass();
+    let beside = front.try_reclaim_as(1, &mut pass);
+    drop(back);
+    let mut pass = front.pass();
+    Some([beside, front.try_reclaim_as(1, &mut pass)])
 }
 
 /// One of several writers that is alone takes a byte and two more, and is then its block's only
@@ -164,18 +178,19 @@ fn alone_of_several(alloc: Global) -> Option<bool> {
     let mut window = shared(alloc)?;
     let mut pass = window.pass();
     window.try_reserve_as(3, &mut pass).ok()?;
+    let mut pass = window.pass();
     window.try_push_as(3, &mut pass).ok()?;
+    let mut pass = window.pass();
     window.try_extend_from_slice_as(&[4, 5], &mut pass).ok()?;
+    let mut pass = window.pass();
     let sole = window.try_into_unique_as(&mut pass).ok()?;
-    let is_there = sole.as_slice() == [1, 2, 3, 4, 5].as_slice();
-    sole.drop_with_unique_hint_as(&mut pass);
-    Some(is_there)
+    Some(sole.as_slice() == [1, 2, 3, 4, 5].as_slice())
 }
 
 #[test]
 fn several_with_a_pass(rt: HostRuntime) -> Result<(), Fail> {
-    let told = Some(([1, 1], [false, true]));
-    assert!(rt; split_and_joined(&rt, rt.alloc()) == told);
+    assert!(rt; split_and_joined(&rt, rt.alloc()) == Some(([1, 1], true)));
+    assert!(rt; reclaimed_by_several(&rt, rt.alloc()) == Some([false, true]));
     assert!(rt; alone_of_several(rt.alloc()) == Some(true));
     Ok(())
 }
