@@ -7,7 +7,7 @@ ghost use Rattle.arc_owners.specs.count.Calls.{block_of, owner_of, seen, mine, h
 ghost use Rattle.arc_owners.specs.count.Calls.{IsOwnerOf, IsPassOf, IsSamePass, HasCountIn, Asks};
 
 use arc_owners::error::CountFull;
-use arc_owners::mark::{Open, Whole};
+use arc_owners::mark::{Mark, Open, Whole};
 use arc_owners::owners::{Owners, Pass, Release, Share};
 use std::sync::Wait;
 use std::test::Fail;
@@ -170,6 +170,20 @@ fn alone_after_end<R: Threads>(
     (alone, own, other)
 }
 
+/// Whether an owner gets the block back, which then ends.
+fn ended_alone<H: Mark>(owners: &Owners<3, H>, share: Share<H>, pass: &mut Pass<H>) -> bool
+    requires share { IsOwnerOf (block_of owners.now) share }
+    requires pass { IsPassOf (block_of owners.now) pass.old }
+{
+    match owners.claim_as(share, pass) {
+        Ok((sole, _term)) => {
+            sole.end_as(pass);
+            true
+        }
+        Err(_) => false,
+    }
+}
+
 /// Beside another owner the block isn't claimed, and alone it is.
 #[test]
 fn sole_owner_takes_back(rt: HostRuntime) -> Result<(), Fail> {
@@ -180,11 +194,7 @@ fn sole_owner_takes_back(rt: HostRuntime) -> Result<(), Fail> {
         return Ok(());
     };
     assert!(rt; matches!(owners.down_as(second, &mut pass), Release::NotLast));
-    let Ok((sole, _term)) = owners.claim_as(first, &mut pass) else {
-        assert!(rt; false);
-        return Ok(());
-    };
-    sole.end_as(&mut pass);
+    assert!(rt; ended_alone(&owners, first, &mut pass));
     Ok(())
 }
 
@@ -195,11 +205,7 @@ fn sole_owner_from_the_beginning(rt: HostRuntime) -> Result<(), Fail> {
     sole.only(&mut pass);
     let first = sole.lend();
     assert!(rt; owners.alone_as(&first, &mut pass));
-    let Ok((sole, _term)) = owners.claim_as(first, &mut pass) else {
-        assert!(rt; false);
-        return Ok(());
-    };
-    sole.end_as(&mut pass);
+    assert!(rt; ended_alone(&owners, first, &mut pass));
     Ok(())
 }
 
