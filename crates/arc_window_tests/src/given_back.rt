@@ -223,18 +223,26 @@ fn part(rt: &impl Wait, heap: Heap<'_>, values: &Values) -> Option<bool> {
     Some((with, living(values)) == (THREE, [1; 5]))
 }
 
-/// A window of a buffer with metadata. Where memory is refused both come back, and go in again.
-fn of_buffer<'a>(alloc: Global, heap: Heap<'a>, values: &Values) -> Option<Reader<'a>> {
-    let (buffer, metadata) = filled(alloc, values)?;
-    match Reader::try_from_buffer_with_metadata(heap, buffer, metadata) {
-        Ok(window) => Some(window),
-        Err((buffer, metadata)) => {
-            if living(values) != [2; 5] {
-                return None;
+/// A window of a buffer with metadata, in either role. Where memory is refused both come back, and
+/// go in again.
+macro_rules! over_filled {
+    ($role:ident, $alloc:ident, $heap:ident, $values:ident) => {{
+        let (buffer, metadata) = filled($alloc, $values)?;
+        match $role::try_from_buffer_with_metadata($heap, buffer, metadata) {
+            Ok(window) => Some(window),
+            Err((buffer, metadata)) => {
+                if living($values) != [2; 5] {
+                    return None;
+                }
+                $role::try_from_buffer_with_metadata($heap, buffer, metadata).ok()
             }
-            Reader::try_from_buffer_with_metadata(heap, buffer, metadata).ok()
         }
-    }
+    }};
+}
+
+/// One that is read.
+fn of_buffer<'a>(alloc: Global, heap: Heap<'a>, values: &Values) -> Option<Reader<'a>> {
+    over_filled!(Reader, alloc, heap, values)
 }
 
 /// Whether both windows over a buffer have its metadata, and that and the buffer are dropped with
@@ -257,18 +265,9 @@ fn buffer(alloc: Global, heap: Heap<'_>, values: &Values) -> Option<bool> {
     Some((with, living(values)) == ([2, 2, 2, 2, 1], [1; 5]))
 }
 
-/// A writer over a buffer with metadata. Where memory is refused both come back, and go in again.
+/// One that is written.
 fn over_buffer<'a>(alloc: Global, heap: Heap<'a>, values: &Values) -> Option<Writer<'a>> {
-    let (buffer, metadata) = filled(alloc, values)?;
-    match Writer::try_from_buffer_with_metadata(heap, buffer, metadata) {
-        Ok(window) => Some(window),
-        Err((buffer, metadata)) => {
-            if living(values) != [2; 5] {
-                return None;
-            }
-            Writer::try_from_buffer_with_metadata(heap, buffer, metadata).ok()
-        }
-    }
+    over_filled!(Writer, alloc, heap, values)
 }
 
 /// Whether all items stay in a buffer whose writer is cut to one, and go with it.

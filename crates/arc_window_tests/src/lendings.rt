@@ -1,6 +1,6 @@
 //! Callers' buffers that grow as they will, under windows whose memory a heap counts. Where memory
 //! for a window is refused its buffer comes back as it was, and goes in again.
-use crate::callers::{Ample, Later, Lent, NoRoom};
+use crate::callers::{Growing, Lent, vector};
 use arc_block::layout::{AnyBufferLayout, ArcLayout, DefaultLayoutMut, LayoutMut, VecLayout};
 use arc_buffer::buffer::{AsMutBuffer, Buffer, BufferMut};
 use arc_owners::error::TryReserveError;
@@ -35,13 +35,6 @@ const LENDINGS: &[Lending] = &[
     Lending::Lent,
 ];
 
-/// A vector of these bytes with so many places.
-fn vector(alloc: Global, places: usize, bytes: &[u8]) -> Option<Vec<u8>> {
-    let mut vector = Vec::with_capacity(alloc, places).ok()?;
-    vector.extend_from_slice(bytes).ok()?;
-    Some(vector)
-}
-
 /// A writer over a buffer, which has these bytes.
 fn over<'a, L: LayoutMut + AnyBufferLayout, B: BufferMut<u8> + Drop>(
     heap: Heap<'a>,
@@ -63,7 +56,7 @@ fn over<'a, L: LayoutMut + AnyBufferLayout, B: BufferMut<u8> + Drop>(
 /// that is refused, and the buffer comes back full.
 fn no_room<L: LayoutMut + AnyBufferLayout>(alloc: Global, heap: Heap<'_>) -> Option<bool> {
     let bytes = vector(alloc, 5, &[1, 2, 3])?;
-    let mut window = over::<L, NoRoom>(heap, NoRoom { bytes }, &[1, 2, 3])?;
+    let mut window = over::<L, Growing>(heap, Growing::never(bytes), &[1, 2, 3])?;
     let mut coming = 4..8u8;
     let refusal = window.try_extend(&mut coming).err()?;
     let told = (refusal, coming.next());
@@ -76,8 +69,7 @@ fn no_room<L: LayoutMut + AnyBufferLayout>(alloc: Global, heap: Heap<'_>) -> Opt
 /// Whether a byte is refused once, and then taken.
 fn later<L: LayoutMut + AnyBufferLayout>(alloc: Global, heap: Heap<'_>) -> Option<bool> {
     let bytes = vector(alloc, 1, &[1])?;
-    let asked = false;
-    let mut window = over::<L, Later>(heap, Later { bytes, asked }, &[1])?;
+    let mut window = over::<L, Growing>(heap, Growing::later(bytes), &[1])?;
     let refusal = window.try_push(2).err()?;
     window.try_push(2).ok()?;
     let both = [1, 2];
@@ -92,8 +84,7 @@ fn asked_for<L: LayoutMut + AnyBufferLayout>(
     room: usize,
 ) -> Option<bool> {
     let bytes = vector(alloc, 100, &[1])?;
-    let asked = false;
-    let mut window = over::<L, Ample>(heap, Ample { bytes, asked }, &[1])?;
+    let mut window = over::<L, Growing>(heap, Growing::always(bytes), &[1])?;
     window.try_extend_from_slice(&[2, 3]).ok()?;
     window.try_reserve(room).ok()?;
     window.try_push(4).ok()?;

@@ -34,9 +34,13 @@ mod reader_adapters;
 #[cfg(test)]
 mod readers;
 #[cfg(test)]
+mod reading;
+#[cfg(test)]
 mod several;
 #[cfg(test)]
 mod shelf;
+#[cfg(test)]
+mod standing;
 #[cfg(test)]
 mod static_readers;
 #[cfg(test)]

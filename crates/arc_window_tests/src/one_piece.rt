@@ -102,92 +102,60 @@ fn one_piece(rt: HostRuntime) -> Result<(), Fail> {
     Ok(())
 }
 
-/// What is told of a vector of three bytes, once a window is made of it, once the window has given
-/// it back, and when it has ended.
+/// What is told of what comes in, once a window is made of it, once the window has given it back,
+/// and when it has ended.
+macro_rules! in_and_out {
+    ($heap:ident, $given:expr, $window:ty, $make:ident, $take:ident) => {{
+        let items = $given;
+        let given = told($heap);
+        let window = <$window>::$make($heap, items).ok()?;
+        let made = told($heap);
+        let items = window.$take().ok()?;
+        let taken = told($heap);
+        drop(items);
+        Some([given, made, taken, told($heap)])
+    }};
+}
+
+/// A vector of three bytes, without places to spare.
+fn three<'a>(heap: Heap<'a>) -> Option<Vec<u8, Heap<'a>>> {
+    Vec::from_slice(heap, &[1, 2, 3]).ok()
+}
+
 fn of_vector(heap: Heap<'_>) -> Option<[[u64; 2]; 4]> {
-    let items = Vec::from_slice(heap, &[1, 2, 3]).ok()?;
-    let given = told(heap);
-    let window = Reader::try_from_vec(heap, items).ok()?;
-    let made = told(heap);
-    let items = window.try_into_vec().ok()?;
-    let taken = told(heap);
-    drop(items);
-    Some([given, made, taken, told(heap)])
+    in_and_out!(heap, three(heap)?, Reader, try_from_vec, try_into_vec)
 }
 
-/// The same of a box.
 fn of_box(heap: Heap<'_>) -> Option<[[u64; 2]; 4]> {
-    let items = Vec::from_slice(heap, &[1, 2, 3]).ok()?.into_boxed_slice();
-    let given = told(heap);
-    let window = Reader::try_from_boxed(heap, items).ok()?;
-    let made = told(heap);
-    let items = window.try_into_boxed().ok()?;
-    let taken = told(heap);
-    drop(items);
-    Some([given, made, taken, told(heap)])
+    let items = three(heap)?.into_boxed_slice();
+    in_and_out!(heap, items, Reader, try_from_boxed, try_into_boxed)
 }
 
-/// The same of a box whose memory has places to spare.
+/// A box whose memory has places to spare.
 fn of_box_with_room(heap: Heap<'_>) -> Option<[[u64; 2]; 4]> {
     let mut items = Vec::with_capacity(heap, 8).ok()?;
     items.extend_from_slice(&[1, 2, 3]).ok()?;
     let items = items.into_boxed_slice();
-    let given = told(heap);
-    let window = Reader::try_from_boxed(heap, items).ok()?;
-    let made = told(heap);
-    let items = window.try_into_boxed().ok()?;
-    let taken = told(heap);
-    drop(items);
-    Some([given, made, taken, told(heap)])
+    in_and_out!(heap, items, Reader, try_from_boxed, try_into_boxed)
 }
 
-/// The same of a vector as a caller's buffer.
+/// A vector as a caller's buffer.
 fn of_buffer(heap: Heap<'_>) -> Option<[[u64; 2]; 4]> {
-    let items = Vec::from_slice(heap, &[1, 2, 3]).ok()?;
-    let given = told(heap);
-    let window = Reader::try_from_buffer(heap, items).ok()?;
-    let made = told(heap);
-    let items = window.try_into_buffer().ok()?;
-    let taken = told(heap);
-    drop(items);
-    Some([given, made, taken, told(heap)])
+    in_and_out!(heap, three(heap)?, Reader, try_from_buffer, try_into_buffer)
 }
 
-/// The same of a vector behind an `Arc`.
+/// A vector behind an `Arc`.
 fn of_arc<L: AnyBufferLayout>(heap: Heap<'_>) -> Option<[[u64; 2]; 4]> {
-    let items = Vec::from_slice(heap, &[1, 2, 3]).ok()?;
-    let shared = Arc::new(heap, items).ok()?;
-    let given = told(heap);
-    let window = Under::<L>::try_from_raw_buffer(heap, shared).ok()?;
-    let made = told(heap);
-    let shared = window.try_into_raw_buffer().ok()?;
-    let taken = told(heap);
-    drop(shared);
-    Some([given, made, taken, told(heap)])
+    let shared = Arc::new(heap, three(heap)?).ok()?;
+    in_and_out!(heap, shared, Under<L>, try_from_raw_buffer, try_into_raw_buffer)
 }
 
-/// The same of a vector and a writer.
 fn writer_of_vector(heap: Heap<'_>) -> Option<[[u64; 2]; 4]> {
-    let items = Vec::from_slice(heap, &[1, 2, 3]).ok()?;
-    let given = told(heap);
-    let window = Writer::try_from_vec(heap, items).ok()?;
-    let made = told(heap);
-    let items = window.try_into_vec().ok()?;
-    let taken = told(heap);
-    drop(items);
-    Some([given, made, taken, told(heap)])
+    in_and_out!(heap, three(heap)?, Writer, try_from_vec, try_into_vec)
 }
 
-/// The same of a caller's buffer and a writer.
 fn writer_of_buffer(heap: Heap<'_>) -> Option<[[u64; 2]; 4]> {
-    let items = Vec::from_slice(heap, &[1, 2, 3]).ok()?;
-    let given = told(heap);
-    let window = Writer::try_from_buffer(heap, items).ok()?;
-    let made = told(heap);
-    let items = window.try_into_buffer().ok()?;
-    let taken = told(heap);
-    drop(items);
-    Some([given, made, taken, told(heap)])
+    in_and_out!(heap, three(heap)?, Writer, try_from_buffer, try_into_buffer)
 }
 
 /// The same heap, which counts its requests anew.

@@ -1,41 +1,10 @@
-//! Whether a value prints so, in each of several ways.
+//! Whether a value prints so.
 use std::alloc::Global;
-use std::fmt::{self, Debug, Display, LowerHex, UpperHex};
+use std::fmt::{self, LowerHex, UpperHex};
 
-/// By `{:?}`.
-pub fn debugs<T: Debug>(alloc: Global, value: &T, text: &str) -> Option<bool> {
-    let written = format!(in alloc; "{value:?}").ok()?;
-    Some(written.as_str() == text)
-}
-
-/// By `{:#?}`.
-pub fn debugs_on_lines<T: Debug>(alloc: Global, value: &T, text: &str) -> Option<bool> {
-    let written = format!(in alloc; "{value:#?}").ok()?;
-    Some(written.as_str() == text)
-}
-
-/// By `{}`.
-pub fn displays<T: Display>(alloc: Global, value: &T, text: &str) -> Option<bool> {
-    let written = format!(in alloc; "{value}").ok()?;
-    Some(written.as_str() == text)
-}
-
-/// In a column of five.
-pub fn displays_wide<T: Display>(alloc: Global, value: &T, text: &str) -> Option<bool> {
-    let written = format!(in alloc; "{value:5}").ok()?;
-    Some(written.as_str() == text)
-}
-
-/// At the right of a column of five.
-pub fn displays_right<T: Display>(alloc: Global, value: &T, text: &str) -> Option<bool> {
-    let written = format!(in alloc; "{value:>5}").ok()?;
-    Some(written.as_str() == text)
-}
-
-/// In the middle of a column of five, between dashes.
-pub fn displays_middle<T: Display>(alloc: Global, value: &T, text: &str) -> Option<bool> {
-    let written = format!(in alloc; "{value:-^5}").ok()?;
-    Some(written.as_str() == text)
+/// Whether what was printed is this text, if there was memory for it.
+pub fn is_text<E: Drop>(printed: Result<String, E>, text: &str) -> Option<bool> {
+    Some(printed.ok()?.as_str() == text)
 }
 
 /// In lower case digits.

@@ -1,8 +1,7 @@
 //! Read windows compared, hashed, printed, lent, and read from.
-use crate::printing::{
-    debugs, debugs_on_lines, displays, displays_middle, displays_right, displays_wide,
-    in_lower_hex, in_upper_hex,
-};
+use crate::printing::{in_lower_hex, in_upper_hex, is_text};
+use crate::reading::two_read_twice;
+use crate::standing::{Bytes, Sort, standing};
 use arc_block::layout::{ArcLayout, BoxedSliceLayout, DefaultLayout, Layout, RawLayout, VecLayout};
 use arc_buffer::kinds::{ByteText, CopySlice, DebugSlice, Plain, Text};
 use arc_read::slice::ArcSlice;
@@ -12,8 +11,8 @@ use std::cmp::Ordering;
 use std::collections::{BTreeMap, HashMap};
 use std::convert::{AsSlice, AsStr};
 use std::hash::{DefaultHasher, Hash, Hasher};
-use std::io::{ErrorKind, Read};
-use std::sync::{Arc, Wait};
+use std::io::Read;
+use std::sync::Wait;
 use std::test::Fail;
 
 /// Whether a window over these bytes is written so, in lower case digits and in upper case ones.
@@ -35,7 +34,7 @@ where
     S::Item: Copy,
 {
     let window: ArcSlice<S> = ArcSlice::try_from_slice(alloc, items).ok()?;
-    debugs(alloc, &window, text)
+    is_text(format!(in alloc; "{window:?}"), text)
 }
 
 /// Whether `{:?}` of windows over numbers of each other width is right.
@@ -74,15 +73,16 @@ fn borrowing_debug(alloc: Global) -> [Option<bool>; 2] {
 fn text_prints(alloc: Global, text: &str, wide: &str) -> Option<[bool; 2]> {
     let window: ArcSlice<Text> = ArcSlice::try_from_str(alloc, text).ok()?;
     Some([
-        displays(alloc, &window, text)?,
-        displays_right(alloc, &window, wide)?,
+        is_text(format!(in alloc; "{window}"), text)?,
+        is_text(format!(in alloc; "{window:>5}"), wide)?,
     ])
 }
 
 /// Whether `{:?}` of the second and third of three bytes, which are borrowed, is this text.
 fn part_prints(alloc: Global, text: &str) -> Option<bool> {
     let window: ArcSlice<Plain<u8>> = ArcSlice::try_from_slice(alloc, b"abc").ok()?;
-    debugs(alloc, &window.borrow(1, 3), text)
+    let part = window.borrow(1, 3);
+    is_text(format!(in alloc; "{part:?}"), text)
 }
 
 /// Whether `{}` of a window over this byte text is that text, and in columns of five, without and
@@ -90,10 +90,10 @@ fn part_prints(alloc: Global, text: &str) -> Option<bool> {
 fn byte_text_prints(alloc: Global, bytes: &[u8], texts: [&str; 4]) -> Option<[bool; 4]> {
     let window: ArcSlice<ByteText> = ArcSlice::try_from_slice(alloc, bytes).ok()?;
     Some([
-        displays(alloc, &window, texts[0])?,
-        displays_wide(alloc, &window, texts[1])?,
-        displays_right(alloc, &window, texts[2])?,
-        displays_middle(alloc, &window, texts[3])?,
+        is_text(format!(in alloc; "{window}"), texts[0])?,
+        is_text(format!(in alloc; "{window:5}"), texts[1])?,
+        is_text(format!(in alloc; "{window:>5}"), texts[2])?,
+        is_text(format!(in alloc; "{window:-^5}"), texts[3])?,
     ])
 }
 
@@ -138,16 +138,10 @@ fn read_thrice(alloc: Global) -> Option<([usize; 3], [u8; 2], [usize; 3])> {
     Some(([first, second, third], places, [left, after, window.len()]))
 }
 
-/// A window of three bytes fills two places, and then has too few for them: whether that is said to
-/// be the end, what stands in the places, and what is left after each.
+/// A window of three bytes fills two places, and then has too few for them.
 fn read_exactly(alloc: Global) -> Option<(bool, [u8; 2], [usize; 2])> {
     let mut window: ArcSlice<Plain<u8>> = ArcSlice::try_from_slice(alloc, &[1, 2, 3]).ok()?;
-    let mut places = [0; 2];
-    window.read_exact(&mut places).ok()?;
-    let left = window.len();
-    let error = window.read_exact(&mut places).err()?;
-    let is_end = error.kind() == ErrorKind::UnexpectedEof;
-    Some((is_end, places, [left, window.len()]))
+    two_read_twice(&mut window)
 }
 
 /// Two numbers of two bytes each, and a byte that is passed over between them; what is left.
@@ -249,7 +243,7 @@ fn frames(alloc: Global, one: &[u8], two: &[u8], text: &str) -> Option<[bool; 3]
     Some([
         one == two,
         hash_of(&one) == hash_of(&two),
-        debugs(alloc, &one, text)?,
+        is_text(format!(in alloc; "{one:?}"), text)?,
     ])
 }
 
@@ -278,12 +272,15 @@ fn compared_and_lent(rt: HostRuntime) -> Result<(), Fail> {
 /// Whether `{:#?}` of a window over these bytes, and of a frame with it, are these.
 fn laid_out(alloc: Global, bytes: &[u8], text: &str, framed: &str) -> Option<[bool; 2]> {
     let window: ArcSlice<Plain<u8>> = ArcSlice::try_from_slice(alloc, bytes).ok()?;
-    let is_text = debugs_on_lines(alloc, &window, text)?;
+    let is_laid_out = is_text(format!(in alloc; "{window:#?}"), text)?;
     let frame = Frame {
         number: 1,
         body: window,
     };
-    Some([is_text, debugs_on_lines(alloc, &frame, framed)?])
+    Some([
+        is_laid_out,
+        is_text(format!(in alloc; "{frame:#?}"), framed)?,
+    ])
 }
 
 #[test]
@@ -310,29 +307,9 @@ fn printed(rt: HostRuntime) -> Result<(), Fail> {
     Ok(())
 }
 
-/// What a window stands on.
-#[derive(Clone, Copy)]
-enum Sort {
-    Native,
-    Vector,
-    Buffer,
-    Shared,
-}
-
-/// A window of these bytes that stands on this.
-fn standing(alloc: Global, sort: Sort, bytes: &[u8]) -> Option<Key> {
-    let items = Vec::from_slice(alloc, bytes).ok()?;
-    match sort {
-        Sort::Native => Key::try_from_slice(alloc, bytes).ok(),
-        Sort::Vector => Key::try_from_vec(alloc, items).ok(),
-        Sort::Buffer => Key::try_from_buffer(alloc, items).ok(),
-        Sort::Shared => Key::try_from_raw_buffer(alloc, Arc::new(alloc, items).ok()?).ok(),
-    }
-}
-
 /// Whether the three bytes behind the first of a window are equal to those of another window, and
 /// whether their hashes are.
-fn part_beside(rt: &impl Wait, window: Key, other: Key) -> Option<[bool; 2]> {
+fn part_beside(rt: &impl Wait, window: Bytes, other: Bytes) -> Option<[bool; 2]> {
     if window.check_range(1, 4).is_err() {
         return None;
     }
@@ -346,7 +323,7 @@ fn parts_beside(
     rt: &impl Wait,
     alloc: Global,
     sorts: (Sort, Sort),
-    other: &[u8],
+    other: &'static [u8],
 ) -> Option<[bool; 2]> {
     part_beside(
         rt,

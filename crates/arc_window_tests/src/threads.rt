@@ -1,6 +1,7 @@
 //! Windows in other threads, which read, write and end them: over items, callers' buffers and
 //! metadata that may go there.
 use crate::living::{Values, first_three, living, values};
+use crate::standing::{Bytes, Sort, standing};
 use arc_block::layout::{DefaultLayout, DefaultLayoutMut, RawLayout};
 use arc_buffer::kinds::{Owned, Plain};
 use arc_read::slice::ArcSlice;
@@ -9,9 +10,6 @@ use std::alloc::Global;
 use std::sync::{Arc, Wait};
 use std::test::Fail;
 use std::thread::{self, Threads};
-
-/// Bytes that are read.
-type Bytes = ArcSlice<Plain<u8>>;
 
 /// Texts that are read, beside metadata of a type of their own.
 type Texts = ArcSlice<Owned<String>, DefaultLayout, Vec<String>, Vec<String>>;
@@ -64,35 +62,13 @@ fn ended_there<R: Threads + Wait>(rt: &R, reader: Texts, writer: TextsMut) -> bo
     })
 }
 
-/// What bytes stand on.
-#[derive(Clone, Copy)]
-enum Sort {
-    Native,
-    Vector,
-    Buffer,
-    Shared,
-    Lasting,
-}
-
-/// A reader of two bytes that stands on this.
-fn standing_on(alloc: Global, sort: Sort) -> Option<Bytes> {
-    let bytes = Vec::from_slice(alloc, &[1, 2]).ok()?;
-    match sort {
-        Sort::Native => Bytes::try_from_slice(alloc, &[1, 2]).ok(),
-        Sort::Vector => Bytes::try_from_vec(alloc, bytes).ok(),
-        Sort::Buffer => Bytes::try_from_buffer(alloc, bytes).ok(),
-        Sort::Shared => Bytes::try_from_raw_buffer(alloc, Arc::new(alloc, bytes).ok()?).ok(),
-        Sort::Lasting => Some(Bytes::from_static(alloc, &[1, 2])),
-    }
-}
-
 /// What both threads count of bytes, and whether the window here is alone then.
 fn bytes_told<R: Threads + Wait>(
     rt: &R,
     alloc: Global,
     sort: Sort,
 ) -> Option<((usize, usize), bool)> {
-    let bytes = standing_on(alloc, sort)?;
+    let bytes = standing(alloc, sort, &[1, 2])?;
     let counted = bytes_counted(rt, bytes.try_clone(rt).ok()?, &bytes);
     Some((counted, bytes.is_unique()))
 }

@@ -1,6 +1,7 @@
 //! Write windows printed, lent, read from and written to, those of one of several writers too.
-use crate::printing::{debugs_on_lines, displays, displays_right, in_lower_hex, in_upper_hex};
+use crate::printing::{in_lower_hex, in_upper_hex, is_text};
 use crate::reader_adapters::hash_of;
+use crate::reading::two_read_twice;
 use arc_block::layout::DefaultLayoutMut;
 use arc_buffer::kinds::{ByteText, Plain};
 use arc_write::slice_mut::{ArcBytesMut, ArcBytesShared, ArcSliceMut, ArcStrMut, ArcStrShared};
@@ -112,17 +113,6 @@ fn first_byte<W: Buf + Drop>(mut window: W) -> Option<(u8, usize)> {
     Some((byte, window.remaining()))
 }
 
-/// A window of three bytes fills two places, and then has too few for them: whether that is said to
-/// be the end, what stands in the places, and what is left after each.
-fn read_exactly<W: Buf + Read + Drop>(mut window: W) -> Option<(bool, [u8; 2], [usize; 2])> {
-    let mut places = [0; 2];
-    window.read_exact(&mut places).ok()?;
-    let left = window.remaining();
-    let error = window.read_exact(&mut places).err()?;
-    let is_end = error.kind() == ErrorKind::UnexpectedEof;
-    Some((is_end, places, [left, window.remaining()]))
-}
-
 /// Whether a writer takes this text and a number.
 fn formats<W: fmt::Write>(out: &mut W, text: &str, number: u32) -> bool {
     write!(out, "{text}-{number}").is_ok()
@@ -182,7 +172,7 @@ fn bytes_print<W: Debug + LowerHex + UpperHex>(
     digits: [&str; 2],
 ) -> Option<[bool; 3]> {
     Some([
-        debugs_on_lines(alloc, window, debug)?,
+        is_text(format!(in alloc; "{window:#?}"), debug)?,
         in_lower_hex(alloc, window, digits[0])?,
         in_upper_hex(alloc, window, digits[1])?,
     ])
@@ -191,8 +181,8 @@ fn bytes_print<W: Debug + LowerHex + UpperHex>(
 /// Whether a window prints so, and in a column of five so.
 fn text_prints<W: Display>(alloc: Global, window: &W, text: &str, wide: &str) -> Option<[bool; 2]> {
     Some([
-        displays(alloc, window, text)?,
-        displays_right(alloc, window, wide)?,
+        is_text(format!(in alloc; "{window}"), text)?,
+        is_text(format!(in alloc; "{window:>5}"), wide)?,
     ])
 }
 
@@ -229,9 +219,12 @@ fn lent_by_one_of_several(alloc: Global, numbers: &[u32]) -> Option<(u64, usize)
 
 /// What both roles are asked that are read from: a window of five bytes with eight places, and one
 /// of three with four.
-fn is_read_from<W: Buf + BufMut + Read + Drop>(five: Option<W>, three: Option<W>) -> Option<bool> {
+fn is_read_from<W: Buf + BufMut + Read + AsSlice<u8> + Drop>(
+    five: Option<W>,
+    three: Option<W>,
+) -> Option<bool> {
     let is_read = read_from(five?) == Some((0x0102, 2, [4, 5], [0, 3]));
-    Some(is_read && read_exactly(three?) == Some((true, [3, 2], [1, 0])))
+    Some(is_read && two_read_twice(&mut three?) == Some((true, [3, 2], [1, 0])))
 }
 
 #[test]

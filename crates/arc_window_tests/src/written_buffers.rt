@@ -1,5 +1,5 @@
 //! Write windows over callers' buffers and strings: written, frozen, and taken back.
-use crate::callers::{Lent, NoRoom};
+use crate::callers::{Growing, Lent, vector};
 use arc_block::layout::{DefaultLayout, DefaultLayoutMut};
 use arc_buffer::buffer::AsMutBuffer;
 use arc_write::slice_mut::{ArcBytesMut, ArcStrMut};
@@ -10,18 +10,11 @@ use std::test::Fail;
 /// Writers of bytes beside buffers of this type.
 type Over<B, M = ()> = ArcBytesMut<DefaultLayoutMut, B, M>;
 
-/// A vector of these bytes with so many places.
-fn vector(alloc: Global, places: usize, bytes: &[u8]) -> Option<Vec<u8>> {
-    let mut vector = Vec::with_capacity(alloc, places).ok()?;
-    vector.extend_from_slice(bytes).ok()?;
-    Some(vector)
-}
-
 /// Whether a text in two parts is written into a buffer of two places, and whether the first part
 /// is there then.
 fn formatted_without_room(alloc: Global, first: &str, second: &str) -> Option<[bool; 2]> {
     let bytes = vector(alloc, 2, &[])?;
-    let mut window = Over::<NoRoom>::try_from_buffer(alloc, NoRoom { bytes }).ok()?;
+    let mut window = Over::<Growing>::try_from_buffer(alloc, Growing::never(bytes)).ok()?;
     let is_written = write!(window, "{first}{second}").is_ok();
     Some([is_written, window.as_slice() == first.as_bytes()])
 }
