@@ -63,7 +63,6 @@ fn asked<S: Spelled, L: Held>(
 
 /// Changes a window in its place.
 fn changed<S: Spelled, L: Held>(
-    alloc: Global,
     windows: &mut Windows<S, L>,
     what: Change,
     operands: &Operands,
@@ -73,7 +72,7 @@ fn changed<S: Spelled, L: Held>(
     };
     match window {
         Role::Read(window) => Reply::Word(change::reader(window, what, operands)),
-        Role::Write(window) => Reply::Word(change::writer(alloc, window, what, operands)),
+        Role::Write(window) => Reply::Word(change::writer(window, what, operands)),
     }
 }
 
@@ -133,7 +132,7 @@ where
             keep(windows, made)
         }
         Verb::Ask(what) => asked(alloc, windows, what, operands, out),
-        Verb::Change(what) => changed(alloc, windows, what, operands),
+        Verb::Change(what) => changed(windows, what, operands),
         Verb::Turn(what) => turned(windows, what, operands, out),
         Verb::Compare => Reply::Word(compared(windows, operands.window, operands.first)),
     }

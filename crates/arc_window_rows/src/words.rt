@@ -74,3 +74,19 @@ pub fn room_word(e: TryReserveError) -> Word {
         TryReserveError::CapacityOverflow => "capacity overflow",
     }
 }
+
+/// The word for room that is made or not.
+pub fn room_made(made: Result<(), TryReserveError>) -> Word {
+    match made {
+        Ok(()) => OK,
+        Err(e) => room_word(e),
+    }
+}
+
+/// What was made, or the word that memory was refused.
+pub fn or_no_memory<W, E: Drop>(made: Result<W, E>) -> Result<W, Word> {
+    match made {
+        Ok(window) => Ok(window),
+        Err(_) => Err(NO_MEMORY),
+    }
+}

@@ -27,7 +27,7 @@ fn debug<W: fmt::Debug>(alloc: Global, window: &W, out: &mut Vec<u8>) -> Result<
 fn reads<S: Spelled, L: Layout>(alloc: Global, window: &ArcSlice<S, L>, text: &[u8]) -> Reply {
     match items_of::<S::Item>(alloc, text) {
         Ok(items) => Reply::Word(yes_or_no(window.eq_slice(&items))),
-        Err(_) => Reply::Word(NO_MEMORY),
+        Err(word) => Reply::Word(word),
     }
 }
 
@@ -39,7 +39,7 @@ fn writes<S: Spelled, K: LayoutMut>(
 ) -> Reply {
     match items_of::<S::Item>(alloc, text) {
         Ok(items) => Reply::Word(yes_or_no(window.eq_slice(&items))),
-        Err(_) => Reply::Word(NO_MEMORY),
+        Err(word) => Reply::Word(word),
     }
 }
 

@@ -2,11 +2,10 @@
 use crate::call::{Change, Operands};
 use crate::kinds::Spelled;
 use crate::letters::Letter;
-use crate::words::{NO_CALL, OK, Word, range_word, room_word, yes_or_no};
+use crate::words::{NO_CALL, OK, Word, range_word, room_made, yes_or_no};
 use arc_block::layout::{Layout, LayoutMut};
 use arc_read::slice::ArcSlice;
 use arc_write::slice_mut::ArcSliceMut;
-use std::alloc::Global;
 
 /// Takes so many items off the front of a window that is read.
 fn advance<S: Spelled, L: Layout>(window: &mut ArcSlice<S, L>, by: usize) -> Word {
@@ -72,10 +71,7 @@ fn truncate_written<S: Spelled, K: LayoutMut>(
 /// Makes room.
 fn reserve<S: Spelled, K: LayoutMut>(window: &mut ArcSliceMut<S, K, 1>, more: usize) -> Word {
     S::Item::fits();
-    match window.try_reserve(more) {
-        Ok(()) => OK,
-        Err(e) => room_word(e),
-    }
+    room_made(window.try_reserve(more))
 }
 
 /// Finds room without memory.
@@ -86,23 +82,18 @@ fn reclaim<S: Spelled, K: LayoutMut>(window: &mut ArcSliceMut<S, K, 1>, more: us
 
 /// Changes a window that is written.
 pub fn writer<S: Spelled, K: LayoutMut>(
-    alloc: Global,
     window: &mut ArcSliceMut<S, K, 1>,
     what: Change,
     operands: &Operands,
 ) -> Word {
     let first = operands.first;
-    let text = operands.text.as_slice();
-    let byte = text.first().copied().unwrap_or(0);
     match what {
         Change::Adv => advance_written(window, first),
         Change::Trunc => truncate_written(window, first),
         Change::Res => reserve(window, first),
         Change::Rec => reclaim(window, first),
-        Change::Push => S::push(window, byte),
-        Change::Ext => S::extend(alloc, window, text),
-        Change::Each => S::extend_each(alloc, window, text),
-        Change::Set => S::set(window, first, byte),
-        Change::Reverse => S::reverse(window),
+        Change::Push | Change::Ext | Change::Each | Change::Set | Change::Reverse => {
+            S::change(window, what, operands)
+        }
     }
 }

@@ -1,6 +1,7 @@
 //! Windows that are made of one that is read.
 use crate::call::{Operands, Part};
 use crate::kinds::Spelled;
+use crate::window::Read;
 use crate::words::{Word, owner_word, range_word};
 use arc_block::layout::Layout;
 use arc_owners::error::OwnerError;
@@ -21,34 +22,26 @@ fn sub<S: Spelled, L: Layout>(
     window: &ArcSlice<S, L>,
     start: usize,
     end: usize,
-) -> Result<ArcSlice<S, L>, Word> {
+) -> Read<S, L> {
     match window.check_range(start, end) {
         Ok(()) => or_word(window.try_subslice(rt, start, end)),
         Err(e) => Err(range_word(e)),
     }
 }
 
-/// What is behind a place, split off.
-fn off<S: Spelled, L: Layout>(
+/// What is on one side of a place, split off.
+fn side<S: Spelled, L: Layout>(
     rt: &impl Wait,
     window: &mut ArcSlice<S, L>,
+    what: Part,
     at: usize,
-) -> Result<ArcSlice<S, L>, Word> {
-    match window.check_at(at) {
-        Ok(()) => or_word(window.try_split_off(rt, at)),
-        Err(e) => Err(range_word(e)),
+) -> Read<S, L> {
+    if let Err(e) = window.check_at(at) {
+        return Err(range_word(e));
     }
-}
-
-/// What is in front of a place, split off.
-fn to<S: Spelled, L: Layout>(
-    rt: &impl Wait,
-    window: &mut ArcSlice<S, L>,
-    at: usize,
-) -> Result<ArcSlice<S, L>, Word> {
-    match window.check_at(at) {
-        Ok(()) => or_word(window.try_split_to(rt, at)),
-        Err(e) => Err(range_word(e)),
+    match what {
+        Part::Off => or_word(window.try_split_off(rt, at)),
+        _ => or_word(window.try_split_to(rt, at)),
     }
 }
 
@@ -58,7 +51,7 @@ fn part<S: Spelled, L: Layout>(
     window: &ArcSlice<S, L>,
     outer: (usize, usize),
     inner: (usize, usize),
-) -> Result<ArcSlice<S, L>, Word> {
+) -> Read<S, L> {
     if let Err(e) = window.check_range(outer.0, outer.1) {
         return Err(range_word(e));
     }
@@ -75,12 +68,11 @@ pub fn made_of<S: Spelled, L: Layout>(
     window: &mut ArcSlice<S, L>,
     what: Part,
     operands: &Operands,
-) -> Result<ArcSlice<S, L>, Word> {
+) -> Read<S, L> {
     match what {
         Part::Clone => or_word(window.try_clone(rt)),
         Part::Sub => sub(rt, window, operands.first, operands.second),
-        Part::Off => off(rt, window, operands.first),
-        Part::To => to(rt, window, operands.first),
+        Part::Off | Part::To => side(rt, window, what, operands.first),
         Part::Part => {
             let outer = (operands.first, operands.second);
             part(rt, window, outer, (operands.third, operands.fourth))

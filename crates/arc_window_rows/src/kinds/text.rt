@@ -1,39 +1,69 @@
 //! Text.
 use super::{Spelled, lists};
+use crate::call::{Change, Make, Operands};
 use crate::letters::lasting_text;
-use crate::words::{NO_CALL, NO_MEMORY, OK, Word, room_word};
+use crate::window::{Read, Sole, Written};
+use crate::words::{NO_CALL, Word, or_no_memory, room_made};
 use arc_block::layout::{Layout, LayoutMut, StaticLayout};
-use arc_buffer::kinds::Text;
+use arc_buffer::kinds::{Plain, Text};
 use arc_read::slice::ArcSlice;
 use arc_write::slice_mut::ArcSliceMut;
 use std::alloc::Global;
 use std::str;
 
+/// The text that is written so.
+fn valid(text: &[u8]) -> Result<&str, Word> {
+    match str::from_utf8(text) {
+        Ok(text) => Ok(text),
+        Err(_) => Err("not text"),
+    }
+}
+
+/// Where a text that isn't valid goes wrong.
+fn not_text(valid: usize) -> Word {
+    match valid {
+        0 => "not text at 0",
+        1 => "not text at 1",
+        2 => "not text at 2",
+        3 => "not text at 3",
+        _ => "not text",
+    }
+}
+
+/// A window over bytes as one over text.
+fn of_bytes<L: Layout>(bytes: ArcSlice<Plain<u8>, L>) -> Read<Text, L> {
+    match ArcSlice::<Text, L>::try_from_arc_slice(bytes) {
+        Ok(window) => Ok(window),
+        Err((e, _)) => Err(not_text(e.valid_up_to())),
+    }
+}
+
+/// The same of one that is written.
+fn of_written_bytes<K: LayoutMut>(bytes: Sole<Plain<u8>, K>) -> Written<Text, K> {
+    match ArcSliceMut::<Text, K, 1>::try_from_arc_slice_mut(bytes) {
+        Ok(window) => Ok(window),
+        Err((e, _)) => Err(not_text(e.valid_up_to())),
+    }
+}
+
+/// A text more.
+fn extend<K: LayoutMut>(window: &mut Sole<Text, K>, text: &[u8]) -> Word {
+    match valid(text) {
+        Ok(text) => room_made(window.try_extend_from_str(text)),
+        Err(word) => word,
+    }
+}
+
 impl Spelled for Text {
-    fn reader<L: Layout>(alloc: Global, text: &[u8]) -> Result<ArcSlice<Self, L>, Word> {
-        let Ok(text) = str::from_utf8(text) else {
-            return Err("not text");
-        };
-        match ArcSlice::try_from_str(alloc, text) {
-            Ok(window) => Ok(window),
-            Err(_) => Err(NO_MEMORY),
+    fn reader<L: Layout>(alloc: Global, what: Make, text: &[u8]) -> Read<Self, L> {
+        match what {
+            Make::Slice => or_no_memory(ArcSlice::try_from_str(alloc, valid(text)?)),
+            Make::Bytes => of_bytes(lists::copied(alloc, text)?),
+            _ => Err(NO_CALL),
         }
     }
 
-    fn bytes_reader<L: Layout>(alloc: Global, text: &[u8]) -> Result<ArcSlice<Self, L>, Word> {
-        let Ok(bytes) = ArcSlice::try_from_slice(alloc, text) else {
-            return Err(NO_MEMORY);
-        };
-        match ArcSlice::<Text, L>::try_from_arc_slice(bytes) {
-            Ok(window) => Ok(window),
-            Err((e, _)) => Err(lists::not_text(e.valid_up_to())),
-        }
-    }
-
-    fn lasting_reader<L: StaticLayout>(
-        alloc: Global,
-        text: &[u8],
-    ) -> Result<ArcSlice<Self, L>, Word> {
+    fn lasting_reader<L: StaticLayout>(alloc: Global, text: &[u8]) -> Read<Self, L> {
         match lasting_text(text) {
             Some(text) => Ok(ArcSlice::from_static_str(alloc, text)),
             None => Err(NO_CALL),
@@ -41,73 +71,33 @@ impl Spelled for Text {
     }
 
     fn rounded<L: Layout>(window: &mut Option<ArcSlice<Self, L>>) -> Word {
-        let Some(text) = window.take() else {
-            return NO_CALL;
-        };
-        match ArcSlice::<Text, L>::try_from_arc_slice(text.into_arc_slice()) {
-            Ok(text) => {
-                *window = Some(text);
-                OK
-            }
-            Err((e, _)) => lists::not_text(e.valid_up_to()),
+        match window.take() {
+            Some(text) => lists::put_back(window, of_bytes(text.into_arc_slice())),
+            None => NO_CALL,
         }
     }
 
-    fn writer<L: LayoutMut>(alloc: Global, text: &[u8]) -> Result<ArcSliceMut<Self, L, 1>, Word> {
-        let Ok(text) = str::from_utf8(text) else {
-            return Err("not text");
-        };
-        match ArcSliceMut::try_from_str(alloc, text) {
-            Ok(window) => Ok(window),
-            Err(_) => Err(NO_MEMORY),
+    fn writer<K: LayoutMut>(alloc: Global, what: Make, operands: &Operands) -> Written<Self, K> {
+        let text = operands.text.as_slice();
+        match what {
+            Make::Mslice => or_no_memory(ArcSliceMut::try_from_str(alloc, valid(text)?)),
+            Make::Mbytes => of_written_bytes(lists::copied_written(alloc, text)?),
+            Make::Zero => or_no_memory(ArcSliceMut::try_zeroed(alloc, operands.first)),
+            _ => Err(NO_CALL),
         }
     }
 
-    fn bytes_writer<L: LayoutMut>(
-        alloc: Global,
-        text: &[u8],
-    ) -> Result<ArcSliceMut<Self, L, 1>, Word> {
-        let Ok(bytes) = ArcSliceMut::try_from_slice(alloc, text) else {
-            return Err(NO_MEMORY);
-        };
-        match ArcSliceMut::<Text, L, 1>::try_from_arc_slice_mut(bytes) {
-            Ok(window) => Ok(window),
-            Err((e, _)) => Err(lists::not_text(e.valid_up_to())),
+    fn change<K: LayoutMut>(window: &mut Sole<Self, K>, what: Change, operands: &Operands) -> Word {
+        match what {
+            Change::Ext => extend(window, operands.text.as_slice()),
+            _ => NO_CALL,
         }
     }
 
-    fn zeros<L: LayoutMut>(alloc: Global, count: usize) -> Result<ArcSliceMut<Self, L, 1>, Word> {
-        match ArcSliceMut::try_zeroed(alloc, count) {
-            Ok(window) => Ok(window),
-            Err(_) => Err(NO_MEMORY),
-        }
-    }
-
-    fn extend<L: LayoutMut>(
-        alloc: Global,
-        window: &mut ArcSliceMut<Self, L, 1>,
-        text: &[u8],
-    ) -> Word {
-        let _ = alloc;
-        let Ok(text) = str::from_utf8(text) else {
-            return "not text";
-        };
-        match window.try_extend_from_str(text) {
-            Ok(()) => OK,
-            Err(e) => room_word(e),
-        }
-    }
-
-    fn rounded_writer<L: LayoutMut>(window: &mut Option<ArcSliceMut<Self, L, 1>>) -> Word {
-        let Some(text) = window.take() else {
-            return NO_CALL;
-        };
-        match ArcSliceMut::<Text, L, 1>::try_from_arc_slice_mut(text.into_arc_slice_mut()) {
-            Ok(text) => {
-                *window = Some(text);
-                OK
-            }
-            Err((e, _)) => lists::not_text(e.valid_up_to()),
+    fn rounded_writer<K: LayoutMut>(window: &mut Option<Sole<Self, K>>) -> Word {
+        match window.take() {
+            Some(text) => lists::put_back(window, of_written_bytes(text.into_arc_slice_mut())),
+            None => NO_CALL,
         }
     }
 }
