@@ -1,7 +1,7 @@
 //! A row's run: its lines one after the other, on small windows of its own.
 use super::make::make;
 use super::rows::{Ask, Call, Line, Part, Reply, Turn, is_refusal};
-use super::turn::{advance, ask, part_of, turn_bytes, turn_text};
+use super::turn::{advance, ask, part_of, turn};
 use super::window::{Heap, Kind, Window, Windows, seen};
 use arc_slice::layout::{AnyBufferLayout, Layout};
 use std::alloc::{AllocError, Global};
@@ -67,10 +67,7 @@ fn turned<L: Layout>(windows: &mut Windows<'_, L>, number: usize, what: Turn) ->
     let Some(window) = place.take() else {
         return Reply::NoCall;
     };
-    let (back, reply) = match window {
-        Kind::Bytes(window) => turn_bytes(window, what),
-        Kind::Text(window) => turn_text(window, what),
-    };
+    let (back, reply) = turn(window, what);
     *place = back;
     reply
 }

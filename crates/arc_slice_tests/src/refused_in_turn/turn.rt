@@ -74,33 +74,36 @@ fn string_of<'a, L: Layout>(window: SmallText<'a, L>, text: &str) -> Turned<Smal
     }
 }
 
-/// What becomes of a window over bytes.
-pub fn turn_bytes<'a, L: Layout>(window: SmallBytes<'a, L>, what: Turn) -> Turned<Window<'a, L>> {
-    match what {
-        Turn::TakeVec(text) => {
-            let (back, reply) = vec_of(window, text);
-            match back {
-                Some(window) => (Some(Kind::Bytes(window)), reply),
-                None => (None, reply),
-            }
-        }
-        Turn::Drop => {
-            drop(window);
-            (None, Reply::Done)
-        }
+/// A window that stays over bytes, if it comes back.
+fn still_bytes<B, T>(turned: Turned<B>) -> Turned<Kind<B, T>> {
+    let (window, reply) = turned;
+    match window {
+        Some(window) => (Some(Kind::Bytes(window)), reply),
+        None => (None, reply),
     }
 }
 
-/// What becomes of a window over text.
-pub fn turn_text<'a, L: Layout>(window: SmallText<'a, L>, what: Turn) -> Turned<Window<'a, L>> {
+/// One over text.
+fn still_text<B, T>(turned: Turned<T>) -> Turned<Kind<B, T>> {
+    let (window, reply) = turned;
+    match window {
+        Some(window) => (Some(Kind::Text(window)), reply),
+        None => (None, reply),
+    }
+}
+
+/// What becomes of a window whose bytes, which are these, are to come out.
+fn taken<'a, L: Layout>(window: Window<'a, L>, text: &str) -> Turned<Window<'a, L>> {
+    match window {
+        Kind::Bytes(window) => still_bytes(vec_of(window, text)),
+        Kind::Text(window) => still_text(string_of(window, text)),
+    }
+}
+
+/// What becomes of a window.
+pub fn turn<'a, L: Layout>(window: Window<'a, L>, what: Turn) -> Turned<Window<'a, L>> {
     match what {
-        Turn::TakeVec(text) => {
-            let (back, reply) = string_of(window, text);
-            match back {
-                Some(window) => (Some(Kind::Text(window)), reply),
-                None => (None, reply),
-            }
-        }
+        Turn::TakeVec(text) => taken(window, text),
         Turn::Drop => {
             drop(window);
             (None, Reply::Done)
