@@ -23,7 +23,6 @@ use Rattle.arc_commands.specs.Step.{answer_any, is_allowed, with_block}
 use Rattle.arc_commands.specs.declared.command.Cmd.TheVariants as command
 use Rattle.arc_commands.specs.declared.command.Reply.TheVariants as reply
 use Rattle.arc_commands.proofs.Roles.{several-is}
-use Rattle.arc_slots.specs.Answers.{around_in}
 use Rattle.arc_slots.specs.Calls.{AddsNothing, Along, FindsFullAt}
 use Rattle.arc_slots.specs.Parts.{part_command}
 use Rattle.arc_slots.specs.Several.{RefusesBeside, RefusesIf, SplitsBeside, SplitsIf, SplitsMoved}
@@ -37,7 +36,7 @@ use Rattle.arc_slots.proofs.Added.{Ended, ended-comes, enters-along, nothing-com
 use Rattle.arc_slots.proofs.Added.{refuses-at}
 use Rattle.arc_slots.proofs.Answered.{for-role, not-for, same}
 use Rattle.arc_slots.proofs.Parted.{handed-block, vector-both}
-use Rattle.arc_slots.proofs.Told.{full-at, full-told, many-beside, many-founded, many-refused}
+use Rattle.arc_slots.proofs.Told.{full-at, full-beside, many-beside, many-founded, many-refused}
 use Rattle.arc_slots.proofs.Told.{many_along, room-beside, row-block, stand_block}
 use Rattle.arc_slots.proofs.Before.{before_of}
 
@@ -177,15 +176,6 @@ module _ {T M : Type 0} (setting : Setting T) (windows : ℕ) (s : SlotView T M)
         }
 
         module _ (has : HasPassFor passes here) (passes' : List (Pass Whole)) where
-          full-beside : (st : Stand) → HasPassFor passes st
-              → FindsFullAt row.place st passes passes'
-              → ((around_in 0 windows passes st).full && is_some (block_of row.place)) ≡ true
-          full-beside None its why = absurd why
-          full-beside (Some (n, o)) its why =
-              ap (λ b. b && is_some (block_of row.place))
-              (full-told passes passes' windows n o its why.1)
-              ∙ ap is_some why.0
-
           -- the block has as many owners as it may have
           split-full : is_vector_at row.place ≡ false → FindsFullAt row.place here passes passes'
               → Said c (reply.Owner CountFull) (Some s) None passes'
@@ -194,7 +184,7 @@ module _ {T M : Type 0} (setting : Setting T) (windows : ℕ) (s : SlotView T M)
             places = 0;
             change =
                 split-ok no_shortage ∙ unpicked _ (vector-both row.place ∙ off)
-                ∙ picked _ (full-beside here has why);
+                ∙ picked _ (full-beside passes passes' windows row.place here has why);
             blocks = many-refused passes passes' (λ sort. false) row.place here CountFull why;
             adds =
                 refused-adds part is CountFull passes' (

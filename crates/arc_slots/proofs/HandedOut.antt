@@ -38,7 +38,7 @@ use Rattle.arc_slots.specs.declared.part.Part.TheVariants.{Whole as All, Range, 
 use Rattle.arc_slots.proofs.ByForm.{part-adds, part-none}
 use Rattle.arc_slots.proofs.Added.{raises-beside}
 use Rattle.arc_slots.proofs.Added.{refuses-at}
-use Rattle.arc_slots.proofs.Told.{full-told, many-beside, many-refused, why-refused-at}
+use Rattle.arc_slots.proofs.Told.{full-beside, many-beside, many-refused, why-refused-at}
 use Rattle.arc_slots.proofs.Told.{room-beside, row-block}
 use Rattle.arc_slots.proofs.Answered.{for-role, not-for, same}
 
@@ -303,18 +303,10 @@ module _ {T M : Type 0} (setting : Setting T) (windows : ℕ) (s : SlotView T M)
       part-full : FindsFullAt (new_part i part).place here passes passes'
           → Said (part_command i part) (reply.Owner CountFull) (Some s) None passes'
       part-full why =
-          refused-so CountFull why (ap (unless_full i part) (full-beside here has why))
+          refused-so CountFull why
+          (ap (unless_full i part)
+          (full-beside passes passes' windows (new_part i part).place here has why))
           (part-adds setting i here passes row (part-one s.role part for) part here None passes').2
-        where
-          full-beside : (st : Stand) → HasPassFor passes st
-              → FindsFullAt (new_part i part).place st passes passes'
-              → ((around_in 0 windows passes st).full
-              && is_some (block_of (new_part i part).place)) ≡ true
-          full-beside None has why = absurd why
-          full-beside (Some (n, o)) has why =
-              ap (λ b. b && is_some (block_of (new_part i part).place))
-              (full-told passes passes' windows n o has why.1)
-              ∙ ap is_some why.0
 
       -- an owner more was refused
       pub part-refused : (e : OwnerError)

@@ -145,12 +145,20 @@ module _ {H : Type 0} (passes passes' : List (Pass H)) where
               (has.3 p along.was) (sym many ∙ one)))) ∙ sym shared
         ]
 
-    pub full-told : (n : ℕ) (o : Owner) → HasPassFor passes (Some (n, o))
+    full-told : (n : ℕ) (o : Owner) → HasPassFor passes (Some (n, o))
         → Through n o passes passes' FindsFull
         → (around_in 0 windows passes (Some (n, o))).full ≡ true
     full-told n o has found =
         eq-eqb (live_on passes (Some (n, o))) MAX_OWNERS
         (live-is n o found.before found.was ∙ full-exact found.whole found.called ∙ has.2)
+
+    -- where none was made beside it, since its block had as many owners as it may have
+    pub full-beside : {M : Type 0} (place : Place (Option ℕ) M) (here : Stand)
+        → HasPassFor passes here → FindsFullAt place here passes passes'
+        → ((around_in 0 windows passes here).full && is_some (block_of place)) ≡ true
+    full-beside place None has why = absurd why
+    full-beside place (Some (n, o)) has why =
+        ap (λ b. b && is_some (block_of place)) (full-told n o has why.1) ∙ ap is_some why.0
 
     room-told : (n : ℕ) (o other : Owner) → HasPassFor passes (Some (n, o))
         → Through n o passes passes' (λ o p q. MakesAnother o p q other)
