@@ -23,8 +23,8 @@ use Rattle.arc_commands.specs.declared.command.Cmd.TheVariants as command
 use Rattle.arc_commands.specs.declared.command.Reply.TheVariants as reply
 
 -- P follows of each
-pub record AddsEach {H : Type 0} (here there : Stand) (made : Option Stand) (old new : List (Pass H))
-    (P : Type 0) : Type 0 where
+pub record AddsEach {H : Type 0} (here there : Stand) (made : Option Stand)
+    (old new : List (Pass H)) (P : Type 0) : Type 0 where
   pub joins : (handed_out : Bool) → Joins here there made old new handed_out → P
   pub moves : MovesAndJoins here there made old new → P
   pub asks : (alone : Bool) → Enters here there made old new (asked alone) → P

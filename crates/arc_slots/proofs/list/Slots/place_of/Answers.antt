@@ -6,7 +6,8 @@ use Rattle.std.proofs.lemmas.Option.{same_Some, slice_get_read, slice_get_within
 use Rattle.std.specs.Option.{option_flatten}
 use Rattle.arc_slots.proofs.Index.{window-none}
 use Rattle.arc_slots.proofs.list.Slots.place_of.Given.{Over}
-use Rattle.arc_slots.proofs.list.Slots.place_of.Goals.{After-index, After-index-2, After-index-place}
+use Rattle.arc_slots.proofs.list.Slots.place_of.Goals.{After-index, After-index-2}
+use Rattle.arc_slots.proofs.list.Slots.place_of.Goals.{After-index-place}
 use Rattle.arc_slots.proofs.list.Slots.place_of.Goals as goal
 
 at : {X : Type 0} (xs : List X) (i : ℕ) (x : X) → i < length xs → x ≡ slice_index_or xs i x

@@ -72,8 +72,8 @@ returns-then-i-j-clause-rows g c =
 
 -- ---- the lists of places
 
--- two places of a list of windows, whose numbers are two: the other one is emptied before the window
--- at the first is looked at
+-- two places of a list of windows, whose numbers are two: the other one is emptied before the
+-- window at the first is looked at
 record Found {X : Type 0} (index numbers : List ℕ) (places : List (Option X))
     (i j here there : ℕ) (empty o w : Option X) : Type 0 where
   told : slice_get index i ≡ Some here
