@@ -1,15 +1,17 @@
 -- What commands do to the windows as a whole, and what of it the table and the texts see.
-use Rattle.std.proofs.Common.{ℕ, Bool, List, Option, Some, None}
+use Rattle.std.proofs.Common.{◌≡◌, ℕ, Bool, List, Option, Some, None}
 use Rattle.std.proofs.Common.{ap, sym, ◌∙◌, subst, inr}
 use Rattle.std.proofs.lemmas.List.{append-nil}
 use Rattle.std.specs.Option.{option_map}
+use Rattle.arc_commands.specs.Changes.{Setting}
 use Rattle.arc_commands.specs.RunOf.{RunOf}
 use Rattle.arc_script.specs.declared.layout.ScriptLayout.{ScriptLayout}
 use Rattle.arc_script.specs.Script.{AreLines, Answers, IsReplyText, BeginsReplyText}
-use Rattle.arc_script.specs.Script.{BreaksOff, OfWholeLines, ended}
+use Rattle.arc_script.specs.Script.{BreaksOff, OfWholeLines, ended, script_setting}
 use Rattle.arc_forms.specs.Seen.{IsReadAs}
 use Rattle.arc_forms.specs.Seen.{line_command}
-use Rattle.arc_commands.specs.State.{empty_state}
+use Rattle.arc_commands.specs.State.{CarriesOut, empty_state}
+use Rattle.arc_commands.specs.declared.command.Cmd.TheVariants.{Show}
 use Rattle.arc_script.specs.State.{ByteState}
 use Rattle.arc_script.specs.State.{CarriesOutSaid, AnswersLine}
 use Rattle.arc_script.specs.Traffic.{Traffic, Exchanges}
@@ -135,3 +137,15 @@ exchange_whole_as P Q r r' w w' fit = exchange_as (OfWholeLines P) (OfWholeLines
       last = h.last;
       fit = fit (ended h.whole) text h.fit;
     })
+
+-- what was shown in place is what a line said that was read as this
+module _ {C A : Type 0} (layout : ScriptLayout) {s : Setting ℕ} {table : ByteState}
+    {reply : ByteReply} {said : Option (LineCmd C A)} {window i : ℕ} where
+  pub shown_said : s ≡ script_setting layout → said ≡ Some (Show i) → window ≡ i
+      → CarriesOut s table (Show window) reply table
+      → CarriesOutSaid layout table (option_map line_command said) (Some reply) table
+  shown_said is says its does =
+      subst (λ said. CarriesOutSaid layout table (option_map line_command said) (Some reply) table)
+      (sym says)
+      (subst (λ i. CarriesOut (script_setting layout) table (Show i) reply table) its
+      (subst (λ s. CarriesOut s table (Show window) reply table) is does))
