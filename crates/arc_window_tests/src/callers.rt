@@ -35,7 +35,7 @@ pub struct Growing {
 
 impl Growing {
     /// Bytes whose places are all that they have.
-    pub fn never(bytes: Vec<u8>) -> Growing {
+    pub fn no_room(bytes: Vec<u8>) -> Growing {
         Growing {
             bytes,
             may_grow: false,
@@ -55,7 +55,7 @@ impl Growing {
     }
 
     /// Bytes that get as much room as is asked for.
-    pub fn always(bytes: Vec<u8>) -> Growing {
+    pub fn ample(bytes: Vec<u8>) -> Growing {
         Growing {
             bytes,
             may_grow: true,

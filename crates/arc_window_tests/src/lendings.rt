@@ -56,7 +56,7 @@ fn over<'a, L: LayoutMut + AnyBufferLayout, B: BufferMut<u8> + Drop>(
 /// that is refused, and the buffer comes back full.
 fn no_room<L: LayoutMut + AnyBufferLayout>(alloc: Global, heap: Heap<'_>) -> Option<bool> {
     let bytes = vector(alloc, 5, &[1, 2, 3])?;
-    let mut window = over::<L, Growing>(heap, Growing::never(bytes), &[1, 2, 3])?;
+    let mut window = over::<L, Growing>(heap, Growing::no_room(bytes), &[1, 2, 3])?;
     let mut coming = 4..8u8;
     let refusal = window.try_extend(&mut coming).err()?;
     let told = (refusal, coming.next());
@@ -84,7 +84,7 @@ fn asked_for<L: LayoutMut + AnyBufferLayout>(
     room: usize,
 ) -> Option<bool> {
     let bytes = vector(alloc, 100, &[1])?;
-    let mut window = over::<L, Growing>(heap, Growing::always(bytes), &[1])?;
+    let mut window = over::<L, Growing>(heap, Growing::ample(bytes), &[1])?;
     window.try_extend_from_slice(&[2, 3]).ok()?;
     window.try_reserve(room).ok()?;
     window.try_push(4).ok()?;

@@ -14,7 +14,7 @@ type Over<B, M = ()> = ArcBytesMut<DefaultLayoutMut, B, M>;
 /// is there then.
 fn formatted_without_room(alloc: Global, first: &str, second: &str) -> Option<[bool; 2]> {
     let bytes = vector(alloc, 2, &[])?;
-    let mut window = Over::<Growing>::try_from_buffer(alloc, Growing::never(bytes)).ok()?;
+    let mut window = Over::<Growing>::try_from_buffer(alloc, Growing::no_room(bytes)).ok()?;
     let is_written = write!(window, "{first}{second}").is_ok();
     Some([is_written, window.as_slice() == first.as_bytes()])
 }
