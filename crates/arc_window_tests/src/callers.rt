@@ -22,7 +22,7 @@ pub fn vector(alloc: Global, places: usize, bytes: &[u8]) -> Option<Vec<u8>> {
     Some(vector)
 }
 
-/// Bytes that get more places as they will, and tell whether they were asked for some.
+/// Bytes that get more places as they will.
 #[derive(Drop)]
 pub struct Growing {
     pub bytes: Vec<u8>,
@@ -30,6 +30,7 @@ pub struct Growing {
     pub may_grow: bool,
     /// Whether the next request is refused for want of memory.
     pub is_late: bool,
+    /// Whether there was a request, where they may get more.
     pub asked: bool,
 }
 

@@ -135,7 +135,7 @@ fn written_with_a_pass(rt: HostRuntime) -> Result<(), Fail> {
     Ok(())
 }
 
-/// Two bytes, as those of one of several writers, and a pass of their block.
+/// Two bytes, as those of one of several writers.
 fn shared(alloc: Global) -> Option<ArcBytesShared> {
     ArcBytesMut::<DefaultLayoutMut>::try_from_slice(alloc, &[1, 2])
         .ok()?
