@@ -54,16 +54,6 @@ module _ {T B M A : Type 0} where
 module _ {T B M A : Type 0} (list : B → List T) (places : B → ℕ) (drops : Bool) (o : Owner)
     (content : Content T B M A) (b : BlockView T M)
     (held : held_in list places drops o content ≡ b) where
-  -- is of the block's sort
-  pub kept_sort : content_sort content ≡ b.facts.sort
-  kept_sort =
-      sym (sort_told list places drops content) ∙ ap (λ (x : BlockView T M). x.facts.sort) held
-
-  -- and has its items, as a vector
-  pub kept_items : (v : Vec T A) → IsVecOf content v → v.items ≡ b.items
-  kept_items v of =
-      ap (λ (x : BlockView T M). x.items) (vector_held list places drops o content v of ∙ held)
-
   pub kept_places : (v : Vec T A) → IsVecOf content v → vec_capacity v ≡ b.facts.size
   kept_places v of =
       ap (λ (x : BlockView T M). x.facts.size) (vector_held list places drops o content v of ∙ held)

@@ -1,5 +1,5 @@
 -- What a native block keeps, for readers of the same places.
-use Rattle.std.proofs.Common.{◌≡◌, ℕ, ◌-◌, Bool, true, false, List, refl, sym, ap, ◌∙◌, subst}
+use Rattle.std.proofs.Common.{◌≡◌, ℕ, ◌-◌, Bool, true, false, List, sym, ap, ◌∙◌, subst}
 use Rattle.std.proofs.lemmas.Bool.{false≢true}
 use Rattle.arc_owners.specs.count.Calls.{Owner}
 use Rattle.arc_memory.specs.declared.frozen_places.FrozenPlaces.{FrozenPlaces}
@@ -14,7 +14,6 @@ use Rattle.arc_memory.specs.declared.kept_items.KeptItems.{KeptItems}
 use Rattle.arc_memory.specs.declared.kept_places.KeptPlaces.{KeptPlaces}
 use Rattle.arc_memory.specs.declared.writer_memory.WriterMemory.{WriterMemory}
 use Rattle.arc_buffer.specs.Slice.{sub}
-use Rattle.arc_block.specs.Block.{full_places}
 use Rattle.arc_block.specs.Natives.{NativeView, IsKeptFor, IsLaidFor, native_over, native_view}
 use Rattle.arc_block.specs.Natives.{native_taken, range_seen}
 
@@ -71,11 +70,6 @@ module _ {T A : Type 0} (drops : Bool) (range : FrozenPlaces T) where
 
 module _ {T A : Type 0} (o : Owner) (range : FrozenPlaces T) (memory : WriterMemory T A)
     (start end : ℕ) where
-  counted-alike : (drops : Bool) → drops ≡ false → (m n : ℕ) → full_places drops m ≡ full_places
-      drops n
-  counted-alike true is m n = absurd (false≢true (sym is))
-  counted-alike false is m n = refl
-
   -- The memory of a block whose items need no drop has those that were taken.
   pub places_taken : (drops : Bool) → drops ≡ false → (kept : KeptPlaces T A)
       → kept.inheritance.memory ≡ range.memory

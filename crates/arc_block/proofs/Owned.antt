@@ -1,32 +1,29 @@
 -- What each call does to the windows and the passes of their blocks, which keep belonging together.
-use Rattle.std.proofs.Common.{inl, inr, ◌≡◌, ℕ, ◌<◌, ◌≤◌, ◌==◌, Bool, true, List, [], ◌∷◌, ◌++◌}
+use Rattle.std.proofs.Common.{inl, inr, ◌≡◌, ℕ, ◌≤◌, Bool, true, List, [], ◌∷◌, ◌++◌}
 use Rattle.std.proofs.Common.{length, Some, None, slice_get, slice_set, refl, sym, ◌∙◌, ap, subst}
 use Rattle.std.proofs.Common.{arith, append-nil}
 use Rattle.std.specs.List.{cons_option}
 use Rattle.std.specs.List.Sorted.{IsPermutation}
-use Rattle.std.proofs.lemmas.Bool.{cases_Bool, cases_eq, eq-eqb, ne_eqb, false≢true}
+use Rattle.std.proofs.lemmas.Bool.{cases_eq, eq-eqb, ne_eqb}
 use Rattle.std.proofs.lemmas.Option.{none-some, same_Some, slice_get_cases, slice_get_within}
 use Rattle.std.proofs.lemmas.List.Elements.{filter_map-append}
 use Rattle.std.proofs.lemmas.List.Sorted.{IsPermutation-append_left, IsPermutation-trans}
-use Rattle.std.proofs.lemmas.List.Sorted.{length_permutation, list_any-IsPermutation}
 use Rattle.arc_owners.specs.declared.history.entry.Entry.{Entry}
 use Rattle.arc_owners.specs.declared.count.tokens.Pass.{Pass}
 use Rattle.arc_owners.specs.count.Invariant.{Line, BlockId, entries_of}
-use Rattle.arc_owners.specs.history.Histories.{Beginning, is_in, live_owners, owners_ever}
+use Rattle.arc_owners.specs.history.Histories.{Beginning, live_owners, owners_ever}
 use Rattle.arc_owners.specs.history.Histories.{owners_ended}
 use Rattle.arc_owners.specs.count.Calls.{Owner, Appends, IsSamePass, IsFirst, IsPassFor}
 use Rattle.arc_owners.specs.count.Calls.{IsFreshPass, Asks, FindsFull, MakesAnother, Leaves, seen}
 use Rattle.arc_owners.proofs.Numbers.{times}
-use Rattle.arc_owners.proofs.Steps.{one_is}
 use Rattle.arc_owners.proofs.Told.{Owned}
-use Rattle.arc_owners.proofs.Wholes.{room-made, seen-more, same-asked, same-full, same-made}
+use Rattle.arc_owners.proofs.Wholes.{seen-more, same-asked, same-full, same-made}
 use Rattle.arc_owners.proofs.Wholes.{same-left, lives-asked, lives-full, lives-made, lives-left}
-use Rattle.arc_owners.proofs.Wholes.{found-exact, full-exact, before-is, owned-before}
+use Rattle.arc_owners.proofs.Wholes.{before-is, owned-before}
 use Rattle.arc_block.specs.Owned.{Stand, number_on, owners_on, IsBlockPass, HasPass, IsKept}
 use Rattle.arc_block.proofs.Lists.{get-push, get-front, push-cases, get-set, get-set_other}
 use Rattle.arc_block.proofs.Lists.{set-cases, filter_map-none, filter_map-set, filter_map-gone}
-use Rattle.arc_block.proofs.Lists.{filter_map-in}
-use Rattle.arc_block.proofs.Permutations.{permuted-same, permuted-then, then-permuted, nil-permuted}
+use Rattle.arc_block.proofs.Permutations.{permuted-same, permuted-then, then-permuted}
 use Rattle.arc_block.proofs.Permutations.{filter_map-turned, times-permuted, without-permuted}
 
 -- whose number is counted on a block: the owners there, and no others
@@ -122,14 +119,6 @@ module _ {H : Type 0} where
             ap (λ (t : BlockId). t.most) for.1 ∙ most;
       }
 
-  pub kept-none : {g : ℕ} → IsKept {H = H} g [] []
-  kept-none = record {
-    known = λ i n o here. absurd (none-some _ here);
-    passes_fit =
-        λ n p here. absurd (none-some p here);
-    live = λ n p here. absurd (none-some p here);
-  }
-
   pub kept-nowhere : {g : ℕ} {stands : List Stand} {passes : List (Pass H)} → IsKept g stands passes
       → IsKept g (stands ++ None ∷ []) passes
   kept-nowhere {stands = stands} {passes = passes} k = record {
@@ -216,21 +205,6 @@ module _ {H : Type 0} where
       kept-front (slice_set stands i st) (kept-turned stands i None st (kept-new p k first fresh)
       there)
 
-  -- a window that goes under a new number, and where it stood nothing stands: no history changes
-  pub kept-moved : {g : ℕ} {stands : List Stand} {passes : List (Pass H)} {o : Owner} (i n : ℕ)
-      → IsKept g stands passes → slice_get stands i ≡ Some (Some (n, o))
-      → IsKept g (slice_set stands i None ++ Some (n, o) ∷ []) passes
-  kept-moved {stands = stands} {o = o} i n k there =
-      kept-turned stands i (Some (n, o)) None (kept-nowhere k) there
-
-  -- where no window is left, no block has a live owner
-  pub all-ended : {g : ℕ} {stands : List Stand} {passes : List (Pass H)} (n : ℕ) (p : Pass H)
-      → IsKept g stands passes → ((i : ℕ) (s : ℕ × Owner) → ¬ (slice_get stands i ≡ Some (Some s)))
-      → slice_get passes n ≡ Some p → live_owners (seen p) ≡ []
-  all-ended {stands = stands} n p k none here =
-      nil-permuted (permuted-then (k.live n p here)
-      (no-owners n stands (λ i m o there _. none i (m, o) there)))
-
 module _ {H : Type 0} {g : ℕ} {stands : List Stand} {passes : List (Pass H)} {o : Owner}
     {old : Pass H} (i n : ℕ) (k : IsKept g stands passes)
     (there : slice_get stands i ≡ Some (Some (n, o))) (was : slice_get passes n ≡ Some old) where
@@ -246,17 +220,6 @@ module _ {H : Type 0} {g : ℕ} {stands : List Stand} {passes : List (Pass H)} {
 
   lived : IsPermutation (live_owners (seen old)) (owners_on n stands)
   lived = k.live n old was
-
-  -- the window is one of those that stand on its block
-  lives-here : is_in o.number (live_owners (seen old)) ≡ true
-  lives-here = list_any-IsPermutation (λ m. m == o.number) _ _ lived
-      ∙ filter_map-in (number_on n) stands i (Some (n, o)) o.number there (number_here n o)
-
-  many-here : length (owners_on n stands) ≡ length (live_owners (seen old))
-  many-here = length_permutation _ _ lived
-
-  alone_if_one : length (owners_on n stands) ≡ 1 → live_owners (seen old) ≡ o.number ∷ []
-  alone_if_one one = one_is (live_owners (seen old)) o.number lives-here (sym many-here ∙ one)
 
   -- the other passes, and the windows on the other blocks, are as they were
   kept-after : (new : Pass H) (after : List Stand) → IsSamePass o.block old new
@@ -314,12 +277,6 @@ module _ {H : Type 0} {g : ℕ} {stands : List Stand} {passes : List (Pass H)} {
       (sym (owners-pushed n stands other))))
       (λ m apart. owners-pushed_other m stands (Some (n, other)) (number_other m n other apart))
 
-  -- the new owner stands where the old one stood, which goes under a new number
-  pub kept-shared-at : {new : Pass H} {other : Owner} → MakesAnother o old new other
-      → IsKept g (slice_set stands i (Some (n, other)) ++ Some (n, o) ∷ []) (slice_set passes n new)
-  kept-shared-at {other = other} makes =
-      kept-turned stands i (Some (n, o)) (Some (n, other)) (kept-shared makes) there
-
   -- each owner stands once
   owned : Owned (seen old) → times o.number (owners_on n stands) ≤ 1
   owned once = subst (λ m. m ≤ 1) (times-permuted o.number lived) (once.once o.number)
@@ -337,22 +294,6 @@ module _ {H : Type 0} {g : ℕ} {stands : List Stand} {passes : List (Pass H)} {
       (λ m apart. filter_map-set (number_on m) stands i (Some (n, o)) None there
       (sym (number_other m n o apart)))
 
-  -- uniqueness is found exactly where one window stands on the block
-  pub alone-exact : {new : Pass H} {found : Bool} → Asks o old new found
-      → found ≡ (length (owners_on n stands) == 1)
-  alone-exact {found = found} asks = let exact = found-exact is-whole asks in
-      elim (cases_Bool found) [
-        | inl sole ↦ sole
-            ∙ sym (eq-eqb (length (owners_on n stands)) 1 (many-here ∙ ap length (exact.0 sole)))
-        | inr shared ↦ shared
-            ∙ sym (ne_eqb (length (owners_on n stands)) 1
-            (λ one. false≢true (sym shared ∙ exact.1 (alone_if_one one))))
-      ]
-
-  -- where the count is found full, as many windows stand on the block as it may have owners
-  pub full-here : {new : Pass H} → FindsFull o old new → length (owners_on n stands) ≡ g
-  full-here full = many-here ∙ full-exact is-whole full ∙ is-most
-
   -- a call that adds nothing
   pub kept-same : {new : Pass H} {before : List Line} → Appends o.block old new before []
       → IsKept g stands (slice_set passes n new)
@@ -360,12 +301,3 @@ module _ {H : Type 0} {g : ℕ} {stands : List Stand} {passes : List (Pass H)} {
       kept-after new stands a.same k.known
       (then-permuted (ap live_owners (seen-more a is-whole ∙ append-nil (seen old))) lived)
       (λ m apart. refl)
-
-  -- where an owner more is made, fewer windows stand on the block than it may have owners
-  pub room-here : {new : Pass H} {other : Owner} → 2 ≤ g → MakesAnother o old new other
-      → length (owners_on n stands) < g
-  room-here two makes =
-      let most = is-most in
-      let room = room-made is-whole (subst (λ m. 2 ≤ m) (sym most) two) makes in
-      subst (λ m. length (owners_on n stands) < m) most
-      (subst (λ m. m < o.block.most) (sym many-here) room)

@@ -5,14 +5,13 @@ use Rattle.std.proofs.Common.{sym, ◌∙◌, ap, subst, arith, append-nil, appe
 use Rattle.std.specs.List.{cons_option}
 use Rattle.std.specs.List.Sorted.{IsPermutation}
 use Rattle.std.proofs.lemmas.Bool.{cases_Bool, eqb-true, eq-eqb}
-use Rattle.std.proofs.lemmas.List.{nil_from_length}
 use Rattle.std.proofs.lemmas.List.Elements.{filter_map-append}
 use Rattle.std.proofs.lemmas.List.Sums.{length-filter}
 use Rattle.std.proofs.lemmas.List.Sorted.{IsPermutation-refl, IsPermutation-sym}
 use Rattle.std.proofs.lemmas.List.Sorted.{IsPermutation-trans, IsPermutation-cons}
 use Rattle.std.proofs.lemmas.List.Sorted.{IsPermutation-middle, IsPermutation-to_front}
 use Rattle.std.proofs.lemmas.List.Sorted.{IsPermutation-append_left, IsPermutation-append_right}
-use Rattle.std.proofs.lemmas.List.Sorted.{IsPermutation-append_comm, length_permutation}
+use Rattle.std.proofs.lemmas.List.Sorted.{IsPermutation-append_comm}
 use Rattle.std.proofs.lemmas.List.Sorted.{sum_by-IsPermutation}
 use Rattle.arc_owners.specs.history.Machine.{without_number}
 use Rattle.arc_owners.proofs.Numbers.{times, times-append, filter-filter}
@@ -33,9 +32,6 @@ module _ {X : Type 0} where
       → length (filter p xs) ≡ length (filter p ys)
   filtered-permuted p {xs = xs} {ys = ys} same =
       length-filter p xs ∙ sym (sum_by-IsPermutation _ xs ys same) ∙ sym (length-filter p ys)
-
-  pub nil-permuted : {xs : List X} → IsPermutation xs [] → xs ≡ []
-  nil-permuted {xs = xs} p = nil_from_length xs (sym (length_permutation xs [] p))
 
   -- what is made of one element goes to the end
   to_end : (xs ys : List X) (o : Option X) → IsPermutation (xs ++ cons_option o ys)

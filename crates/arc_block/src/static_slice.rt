@@ -198,15 +198,6 @@ impl<T: 'static> StaticSlice<T> {
     {
         self.as_static()
     }
-
-    /// The items from `start` to before `end`, for good: also after this value is gone.
-    #[inline(always)]
-    pub fn range_static(&self, start: usize, end: usize) -> &'static [T]
-        requires { (start ≤ end) × (end ≤ length self.now) }
-        ensures { result.now ≡ sub self.now start end }
-    {
-        self.part(start, end).into_static()
-    }
 }
 
 impl<T> StaticSlice<T> {

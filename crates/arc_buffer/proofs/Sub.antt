@@ -4,7 +4,6 @@ use Rattle.std.proofs.Common.{arith, length-drop}
 use Rattle.std.proofs.lemmas.List.{drop-take, drop-drop, take-take, length-take-le}
 use Rattle.std.proofs.Math.Seq.{take-length}
 use Rattle.arc_buffer.specs.Slice.{sub}
-use Rattle.arc_buffer.specs.Laws.{sub-slice_range}
 
 -- a part of a part is a part
 pub sub-sub : {T : Type 0} (xs : List T) (from to start end : ℕ) → from + end ≤ to
@@ -17,11 +16,6 @@ sub-sub xs from to start end within =
 -- all of a list is a part of it
 pub sub-whole : {T : Type 0} (xs : List T) → sub xs 0 (length xs) ≡ xs
 sub-whole xs = take-length xs
-
--- an empty part
-pub sub-empty : {T : Type 0} (xs : List T) (at : ℕ) → sub xs at at ≡ []
-sub-empty xs at = let h : at - at ≡ 0 = omega arith in sub-slice_range xs at at (omega arith)
-    ∙ ap (λ n. take n (drop at xs)) h
 
 -- how long a part is
 pub length-sub : {T : Type 0} (xs : List T) (start end : ℕ) → start ≤ end → end ≤ length xs

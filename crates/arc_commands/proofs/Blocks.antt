@@ -333,15 +333,6 @@ module _ {T M : Type 0} where
                 ∙ b.writes writes)),
           )
 
-      as-is : (j : ℕ) (other : Row T M) → slice_get t.rows j ≡ Some (Some other)
-          → Stood t.rows j other
-      as-is j other at = record {
-        row = other;
-        there = at;
-        on = λ block on. on;
-        writes = λ writes. writes;
-      }
-
       one-part : (i : ℕ) (row part : Row T M) → row_at t i ≡ Some row → IsPart row part
           → (new : Row T M) → Some part ≡ Some new → Stood t.rows i new
       one-part i row part at is new same =

@@ -23,7 +23,7 @@ use Rattle.arc_commands.specs.Blocks.{is_several, is_small, is_sole, is_writer}
 use Rattle.arc_commands.specs.Fits.{LieWithin, EndsAt, HasPlaces, HasSharedPlaces, FitsBeside}
 use Rattle.arc_commands.specs.Fits.{RowFits, counts_full}
 use Rattle.arc_commands.proofs.Roles.{reads-sole, reads-several, sole-small}
-use Rattle.arc_commands.specs.Changes.{Setting, part_of, cut_row, off_part, to_part, truncated}
+use Rattle.arc_commands.specs.Changes.{Setting, part_of, cut_row, truncated}
 use Rattle.arc_commands.specs.Changes.{buffer_row, written_buffer_row, raw_row}
 
 -- ---- ranges that were tested
@@ -473,23 +473,3 @@ module _ {T M : Type 0} (setting : Setting T) (row : Row T M) (reads : is_writer
       → RowFits setting.drops (cut_row row start end)
   cut-fits start end ordered within =
       reads-fit setting.drops (cut_row row start end) reads (lies start end ordered within)
-
-  one-fits : (b : Bool) (one other : Row T M) → RowFits setting.drops one
-      → RowFits setting.drops other → RowFits setting.drops (if b then one else other)
-  one-fits true one other h k = h
-  one-fits false one other h k = k
-
-  pub off-fits : (at : ℕ) → at ≤ length row.items
-      → RowFits setting.drops (off_part setting.layout.has_static row at)
-  off-fits at within =
-      one-fits (at == 0) (part_of setting.layout.has_static row 0 0)
-      (part_of setting.layout.has_static row at (length row.items))
-      (part-fits 0 0 (omega arith) (omega arith))
-      (part-fits at (length row.items) within (omega arith))
-
-  pub to-fits : (at : ℕ) → at ≤ length row.items
-      → RowFits setting.drops (to_part setting.layout.has_static row at)
-  to-fits at within =
-      one-fits (at == length row.items) (part_of setting.layout.has_static row at at)
-      (part_of setting.layout.has_static row 0 at)
-      (part-fits at at (omega arith) within) (part-fits 0 at (omega arith) within)

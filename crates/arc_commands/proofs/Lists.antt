@@ -1,36 +1,14 @@
 -- Elements of lists, at their places.
-use Rattle.std.proofs.Common.{inl, inr, ◌⊎◌, ◌≡◌, ℕ, ◌+◌, ◌<◌, ◌≤◌, zero, suc, List, [], ◌∷◌, ◌++◌}
+use Rattle.std.proofs.Common.{inl, inr, ◌⊎◌, ◌≡◌, ℕ, ◌+◌, ◌<◌, ◌≤◌, zero, suc, List, [], ◌∷◌}
 use Rattle.std.proofs.Common.{length, true, false, Result, Ok, Err}
-use Rattle.std.proofs.Common.{Option, Some, None, slice_get, slice_set, slice_index_or, refl, sym}
+use Rattle.std.proofs.Common.{Option, Some, None, slice_get, slice_set, refl, sym}
 use Rattle.std.proofs.Common.{ap}
 use Rattle.std.proofs.Common.{◌∙◌, subst, arith}
 use Rattle.std.specs.Option.{option_flatten}
 use Rattle.std.proofs.lemmas.Bool.{cases_eq, false≢true}
-use Rattle.std.specs.Result.{is_err, OnOk, OnErr}
-use Rattle.std.proofs.lemmas.Option.{none-some, same_Some, slice_get_cases, slice_get_read}
-use Rattle.std.proofs.lemmas.Option.{slice_get_within}
+use Rattle.std.specs.Result.{is_err, OnErr}
+use Rattle.std.proofs.lemmas.Option.{none-some, same_Some, slice_get_cases}
 use Rattle.arc_block.proofs.Lists.{get-set_other}
-
--- a list that is the same as one that is the same as another has the same elements
-pub slice_in : {X : Type 0} (read kept xs : List X) (i : ℕ) (x : X) → read ≡ kept → kept ≡ xs
-    → slice_get read i ≡ Some x → slice_get xs i ≡ Some x
-slice_in read kept xs i x one two here = ap (λ ys. slice_get ys i) (sym (one ∙ two)) ∙ here
-
--- what is read at a place that is there stands there
-pub read-there : {X : Type 0} (xs : List X) (i : ℕ) (x y : X) → slice_get xs i ≡ Some y
-    → x ≡ slice_index_or xs i x → slice_get xs i ≡ Some x
-read-there xs i x y here read =
-    slice_get_read xs (length xs) i x refl (slice_get_within xs i y here) read
-
--- the same place shows one window
-pub same_entry : {X : Type 0} (xs : List (Option X)) (i : ℕ) (x y : X)
-    → slice_get xs i ≡ Some (Some x) → slice_get xs i ≡ Some (Some y) → x ≡ y
-same_entry xs i x y one two = same_Some x y (same_Some (Some x) (Some y) (sym one ∙ two))
-
--- one element more, behind the same ones
-pub behind : {X : Type 0} {after read : List X} (xs : List X) (x : X) → after ≡ read ++ x ∷ []
-    → read ≡ xs → after ≡ xs ++ x ∷ []
-behind xs x one same = one ∙ ap (λ ys. ys ++ x ∷ []) same
 
 cleared : {X : Type 0} (xs : List (Option X)) (i : ℕ)
     → option_flatten (slice_get (slice_set xs i None) i) ≡ None
@@ -60,11 +38,6 @@ all-gone xs n long below j =
       | inl there ↦ below j (omega (arith, long, there.1))
       | inr past ↦ ap option_flatten past.1
     ]
-
--- what holds of success holds where there is no error
-pub no_error : {X E P : Type 0} (r : Result X E) → is_err r ≡ false → OnOk r P → P
-no_error (Ok x) fine p = p
-no_error (Err e) fine p = absurd (false≢true (sym fine))
 
 -- and what holds of an error where there is one
 pub an_error : {X E P : Type 0} (r : Result X E) → is_err r ≡ true → OnErr r P → P

@@ -83,10 +83,6 @@ pub writes-with : (role : Role) (places : ℕ) → is_writer (with_capacity role
     role
 writes-with role places = (same-with role places).1
 
-pub writes-either : (b : Bool) (role other : Role) → is_writer other ≡ is_writer role
-    → is_writer (if b then other else role) ≡ is_writer role
-writes-either = same-either is_writer
-
 -- Two parts of a row that isn't a sole writer's: of a writer's they share no place.
 pub record Parts {T M : Type 0} (drops : Bool) (row one other : Row T M) : Type 0 where
   pub shares : is_sole row.role ≡ false

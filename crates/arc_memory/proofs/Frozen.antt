@@ -52,9 +52,6 @@ module _ (E : El) {M : Type 1} {𝓤 : Ura M} (𝓛 : Logic 𝓤) (b a : ℕ) wh
   abbrev Place : SemTy
   Place = record { rep = Held (R E); coded = held_code (R E); size = s; own_at = holds (R E) }
 
-  abbrev Settled : List GName → List (el_x E) → Fml
-  Settled gs xs = each_name (R E) (settles (R E)) gs (contents (length xs) xs)
-
   module _ (q : Share) (τ : Lft) (p : Share) (inc : Incl τ E.row.lives) where
     abbrev ts : Toks
     ts = (α, q) ∷ (τ, p) ∷ []

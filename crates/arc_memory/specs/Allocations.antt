@@ -4,8 +4,6 @@ use Rattle.arc_memory.specs.Memory.{Extent}
 use Rattle.arc_memory.specs.LentMemory.{LentMemory}
 use Rattle.arc_memory.specs.declared.places.Places.{Places}
 use Rattle.arc_memory.specs.declared.lodging.Lodging.{Lodging}
-use Rattle.arc_memory.specs.declared.lent_places.LentPlaces.{LentPlaces}
-use Rattle.arc_memory.specs.declared.lent_places.PlacesInheritance.{PlacesInheritance}
 
 module _ {T : Type 0} where
   -- both lie in the same allocation
@@ -19,15 +17,6 @@ module _ {T : Type 0} where
   -- they lie in the memory that was lent
   abbrev pub IsPartOfLent : LentMemory → Places T → Type 0
   IsPartOfLent m p = (p.base ≡ m.base) × (p.whole ≡ m.whole)
-
-  -- what comes back is all the places of this allocation
-  abbrev pub IsInheritanceOf : {A : Type 0} → PlacesInheritance T → Extent A → Type 0
-  IsInheritanceOf k e = (k.memory.base ≡ e.base) × (k.memory.whole ≡ e.count) × (k.start ≡ 0)
-      × (k.count ≡ e.count)
-
-  -- the part is all the places that come back
-  abbrev pub IsAllLent : LentPlaces T → PlacesInheritance T → Type 0
-  IsAllLent p k = (p.memory ≡ k.memory) × (p.start ≡ k.start) × (p.count ≡ k.count)
 
   -- these places lie under what lodges there
   abbrev pub LieUnder : Lodging T → Places T → Type 0

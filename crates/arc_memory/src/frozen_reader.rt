@@ -14,7 +14,6 @@ use arc_owners::lifetime::{EndedLifetime, LifetimeToken};
 use arc_owners::mark::Mark;
 use arc_owners::owners::{CountedBox, Header, HeaderRoom, Pass, SoleBox};
 use std::alloc::Allocator;
-use std::sync::Wait;
 use std_alloc::vec::Lodged;
 
 /// An owner of a block, and a range of items in the memory that is lent for the lease of the
@@ -126,44 +125,6 @@ impl<T, V: Drop, A: Allocator + Copy, const MAX: u64, H: Mark> FrozenReader<T, V
             })),
             Some(Err(e)) => Some(Err(e)),
             None => None,
-        }
-    }
-
-    /// Another reader of the places from `start` on and before `end` of the allocation: one owner
-    /// more of the same block. Takes no memory, and copies nothing.
-    ///
-    /// # Errors
-    ///
-    /// `CountFull` exactly where `MAX` owners live.
-    ///
-    /// # History
-    ///
-    /// Up, or Full where refused.
-    pub fn try_part_as(
-        &self,
-        rt: &impl Wait,
-        start: usize,
-        end: usize,
-        pass: &mut Pass<H>,
-    ) -> Result<Self, CountFull>
-        requires pass { IsPassFor (owner_in self.now.owner) pass.old }
-        requires range { (self.now.range.start ≤ start) × (start ≤ end)
-            × (end ≤ self.now.range.start + length self.now.range.items) }
-        ensures made { IfOk result (λ r. MakesAnother (owner_in self.now.owner) pass.old pass.new
-            (owner_in r.owner) × (value_of r.owner ≡ value_of self.now.owner)) }
-        ensures place { IfOk result (λ r. place_in r.owner ≡ place_in self.now.owner) }
-        ensures range { IfOk result (λ r. (r.range.memory ≡ self.now.range.memory)
-            × (r.range.start ≡ start)) }
-        ensures items { IfOk result (λ r. r.range.items ≡ drop (start - self.now.range.start)
-            (take (end - self.now.range.start) self.now.range.items)) }
-        ensures full { IfErr result (λ _. FindsFull (owner_in self.now.owner) pass.old pass.new) }
-    {
-        match self.owner.try_clone_as(rt, pass) {
-            Ok(owner) => Ok(FrozenReader {
-                owner,
-                range: self.range.part(start, end),
-            }),
-            Err(e) => Err(e),
         }
     }
 

@@ -303,34 +303,6 @@ impl<T> PlacesInheritance<T> {
 impl<T> PlacesInheritance<T> {
     ghost use Rattle.arc_memory.specs.Allocations.{IsPartOfLent};
 
-    /// All the places as one, with the items of a part that begins where they do.
-    pub fn regain_whole(self, ended: EndedLifetime, part: LentPlaces<T>) -> Places<T>
-        requires ended { ended.lifetime ≡ self.memory.lifetime }
-        requires part { (part.memory ≡ self.memory) × (part.start ≡ self.start) }
-        ensures memory { IsPartOfLent self.memory result }
-        ensures places { (result.start ≡ self.start) × (result.count ≡ self.count)
-            × (result.items ≡ part.items) }
-    {
-        let (before, own, behind) = self.regain(ended, part);
-        before.join(own).join(behind)
-    }
-
-    /// All the places as one, with the items of a frozen range that begins where they do.
-    pub fn regain_frozen_whole(self, ended: EndedLifetime, range: &FrozenPlaces<T>) -> Places<T>
-        requires ended { ended.lifetime ≡ self.memory.lifetime }
-        requires range { (range.now.memory ≡ self.memory) × (range.now.start ≡ self.start) }
-        ensures memory { IsPartOfLent self.memory result }
-        ensures places { (result.start ≡ self.start) × (result.count ≡ self.count)
-            × (result.items ≡ range.now.items) }
-    {
-        let (front, items, back) = self.regain_frozen(ended, range);
-        front.join(items).join(back)
-    }
-}
-
-impl<T> PlacesInheritance<T> {
-    ghost use Rattle.arc_memory.specs.Allocations.{IsPartOfLent};
-
     /// All the places as one, answered as empty, once the lifetime has ended: what lies in them, of
     /// parts that were not given up, is forgotten.
     pub fn regain_empty(self, ended: EndedLifetime) -> Places<T>

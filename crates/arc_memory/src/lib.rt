@@ -4,12 +4,11 @@
 //! `take_apart` makes both of a vector, and `put_together` the vector again. Places can be cut and
 //! joined, edited by a vector that lodges in them (`Lodging`), and lent for a lifetime to several
 //! writers (`LentPlaces`), who may freeze their items for readers (`FrozenPlaces`). Memory that is
-//! lent whole can be the value of a counted box (`LentAllocation`). Memory that is lent for the
-//! lease of a block's owners has several writers (`WriterPart`) and readers (`FrozenReader`), and
-//! leaves in the counted box what is kept for its end (`Kept`). Memory of our own is one piece
-//! (`Piece`): in front the room for a header, in which that box lies, and behind it the places. It
-//! is one writer's (`WriterMemory`), who lends its places and has them back, and moves no item for
-//! it.
+//! lent for the lease of a block's owners has several writers (`WriterPart`) and readers
+//! (`FrozenReader`), and leaves in the counted box what is kept for its end (`Kept`). Memory of our
+//! own is one piece (`Piece`): in front the room for a header, in which that box lies, and behind it
+//! the places. It is one writer's (`WriterMemory`), who lends its places and has them back, and
+//! moves no item for it.
 #![tactic(auto)]
 
 pub use allocation::{Allocation, put_together, take_apart};
@@ -21,7 +20,6 @@ pub use head_size::HeadSize;
 pub use kept::Kept;
 pub use kept_items::KeptItems;
 pub use kept_places::KeptPlaces;
-pub use lent_allocation::LentAllocation;
 pub use lent_places::{LentPlaces, OpenPlaces, PlacesInheritance};
 pub use lodging::Lodging;
 pub use native::Native;
@@ -44,7 +42,6 @@ mod header_block;
 mod kept;
 mod kept_items;
 mod kept_places;
-mod lent_allocation;
 mod lent_places;
 mod lodging;
 mod native;

@@ -3,5 +3,4 @@ pub mod Windows
 pub mod Raws
 pub mod Held
 pub mod Attempts
-pub mod Moves
 pub mod More

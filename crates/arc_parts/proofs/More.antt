@@ -1,12 +1,12 @@
 -- Items written behind others, one after the other.
-use Rattle.std.proofs.Common.{◌≡◌, ◌++◌, ◌∷◌, [], ℕ, ◌+◌, ◌-◌, ◌≤◌, ◌<◌, List, take}
-use Rattle.std.proofs.Common.{length, Option, Some, None, refl, sym, ap, ◌∙◌, arith}
+use Rattle.std.proofs.Common.{◌≡◌, ◌++◌, [], ℕ, ◌+◌, ◌-◌, List}
+use Rattle.std.proofs.Common.{length, Option, Some, None, refl, sym, ap, arith}
 use Rattle.std.proofs.Common.{append_assoc}
-use Rattle.std.proofs.lemmas.List.{length-append, append-nil, length-take-le}
+use Rattle.std.proofs.lemmas.List.{length-append, append-nil}
 use Rattle.std.specs.Option.{option_map}
 use Rattle.arc_block.specs.Place.{Place, nowhere, static_data, on_block}
 use Rattle.arc_block.specs.Table.{RowOf}
-use Rattle.arc_parts.specs.Writers.{with_full, with_more, capacity_of}
+use Rattle.arc_parts.specs.Writers.{with_full, with_more}
 
 more_full : (at next a b n : ℕ) → next ≡ at + a → a + b ≡ n → (full : Option ℕ)
     → option_map (λ f. f + (b - (f - next))) (option_map (λ f. f + (a - (f - at))) full)
@@ -53,28 +53,3 @@ module _ {N T M : Type 0} where
     items = append-nil w.items i;
     place = full_same (length w.items) w.place i;
   }
-
-  -- one of the items more, where the first ones stand there already
-  pub more_next : (xs : List T) (k : ℕ) (x : T) (w v : RowOf N T M)
-      → v ≡ with_more (take k xs) w → take (k + 1) xs ≡ take k xs ++ x ∷ []
-      → with_more (x ∷ []) v ≡ with_more (take (k + 1) xs) w
-  more_next xs k x w v there next =
-      ap (with_more (x ∷ [])) there ∙ more_twice (take k xs) (x ∷ []) w
-      ∙ ap (λ ys. with_more ys w) (sym next)
-
-  -- and there is a place for it
-  pub more_fits : (xs : List T) (k : ℕ) (w v : RowOf N T M) → v ≡ with_more (take k xs) w
-      → k < length xs → length w.items + length xs ≤ capacity_of w.role
-      → length v.items + 1 ≤ capacity_of v.role
-  more_fits xs k w v there inside room =
-      let long = length-append w.items (take k xs) in
-      let first = length-take-le k xs (omega (arith, inside)) in
-      omega (
-        arith,
-        ap (λ (s : RowOf N T M). length s.items) there,
-        ap (λ (s : RowOf N T M). capacity_of s.role) there,
-        long,
-        first,
-        inside,
-        room,
-      )

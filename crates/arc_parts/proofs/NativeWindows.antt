@@ -110,13 +110,6 @@ module _ {T M : Type 0} (inner : StandsBy T M) (from to : ℕ) (p : PartsView T 
           subst P (ap (λ (v : PartsView T M). v.place) part-seen)
           (b'.owner, makes, ap (λ x. on_block (Some b'.owner) (from + start) (native_info x)) alike)
 
-  -- they are all of the block where the numbers say so
-  pub whole_told : (n : ℕ) → b.size ≡ n → length p.items ≡ n → IsWholeOf n (window_of p)
-  whole_told n places many = record {
-    items = many;
-    block = subst (λ (v : PartsView T M). IsNativeOf n v.place) (sym seen) (refl, places);
-  }
-
   -- and where they are, the block has no more places, of which they are the items
   pub places_told : (n : ℕ) → IsWholeOf n (window_of p) → b.size ≡ n
   places_told n whole = (subst (λ (v : PartsView T M). IsNativeOf n v.place) seen whole.block).1

@@ -22,12 +22,6 @@ use Rattle.arc_parts.specs.Window.{Window, PartsView, StandsBy, NeedsBlock, part
 use Rattle.arc_parts.specs.Window.{window_seen, IsWithin}
 use Rattle.arc_parts.specs.Steps.{Shares, Makes, MakesOfVec, NeedsVecBlock, RefusesTaking}
 
-stays : {M : Type 0} (place : Place (Option Owner) M) → moved 0 place ≡ place
-stays nowhere = refl
-stays static_data = refl
-stays (on_block owner offset facts) = let same : offset + 0 ≡ offset = omega arith in
-    ap (λ n. on_block owner n facts) same
-
 -- the part of a part of a native block, by the numbers of its places
 pub part-of-part : {T : Type 0} (b : NativeView T) (from to start end : ℕ) → b.first ≤ from
     → from + end ≤ to → sub b.items ((from + start) - b.first) ((from + end) - b.first)
@@ -92,30 +86,6 @@ module _ {T M : Type 0} where
             fits,
       )
 
-  -- what is left between two ends lies within the block
-  pub kept_within : (inner : StandsBy T M) (from to start end : ℕ) → IsWithin inner from to
-      → start ≤ end → from + end ≤ to → IsWithin inner (from + start) (from + end)
-  kept_within (Nothing none) from to start end within ordered inside = (
-    omega (arith, within.0, within.1, ordered, inside),
-    omega
-        (arith, within.0, within.1, inside),
-  )
-  kept_within (Static items) from to start end within ordered inside =
-      (omega (arith, ordered), omega (arith, inside, within.1))
-  kept_within (Native b) from to start end within ordered inside =
-      let f = within.0.from in let t = within.0.to in (
-        record {
-          from = omega (arith, f);
-          ordered = omega (arith, ordered);
-          to = omega (arith, inside, t);
-        },
-        within.1,
-      )
-  kept_within (Block b) from to start end within ordered inside =
-      (omega (arith, ordered), omega (arith, inside, within.1), within.2)
-  kept_within (Raw items) from to start end within ordered inside =
-      (omega (arith, ordered), omega (arith, inside, within.1))
-
   -- what is seen of parts, between two ends
   abbrev between_ends : ℕ → ℕ → PartsView T M → PartsView T M
   between_ends start end v = record {
@@ -173,19 +143,6 @@ module _ {T M : Type 0} where
       (ap (λ xs. record { items = xs; place = there; role = reader })
       (sym (sub-sub items from to start end inside)))
 
--- the block that another owner stands on: its items and what is known of it are the same
-abbrev reowned : {T M : Type 0} → BlockView T M → Owner → BlockView T M
-reowned b other = record { owner = other; items = b.items; facts = b.facts }
-
-as_reowned : {T M : Type 0} (b b' : BlockView T M) → b'.items ≡ b.items → b'.facts ≡ b.facts
-    → reowned b b'.owner ≡ b'
-as_reowned {T} {M} b b' items facts =
-    let f : List T → BlockView T M = λ xs. record { owner = b'.owner; items = xs; facts = b.facts }
-    in
-    let g : BlockInfo M
-    → BlockView T M = λ x. record { owner = b'.owner; items = b'.items; facts = x } in
-    ap f (sym items) ∙ ap g (sym facts)
-
 -- parts that stand on a block b
 module _ {T M : Type 0} (inner : StandsBy T M) (from to : ℕ) (p : PartsView T M) (b : BlockView T M)
     (view : parts_of (window_seen inner from to) ≡ p) (is : inner ≡ Block b)
@@ -195,10 +152,6 @@ module _ {T M : Type 0} (inner : StandsBy T M) (from to : ℕ) (p : PartsView T 
 
   on_block_seen : p ≡ parts_of (window_seen (Block b) from to)
   on_block_seen = sym view ∙ ap (λ x. parts_of (window_seen x from to)) is
-
-  -- the items are those of the block between the ends
-  pub items_on_block : (items : List T) → items ≡ sub b.items from to → items ≡ p.items
-  items_on_block items read = read ∙ ap (λ (v : PartsView T M). v.items) (sym on_block_seen)
 
   -- there are as many as lie between the ends
   pub between : length p.items ≡ to - from

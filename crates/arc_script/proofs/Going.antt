@@ -125,11 +125,6 @@ module _ {layout : ScriptLayout} {L A W : Type 0} {N : Named.Ghosts L W}
       subst (λ xs. HasRead layout start xs w2 e2) (append_assoc input front more)
       (other start (input ++ front) (one start input read))
 
-  -- it has read nothing more
-  pub reads_nothing : (w : Traffic) (e : Engine L A W N G K) → Reads layout [] w w e e
-  reads_nothing w e start input read =
-      subst (λ xs. HasRead layout start xs w e) (sym (append-nil input)) read
-
   -- it holds more of a line
   pub reads_held : (w : Traffic) (e e1 : Engine L A W N G K) (bytes : List ℕ) → HasNoFeed bytes
       → ((line : List ℕ) → Holds e.line.items e.too_long line

@@ -342,23 +342,6 @@ module _ {layout : ScriptLayout} {start input out held : List ℕ} {writer : Tra
         (still_begun Alloc []))
     last_broken state' (inr does) = answered_lost state' does.0 does.1 input [] last_cut
 
--- at the end of the input nothing is left of a line
-pub all_answered : {layout : ScriptLayout} {start input out : List ℕ} {writer : Traffic}
-    {state : ByteState}
-    → IsUnderway layout start input writer out state [] false → IsAnswered layout start input writer
-    out state
-all_answered {input = input} u = record {
-  text = u.text;
-  taken = u.taken;
-  all = record {
-    lines = u.whole;
-    replies = u.replies;
-    cut = whole_lines u.whole input u.each (u.cut ∙ ap (λ xs. ended u.whole ++ xs) (sym u.holds));
-    run = u.run;
-    written = u.written;
-  };
-}
-
 -- the last replies go out, or a front of them
 pub all_out : {layout : ScriptLayout} {start input out : List ℕ} {writer : Traffic}
     {state : ByteState} (writer' : Traffic)

@@ -38,7 +38,6 @@ use Rattle.arc_commands.specs.declared.command.Cmd.TheVariants as command
 use Rattle.arc_commands.specs.declared.command.Reply.TheVariants as reply
 use Rattle.arc_commands.proofs.Roles.{sole_each, sole-several}
 use Rattle.arc_slots.specs.Answers.{around_in}
-use Rattle.arc_slots.specs.Calls.{Along}
 use Rattle.arc_slots.specs.Slots.{IsSlotRole, SlotView, row_of, stand_of}
 use Rattle.arc_slots.specs.Stands.{numbered, stand_at}
 use Rattle.arc_slots.specs.Writing.{Fills, additional_of, can_write, is_fresh}
@@ -47,12 +46,10 @@ use Rattle.arc_slots.specs.Writing.{write_command}
 use Rattle.arc_slots.specs.declared.slot.Writing.{Writing}
 use Rattle.arc_slots.specs.declared.slot.Writing.TheVariants as writing
 use Rattle.arc_slots.proofs.ByForm.{write-adds, write-none}
-use Rattle.arc_slots.proofs.Added.{Ended, ended-comes, enters-along}
 use Rattle.arc_slots.proofs.Filled.{fresh-stands}
 use Rattle.arc_commands.specs.Changes.{of_growth}
 use Rattle.arc_parts.specs.Room.{IsBuffersRefusal}
 use Rattle.arc_block.specs.Place.{offset_at}
-use Rattle.arc_slots.proofs.Told.{many_along}
 use Rattle.arc_slots.proofs.Told.{many-founded, row-begins}
 use Rattle.arc_slots.proofs.Told.{stand_block}
 use Rattle.arc_slots.proofs.Before.{before_of}
@@ -138,22 +135,6 @@ module _ {T M : Type 0} (setting : Setting T) (windows : ℕ) (s : SlotView T M)
   same c r is adds = stays passes c r is refl adds
 
   -- ---- the end of the window
-
-  pub dropped : (i : ℕ) (passes' : List (Pass Whole)) → IsFor (command.Drop i)
-      → Along here passes passes' Ended
-      → Said (command.Drop i) reply.Ok None None passes'
-  dropped i passes' is along = record {
-    begins = false;
-    places = 0;
-    change = for-role no_shortage (command.Drop i) is;
-    blocks = many_along passes passes' here Ended along;
-    adds = (
-      refl,
-      refl,
-      enters-along passes passes' Ended (λ o history. entry.Down o.number ∷ [])
-          ended-comes here along,
-    );
-  }
 
   -- where it stands on no block, no owner stands
   off-none : (b : Option ℕ) (place : Place (Option Owner) M)

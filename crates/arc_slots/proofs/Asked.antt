@@ -13,7 +13,7 @@ use Rattle.arc_block.specs.Block.{Sort, BlockInfo, native, vector, buffer, raw}
 use Rattle.arc_block.specs.Owned.{Stand}
 use Rattle.arc_block.specs.Place.{Place, nowhere, static_data, on_block}
 use Rattle.arc_parts.specs.Shared.{as_unique}
-use Rattle.arc_block.specs.Table.{one_writer_of_several, reader, sole_writer}
+use Rattle.arc_block.specs.Table.{reader, sole_writer}
 use Rattle.arc_parts.specs.Writers.{as_sole}
 use Rattle.arc_commands.specs.Additions.{RowAdds, AddsAt, Enters}
 use Rattle.arc_commands.specs.Additions.{AsksIf, AsksInVain, AsksInVainAt, Goes, Takes, TakesAs}
@@ -46,7 +46,7 @@ use Rattle.arc_block.proofs.Lists.{get-set}
 use Rattle.arc_slots.proofs.Native.{and_none}
 use Rattle.arc_slots.proofs.Taken.{set-twice}
 use Rattle.arc_slots.proofs.Told.{alone-told, many_along}
-use Rattle.arc_slots.proofs.Answered.{for-role, not-for, reads-for, same, stays, writes-for}
+use Rattle.arc_slots.proofs.Answered.{for-role, reads-for, same, stays, writes-for}
 use Rattle.arc_slots.specs.Several.{AsksAt}
 use Rattle.arc_commands.proofs.Roles.{several_each}
 use Rattle.arc_commands.proofs.Roles.{several-sole}
@@ -595,29 +595,6 @@ module _ {T M : Type 0} (setting : Setting T) (windows : ℕ) (s : SlotView T M)
       untook-beside has (several-sole s.role several) i taking.Vector (beside-for i several)
       passes' out
 
-  take-none : (i : ℕ) (what : Taking) → is_several s.role ≡ true
-      → ((places : ℕ) → is_allowed setting.calls (takes i what) (one_writer_of_several places)
-      ≡ false) → RowAdds here here None passes passes setting row (takes i what) reply.Kind
-      → Said (takes i what) reply.Kind (Some s) None passes
-  take-none i what several none adds =
-      same setting windows s passes (takes i what) reply.Kind
-      (not-for setting windows s passes no_shortage (takes i what)
-      (several_each (λ role. is_allowed {T = T} {M = M} setting.calls (takes i what) role ≡ false)
-      none s.role
-      several)) adds
-
-  pub box-kind : (i : ℕ) → is_several s.role ≡ true
-      → Said (command.TakeBox i) reply.Kind (Some s) None passes
-  box-kind i several = take-none i taking.Boxed several (λ places. refl) (refl, refl, refl)
-
-  pub buffer-kind : (i : ℕ) → is_several s.role ≡ true
-      → Said (command.TakeBuf i) reply.Kind (Some s) None passes
-  buffer-kind i several = take-none i taking.Buffer several (λ places. refl) (refl, refl, refl)
-
-  pub raw-kind : (i : ℕ) → is_several s.role ≡ true
-      → Said (command.TakeRaw i) reply.Kind (Some s) None passes
-  raw-kind i several = take-none i taking.Raw several (λ places. refl) (refl, refl, refl)
-
   -- by one that reads
   module _ (has : HasPassFor passes here) (reads : s.role ≡ reader) (i : ℕ) (what : Taking)
       (passes' : List (Pass Whole)) where
@@ -686,32 +663,3 @@ module _ {T M : Type 0} (setting : Setting T) (windows : ℕ) (s : SlotView T M)
             enters-along passes passes' Ended ended ended-comes here (left-so here passes' left),
           );
     }
-
-    pub untook-sole : have i what ≡ false → Said (takes i what) reply.Refused (Some s) None passes
-    untook-sole not = record {
-      begins = false;
-      places = 0;
-      change =
-          sole-is (shortage reply.Refused (takes i what))
-          ∙ ap (λ b. outcome b (is_sole row.role)) not;
-      blocks = refl;
-      adds =
-          asks-adds i what passes (subst (AsksIf here here None passes passes) (sym not)
-          (refl, refl, refl));
-    }
-
-  -- what isn't for one that writes
-  pub take-kind : is_sole s.role ≡ true → (i : ℕ) (what : Taking) → is_writers what ≡ false
-      → Said (takes i what) reply.Kind (Some s) None passes
-  take-kind writes i what none =
-      same setting windows s passes (takes i what) reply.Kind
-      (not-for setting windows s passes no_shortage (takes i what)
-      (writes-for setting windows s passes writes (takes i what) false
-      (λ places. for-writer i what places ∙ none))) (adds-none what)
-    where
-      adds-none : (w : Taking) → RowAdds here here None passes passes setting row (takes i w)
-          reply.Kind
-      adds-none taking.Vector = (refl, refl, refl)
-      adds-none taking.Boxed = (refl, refl, refl)
-      adds-none taking.Buffer = (refl, refl, refl)
-      adds-none taking.Raw = (refl, refl, refl)

@@ -5,7 +5,6 @@ use Rattle.std.proofs.Common.{subst}
 use Rattle.std.proofs.lemmas.Bool.{false≢true}
 use Rattle.arc_owners.specs.declared.mark.Whole.{Whole}
 use Rattle.arc_owners.specs.declared.count.tokens.Pass.{Pass}
-use Rattle.arc_owners.specs.declared.error.RangeError.{RangeError}
 use Rattle.arc_owners.specs.declared.error.OwnerError.{OwnerError}
 use Rattle.arc_owners.specs.declared.error.OwnerError.TheVariants.{AllocError, CountFull}
 use Rattle.arc_block.specs.Owned.{Stand}
@@ -34,7 +33,7 @@ use Rattle.arc_slots.specs.declared.part.Part.{Part}
 use Rattle.arc_slots.specs.declared.part.Part.TheVariants.{Whole as All, Range, Back, Front}
 use Rattle.arc_slots.proofs.Added.{Ended, ended-comes, enters-along, nothing-comes, raises-beside}
 use Rattle.arc_slots.proofs.Added.{refuses-at}
-use Rattle.arc_slots.proofs.Answered.{for-role, not-for, same}
+use Rattle.arc_slots.proofs.Answered.{for-role, same}
 use Rattle.arc_slots.proofs.Parted.{handed-block, vector-both}
 use Rattle.arc_slots.proofs.Told.{full-at, full-beside, many-beside, many-founded, many-refused}
 use Rattle.arc_slots.proofs.Told.{many_along, room-beside, row-block, stand_block}
@@ -67,20 +66,6 @@ module _ {T M : Type 0} (setting : Setting T) (windows : ℕ) (s : SlotView T M)
       → is_allowed setting.calls c s.role ≡ is
   several-for c is each =
       ap (is_allowed setting.calls c) (several-is s.role several) ∙ each (capacity_of s.role)
-
-  -- neither a clone nor a range is handed out
-  pub split-kind : (part : Part) → is_split part ≡ false
-      → Said (part_command i part) reply.Kind (Some s) None passes
-  split-kind All none =
-      same setting windows s passes (command.Clone i) reply.Kind
-      (not-for setting windows s passes no_shortage (command.Clone i)
-      (several-for (command.Clone i) false (λ places. refl))) (refl, refl, refl)
-  split-kind (Range start end) none =
-      same setting windows s passes (command.Sub i start end) reply.Kind
-      (not-for setting windows s passes no_shortage (command.Sub i start end)
-      (several-for (command.Sub i start end) false (λ places. refl))) (refl, refl, refl)
-  split-kind (Back at) none = absurd (false≢true (sym none))
-  split-kind (Front at) none = absurd (false≢true (sym none))
 
   abbrev outcome : Part → Shortage → Change T M
   outcome part short =
@@ -118,13 +103,6 @@ module _ {T M : Type 0} (setting : Setting T) (windows : ℕ) (s : SlotView T M)
   refused-adds (Back at) is e passes' enters = enters
   refused-adds (Front at) is e passes' enters = enters
 
-  range-adds : (part : Part) → is_split part ≡ true → (e : RangeError)
-      → RowHas here None passes (part_command i part) (reply.Range e)
-  range-adds All is e = absurd (false≢true is)
-  range-adds (Range start end) is e = absurd (false≢true is)
-  range-adds (Back at) is e = (refl, refl, refl)
-  range-adds (Front at) is e = (refl, refl, refl)
-
   alloc-adds : (part : Part) → is_split part ≡ true
       → RowHas here None passes (part_command i part) reply.Alloc
   alloc-adds All is = absurd (false≢true is)
@@ -135,15 +113,6 @@ module _ {T M : Type 0} (setting : Setting T) (windows : ℕ) (s : SlotView T M)
   module _ (part : Part) (is : is_split part ≡ true) where
     abbrev c : ListCmd T M
     c = part_command i part
-
-    -- there is no such part
-    pub split-range : (e : RangeError)
-        → places_answer setting.boundary s.window.items (capacity_of s.role) part ≡ Err e
-        → Said c (reply.Range e) (Some s) None passes
-    split-range e none =
-        same setting windows s passes c (reply.Range e)
-        (split-is part no_shortage is ∙ ap (λ a. in_range a row (outcome part no_shortage)) none)
-        (range-adds part is e)
 
     module _ (ok : places_answer setting.boundary s.window.items (capacity_of s.role) part ≡ Ok tt)
       where

@@ -76,9 +76,6 @@ module _ {T M : Type 0} (setting : Setting T) (windows : ℕ) (s : SlotView T M)
   abbrev allowed : Command → Role → Bool
   allowed c role = is_allowed setting.calls c role
 
-  abbrev IsFor : Command → Type 0
-  IsFor c = allowed c s.role ≡ true
-
   -- ---- a part that is handed out
 
   -- what a part of a window of this role is for
@@ -95,21 +92,6 @@ module _ {T M : Type 0} (setting : Setting T) (windows : ℕ) (s : SlotView T M)
   part-for i inline (Back at) is = absurd (false≢true is)
   part-for i inline (Front at) is = absurd (false≢true is)
   part-for i forgotten part is = absurd (false≢true is)
-
-  -- and of no window of another role, but that one of several splits his places
-  part-not : (i : ℕ) (role : Role) (part : Part) → IsSlotRole role → is_several role ≡ false
-      → is_part_of role part ≡ false → allowed (part_command i part) role ≡ false
-  part-not i reader part known one is = absurd (false≢true (sym is))
-  part-not i (sole_writer places) All known one is = refl
-  part-not i (sole_writer places) (Range start end) known one is = refl
-  part-not i (sole_writer places) (Back at) known one is = refl
-  part-not i (sole_writer places) (Front at) known one is = refl
-  part-not i (one_writer_of_several places) part known one is = absurd (false≢true (sym one))
-  part-not i inline All known one is = absurd (false≢true (sym is))
-  part-not i inline (Range start end) known one is = absurd (false≢true (sym is))
-  part-not i inline (Back at) known one is = refl
-  part-not i inline (Front at) known one is = refl
-  part-not i forgotten part known one is = absurd known
 
   -- it is handed out of no writer's window
   part-one : (role : Role) (part : Part) → is_part_of role part ≡ true → is_several role ≡ false
@@ -155,31 +137,6 @@ module _ {T M : Type 0} (setting : Setting T) (windows : ℕ) (s : SlotView T M)
         if full then is_now (reply.Owner CountFull) row else
         with_made around (if out then new_part else rest_of row part)
         (if out then row else new_part)
-
-  -- it is handed out of no window of this role
-  pub part-kind : (i : ℕ) (part : Part) → IsSlotRole s.role → is_several s.role ≡ false
-      → is_part_of s.role part ≡ false → Said (part_command i part) reply.Kind (Some s) None passes
-  part-kind i part known one is = by part is
-    where
-      none : (p : Part) → is_part_of s.role p ≡ false
-          → answer_any setting no_shortage around (part_command i p) row ≡ is_now reply.Kind row
-      none p not = not-for setting windows s passes no_shortage (part_command i p)
-          (part-not i s.role p known one not)
-
-      by : (p : Part) → is_part_of s.role p ≡ false
-          → Said (part_command i p) reply.Kind (Some s) None passes
-      by All not = same setting windows s passes (command.Clone i) reply.Kind (none All not)
-          (refl, refl, refl)
-      by (Range start end) not =
-          same setting windows s passes (command.Sub i start end) reply.Kind (none
-          (Range start end) not)
-          (refl, refl, refl)
-      by (Back at) not =
-          same setting windows s passes (command.Off i at) reply.Kind (none (Back at) not)
-          (refl, refl, refl)
-      by (Front at) not =
-          same setting windows s passes (command.To i at) reply.Kind (none (Front at) not)
-          (refl, refl, refl)
 
   pub written-kind : (i : ℕ) (part : Part) → is_writer s.role ≡ true → is_split part ≡ false
       → Said (part_command i part) reply.Kind (Some s) None passes

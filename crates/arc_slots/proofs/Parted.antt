@@ -20,7 +20,7 @@ use Rattle.arc_block.specs.Place.{Place, nowhere, static_data, on_block, moved}
 use Rattle.arc_parts.specs.Shared.{LeavesVector, RefusesSplit, RefusesSplitAt, SplitsWriter}
 use Rattle.arc_parts.specs.Shared.{StandsToSplit, StandsToSplitAt, front_of, is_vector}
 use Rattle.arc_parts.specs.Shared.{is_vector_at, on_native}
-use Rattle.arc_parts.specs.Steps.{IsPassAt, Refuses, Shares}
+use Rattle.arc_parts.specs.Steps.{Refuses, Shares}
 use Rattle.arc_block.specs.Table.{Row, block_of}
 use Rattle.arc_parts.specs.Window.{PartsView}
 use Rattle.arc_parts.specs.Writers.{after_advance, capacity_of, with_capacity}
@@ -44,8 +44,7 @@ use Rattle.arc_slots.specs.declared.window.Held.TheVariants.{Several}
 use Rattle.arc_slots.proofs.Added.{Ended}
 use Rattle.arc_slots.proofs.Slots.{along, fits-as, held-as, moved-fits, moved-numbered}
 use Rattle.arc_slots.proofs.Slots.{moved-stand, refuses}
-use Rattle.arc_slots.proofs.Slots.{same-row, shares, shares-fits, shares-numbered, still-number}
-use Rattle.arc_slots.proofs.Slots.{window-pass}
+use Rattle.arc_slots.proofs.Slots.{same-row, shares, shares-numbered, still-number}
 use Rattle.arc_slots.proofs.Taken.{set-back}
 use Rattle.arc_slots.proofs.Told.{full-at}
 
@@ -240,9 +239,6 @@ module _ {T M K : Type 0} (small : K → PartsView T M) (h : AnyWindow T M K) (w
     its-pass : HasPassFor passes (stand_at b w.place)
     its-pass = subst (λ x. HasPassFor passes (stand_of (Some x))) (sym seen-as) has
 
-    pub shared-pass : IsPassAt w.place p
-    shared-pass = window-pass passes left p b w.place its-number its-pass took
-
     -- the pass comes back to its place
     pub shared-still : HasNumber left b
     shared-still = still-number passes left p b w.place its-number its-pass took
@@ -284,21 +280,6 @@ module _ {T M K : Type 0} (small : K → PartsView T M) (h : AnyWindow T M K) (w
 
         other : AreOf b w handed (handed_places part (row_of (writer_slot w b)))
         other = handed-of b w part
-
-        pub kept-numbered : is_numbered b kept.place ≡ true
-        kept-numbered =
-            ap (λ (x : PartsView T M). is_numbered b x.place) kept-is ∙ one.numbers its-number
-
-        pub kept-shares : is_several w.role ≡ true → is_several kept.role ≡ true
-        kept-shares is-one =
-            ap (λ (x : PartsView T M). is_several x.role) kept-is ∙ one.several is-one
-
-        pub made-numbered : is_numbered b made.place ≡ true
-        made-numbered = shares-fits p q b handed.place made.place (other.numbers its-number)
-            made-shares
-
-        pub made-several : is_several w.role ≡ true → is_several made.role ≡ true
-        made-several is-one = ap is_several made-is.1 ∙ other.several is-one
 
         added : Beside (stand_at b w.place) passes after (stand_at b made.place)
         added =

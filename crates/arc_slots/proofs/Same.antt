@@ -18,11 +18,6 @@ module _ {T M : Type 0} {setting : Setting T} {windows : ℕ} {c : ListCmd T M} 
   window-same is = subst (λ x. Answers setting windows c s before r (Some x) made after) (sym is)
 
   module _ {new : Option (SlotView T M)} where
-    pub command-same : {d : ListCmd T M} → d ≡ c
-        → Answers setting windows c s before r new made after
-        → Answers setting windows d s before r new made after
-    command-same is = subst (λ d. Answers setting windows d s before r new made after) (sym is)
-
     pub before-same : {first : List (Pass Whole)} → before ≡ first
         → Answers setting windows c s before r new made after
         → Answers setting windows c s first r new made after

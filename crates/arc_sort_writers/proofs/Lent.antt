@@ -5,8 +5,8 @@ use Rattle.std.specs.declared.vec.Vec.{Vec}
 use Rattle.std.specs.List.{refill, length_refill}
 use Rattle.std.specs.Prelude.{slice_range}
 use Rattle.std.specs.Vec.{vec_capacity, with_items_from}
-use Rattle.std.proofs.lemmas.List.{take-take, take_all, take-append-le, append-nil, drop_at}
-use Rattle.std.proofs.lemmas.List.{drop_all, length-take-le, length-append, length-drop}
+use Rattle.std.proofs.lemmas.List.{take-take, take-append-le, drop_at}
+use Rattle.std.proofs.lemmas.List.{length-take-le, length-append, length-drop}
 use Rattle.arc_buffer.specs.Slice.{sub}
 use Rattle.arc_buffer.proofs.Sub.{length-sub}
 use Rattle.arc_owners.specs.count.Calls.{Owner}
@@ -106,12 +106,3 @@ module _ {T M A : Type 0} where
       → vector_part {M = M} drops o (with_items_from v start ws) start end ≡ with_items seen ws
   lent_seen drops one_pass o v start end ws seen view within =
       lent-part drops o v start end ws within.1 within.2 ∙ ap (λ s. with_items s ws) view
-
--- all of the items written anew
-pub with_items_is : {T M : Type 0} (w : PartsView T M) (xs : List T) → length xs ≡ length w.items
-    → with_items w xs ≡ record w { items = xs }
-with_items_is w xs same =
-    ap (λ ys. record w { items = take (length w.items) (xs ++ ys) })
-    (drop_all (length xs) w.items (omega (arith, same)))
-    ∙ ap (λ ys. record w { items = take (length w.items) ys }) (append-nil xs)
-    ∙ ap (λ ys. record w { items = ys }) (take_all (length w.items) xs (omega (arith, same)))

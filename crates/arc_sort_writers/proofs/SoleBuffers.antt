@@ -4,7 +4,7 @@ use Rattle.std.proofs.Common.{◌≡◌, ℕ, zero, suc, ◌+◌, ◌-◌, ◌�
 use Rattle.std.proofs.Common.{Bool, true, false, if◌then◌else◌, List, length, take, drop, refl, sym}
 use Rattle.std.proofs.Common.{Some, ap, ◌∙◌, subst, arith}
 use Rattle.std.proofs.lemmas.Bool.{eqb-true, eq-eqb, ne_eqb, lt-ltb, false≢true}
-use Rattle.std.proofs.lemmas.List.{take-append-le, length-drop, take_all, drop_all}
+use Rattle.std.proofs.lemmas.List.{take-append-le, length-drop}
 use Rattle.std.proofs.lemmas.List.{length-append, length-take-le, drop-append-le}
 use Rattle.arc_owners.specs.count.Calls.{Owner}
 use Rattle.arc_owners.specs.declared.error.TryReserveError.{TryReserveError}
@@ -18,7 +18,7 @@ use Rattle.arc_block.specs.declared.block.content.Content.{Content}
 use Rattle.arc_block.specs.declared.block.content.Content.TheVariants.{Vector, Buffer, Raw}
 use Rattle.arc_block.specs.declared.block.content.CallersBuffer.{CallersBuffer}
 use Rattle.arc_parts.specs.declared.room.Room.TheVariants.{Front, Growth}
-use Rattle.std.specs.Prelude.{Result, Ok, Err, OnOk, IfErr, slice_set}
+use Rattle.std.specs.Prelude.{Result, Ok, Err, OnOk, slice_set}
 use Rattle.arc_block.specs.Place.{on_block}
 use Rattle.arc_block.specs.Table.{Role, sole_writer}
 use Rattle.arc_parts.specs.Window.{PartsView}
@@ -47,25 +47,12 @@ set_at xs at x inside =
     let next : suc at ≡ at + 1 = omega arith in
     set-behind xs at x inside ∙ ap (λ n. take at xs ++ x ∷ drop n xs) next
 
--- an item behind all
-pub put_behind : {T : Type 0} (xs ys : List T) (at : ℕ) (x : T) → at ≡ length xs
-    → ys ≡ xs ++ x ∷ [] → ys ≡ take at xs ++ x ∷ drop (at + 1) xs
-put_behind xs ys at x last is =
-    is ∙ ap (λ zs. zs ++ x ∷ []) (sym (take_all at xs (omega (arith, last))))
-    ∙ ap (λ zs. take at xs ++ x ∷ zs) (sym (drop_all (at + 1) xs (omega (arith, last))))
-
 -- a buffer is no other sort
 not-vector : vector ≡ buffer true → ⊥
 not-vector same = subst IsMemory same tt
 
 not-raw : raw ≡ buffer true → ⊥
 not-raw same = subst IsBuffer (sym same) tt
-
--- of whatever reply
-pub either_way : {E P R : Type 0} {Q : E → Type 0} (r : Result (Unit {0}) E)
-    → OnOk r P → (P → R) → IfErr r Q → ((e : E) → Q e → R) → R
-either_way (Ok done) held f failed h = f held
-either_way (Err e) held f failed h = h e failed
 
 -- where it holds, more does
 pub where_ok : {E P Q : Type 0} (r : Result (Unit {0}) E) → (P → Q) → OnOk r P → OnOk r Q

@@ -6,7 +6,7 @@ use Rattle.std.proofs.Common.{◌<◌, ◌≤◌, ◌⊎◌, ◌&&◌, not}
 use Rattle.std.specs.Prelude.{MatchOption, IfSome}
 use Rattle.std.specs.Option.{option_map, option_map_or, option_flatten}
 use Rattle.std.proofs.lemmas.List.{map-append, length-append, length-map}
-use Rattle.std.proofs.lemmas.Option.{none-some, same_Some, slice_get-map, slice_get_cases}
+use Rattle.std.proofs.lemmas.Option.{none-some, same_Some, slice_get-map}
 use Rattle.std.proofs.lemmas.Option.{slice_get_read}
 use Rattle.arc_owners.specs.declared.mark.Whole.{Whole}
 use Rattle.arc_owners.specs.declared.count.tokens.Pass.{Pass}
@@ -651,14 +651,6 @@ pub at-place : {X : Type 0} (xs : List X) (i : ℕ) (x : X) → i < length xs
     → x ≡ slice_index_or xs i x → slice_get xs i ≡ Some x
 at-place xs i x within read = slice_get_read xs (length xs) i x refl within read
 
--- nothing stands past its end
-pub past-end : {X : Type 0} (xs : List (Option X)) (i : ℕ) → length xs ≤ i
-    → option_flatten (slice_get xs i) ≡ None
-past-end xs i past = elim (slice_get_cases xs i).1 [
-  | inl there ↦ absurd (omega (arith, past, there.1))
-  | inr none ↦ ap option_flatten none.1
-]
-
 -- what stands at a place where a window is
 pub stands-there : {X : Type 0} (x : Option (Option X)) → is_some (option_flatten x) ≡ true
     → (y : X) × (x ≡ Some (Some y))
@@ -673,14 +665,6 @@ apart-test i j far = by (i == j) refl
     by : (b : Bool) → (i == j) ≡ b → b ≡ false
     by false is = refl
     by true is = absurd (far (eqb-true i j is))
-
--- a command on these two windows is their join
-pub is-join : {T M : Type 0} (c : ListCmd T M) (i j : ℕ) → window_of c ≡ Some i
-    → other_of c ≡ Some j → command.Join i j ≡ c
-is-join (command.Join k l) i j on other =
-    ap (λ n. command.Join n j) (sym (same_Some k i on))
-    ∙ ap (command.Join k) (sym (same_Some l j other))
-is-join c i j on other = absurd (none-some j other)
 
 -- a place that is set, with another one set between, is as it was set last
 pub set-swap : {X : Type 0} (xs : List X) (i j : ℕ) (x y z : X) → ¬ (i ≡ j)

@@ -3,7 +3,6 @@ pub mod Legal
 pub mod Held
 pub mod HeldSeveral
 pub mod LegalSeveral
-pub mod OneBlock
 mod More
 pub mod Parts
 pub mod ReadParts

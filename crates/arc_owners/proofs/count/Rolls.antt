@@ -142,11 +142,6 @@ pub get-past : {X : Type 0} (xs : List X) (d : X) → get_or xs (length xs) d �
 get-past [] d = refl
 get-past (y ∷ xs) d = get-past xs d
 
-pub living-short : (k : ℕ) (xs : List (Bool × Lease)) → length (living k xs) ≤ length xs
-living-short k [] = omega arith
-living-short k ((true, l) ∷ xs) = omega (arith, living-short (suc k) xs)
-living-short k ((false, l) ∷ xs) = omega (arith, living-short (suc k) xs)
-
 pub length-upto : (k n : ℕ) → length (upto k n) ≡ n
 length-upto k zero = refl
 length-upto k (suc n) = ap suc (length-upto (suc k) n)

@@ -3,7 +3,7 @@
 use Rattle.std.proofs.Common.{inl, inr, ◌≡◌, ◌⊎◌, ℕ, ◌<◌, ◌≤◌, arith, Bool, true, false, List, []}
 use Rattle.std.proofs.Common.{◌∷◌, ◌++◌, length, Some, None, refl, sym, ap, ◌∙◌, subst, append-nil}
 use Rattle.std.proofs.Common.{append_assoc}
-use Rattle.std.specs.Prelude.{if◌then◌else◌, IsTrue, ◌↔◌, map, IfOk, IfErr, Result, Ok, Err}
+use Rattle.std.specs.Prelude.{if◌then◌else◌, IsTrue, ◌↔◌, map, Err}
 use Rattle.std.proofs.lemmas.Bool.{eq-eqb, ne_eqb, false≢true}
 use Rattle.std.specs.List.{All}
 use Rattle.std.proofs.lemmas.List.Elements.{All-head, All-tail}
@@ -12,17 +12,15 @@ use Rattle.arc_owners.specs.declared.history.entry.Entry.TheVariants.{Up, Full, 
 use Rattle.arc_owners.specs.declared.history.entry.Entry.TheVariants.{Joined}
 use Rattle.arc_owners.specs.declared.error.OwnerError.{OwnerError}
 use Rattle.arc_owners.specs.declared.error.OwnerError.TheVariants.{AllocError, CountFull}
-use Rattle.arc_owners.specs.declared.mark.Mark.{Ghosts}
 use Rattle.arc_owners.specs.declared.count.tokens.Pass.{Pass}
-use Rattle.arc_owners.specs.declared.count.tokens.Share.{Share}
 use Rattle.arc_owners.specs.count.Invariant.{BlockId, Line, entries_of, made_by, next_owner}
 use Rattle.arc_owners.specs.history.Histories.{Beginning, LivesAlone, NeverLived, owner_made}
 use Rattle.arc_owners.specs.history.Histories.{owner_ended, owners_ever, live_owners, is_counted}
-use Rattle.arc_owners.specs.history.Histories.{is_promoted, is_in, MayFollow, Lone, Counted}
+use Rattle.arc_owners.specs.history.Histories.{is_promoted, MayFollow, Lone, Counted}
 use Rattle.arc_owners.specs.history.Machine.{without_number}
 use Rattle.arc_owners.specs.count.Calls.{Owner, Appends, Asks, MayJoin, MakesAnother, FindsFull}
 use Rattle.arc_owners.specs.count.Calls.{RefusesOwner, Leaves, HasCountIn, IsFirst, IsFreshPass}
-use Rattle.arc_owners.specs.count.Calls.{IsPassOf, IsNewPass, IsSamePass, owner_of, mine, seen}
+use Rattle.arc_owners.specs.count.Calls.{IsPassOf, IsNewPass, IsSamePass, mine, seen}
 use Rattle.arc_owners.proofs.history.Legality.{legal-at, legal-front}
 use Rattle.arc_owners.proofs.history.Owned.{live-same, live-ended, ever-append}
 use Rattle.arc_owners.proofs.history.Steps.{counted-more}
@@ -213,16 +211,6 @@ makes-next {o = o} {new = new} makes =
 -- what a call adds on a word that its pass knows to be counted: the one entry, and nothing was
 -- joined
 module _ {H : Type 0} {o : Owner} {old new : Pass H} (c : HasCountIn o.block (seen old)) where
-  pub counted-asks : {found : Bool} → Asks o old new found → (before : List Line)
-      × Appends o.block old new before (Alone o.number found ∷ [])
-      × (IsTrue found ↔ LivesAlone o.number (entries_of before))
-  counted-asks {found = found} asks = (
-    asks.before,
-    subst (λ (b : Bool). Appends o.block old new asks.before
-        (if b then Alone o.number found ∷ [] else [])) (counted-before asks.added c) asks.added,
-    asks.exact,
-  )
-
   pub counted-makes : {other : Owner} → MakesAnother o old new other
       → (before : List Line) × Appends o.block old new before (Up o.number (next_owner before) ∷ [])
       × (other.block ≡ o.block) × (other.number ≡ next_owner before)
@@ -275,9 +263,6 @@ module _ {H : Type 0} {o : Owner} {old new : Pass H} where
 
 -- a pass that knew before a call that the word has a count knows it after the call
 module _ {H : Type 0} {o : Owner} {old new : Pass H} (c : HasCountIn o.block (seen old)) where
-  pub still-asked : {found : Bool} → Asks o old new found → HasCountIn o.block (seen new)
-  still-asked asks = counted-still asks.added c
-
   pub still-left : {last : Bool} → Leaves o old new last → HasCountIn o.block (seen new)
   still-left leaves = counted-still leaves.added c
 
@@ -310,18 +295,6 @@ module _ {H : Type 0} {o : Owner} {t : BlockId} {old new : Pass H} (at : o.block
   knows-left leaves = subst (λ (b : BlockId). KnowsCount b old → KnowsCount b new) at
       (λ (j : KnowsCount o.block old). ((same-left leaves).0, still-left j.1 leaves)) k
 
-  pub knows-asked : {found : Bool} → Asks o old new found → KnowsCount t new
-  knows-asked asks = subst (λ (b : BlockId). KnowsCount b old → KnowsCount b new) at
-      (λ (j : KnowsCount o.block old). ((same-asked asks).0, still-asked j.1 asks)) k
-
--- a call that tried to make an owner
-pub knows-tried : {H E : Type 0} {G : Ghosts H} {t : BlockId} (o : Owner) (old new : Pass H)
-    → o.block ≡ t → KnowsCount t old → (r : Result (Share H G) E)
-    → IfOk r (λ s. MakesAnother o old new (owner_of s)) → IfErr r (λ _. FindsFull o old new)
-    → KnowsCount t new
-knows-tried o old new at k (Ok s) made full = (knows-made at k made).0
-knows-tried o old new at k (Err e) made full = knows-full at k full
-
 -- a new pass knows it where the owner was made on such a word
 pub counted-new : {H : Type 0} (o : Owner) (p : Pass H) → HasCountIn o.block (entries_of o.born)
     → IsNewPass o p → HasCountIn o.block (seen p)
@@ -336,33 +309,11 @@ pub counted_first : {H : Type 0} {most : ℕ} {whole : Bool} {o : Owner} (p : Pa
 counted_first {o = o} p first fresh = subst (λ (ls : List Line). HasCountIn o.block (entries_of ls))
     (sym fresh.1) (begins_counted o.block first.began)
 
-pub knows-first : {H : Type 0} {most : ℕ} {whole : Bool} {o : Owner} {t : BlockId} (p : Pass H)
-    → IsFirst most whole Counted o → IsFreshPass o p → o.block ≡ t → KnowsCount t p
-knows-first p first fresh at = (
-  (fresh.0.0, fresh.0.1 ∙ at),
-  subst (λ (b : BlockId). HasCountIn b (seen p)) at
-      (counted_first p first fresh),
-)
-
 pub counted_forked : {H : Type 0} {most : ℕ} {whole : Bool} {o : Owner} (p : Pass H)
     → IsFirst most whole Counted o → IsNewPass o p → HasCountIn o.block (seen p)
 counted_forked {o = o} p first new =
     counted-new o p (subst (λ (ls : List Line). HasCountIn o.block (entries_of ls)) (sym first.born)
     (begins_counted o.block first.began)) new
-
--- who was found alone lives alone in what the pass has seen since
-alone-read : {H : Type 0} {t : BlockId} {old new : Pass H} {before : List Line} (by : ℕ) (c : Bool)
-    → Appends t old new before (if c then Alone by true ∷ [] else [])
-    → LivesAlone by (entries_of before) → LivesAlone by (seen new)
-alone-read {before = before} by true a alone = ap live_owners (seen-after a)
-    ∙ (live-same (entries_of before) (Alone by true) refl refl ∙ alone)
-alone-read {before = before} by false a alone =
-    ap live_owners (seen-after a ∙ append-nil (entries_of before)) ∙ alone
-
-pub alone-asked : {H : Type 0} {o : Owner} {old new : Pass H} → Asks o old new true
-    → LivesAlone o.number (seen new)
-alone-asked {o = o} asks = alone-read o.number (is_counted o.block.began (entries_of asks.before))
-    asks.added (asks.exact.0 refl)
 
 -- what an entry does by which an owner is made
 making-made : (c : Bool) (by new : ℕ) → owner_made (making c by new) ≡ Some new
@@ -449,18 +400,6 @@ module _ {H : Type 0} {o : Owner} {old new : Pass H} (whole : o.block.whole ≡ 
       never (owned-before (makes-next makes))
       ∙ (λ i. (ap live_owners (before-is makes.added whole) ∙ lives-joined o whole makes.joined)
       i ++ sym (ap (λ (x : Owner). x.number) makes.made) i ∷ []))
-
-  -- the new owner never lived
-  pub made-never : {other : Owner} → MakesAnother o old new other
-      → NeverLived other.number (seen old)
-  made-never makes =
-      let c = is_counted o.block.began (entries_of makes.before) in
-      let n : ℕ = next_owner makes.before in
-      let ever : owners_ever (entries_of makes.before) ≡ owners_ever (seen old) = ap owners_ever
-      (before-is makes.added whole) ∙ ever-joined o whole makes.joined in
-      (λ i. is_in (ap (λ (x : Owner). x.number) makes.made i) (sym ever i))
-      ∙ making-never c o.number n o.block.most o.block.began (entries_of makes.before)
-      (may-stand (makes-next makes))
 
   -- its number is how many owners there have been
   pub made-number : {other : Owner} → MakesAnother o old new other

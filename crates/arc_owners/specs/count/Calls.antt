@@ -57,10 +57,6 @@ module _ {H : Type 0} where
   abbrev pub mine : Pass H → List Entry
   mine p = made_by p.trace.number p.trace.lines
 
-  -- whether it once found the word lone
-  abbrev pub is_ready : Pass H → Bool
-  is_ready p = p.trace.ready
-
   -- of which block it is, if it is of one, and its number there
   abbrev pub pass_block : Pass H → BlockId
   pass_block p = p.trace.block

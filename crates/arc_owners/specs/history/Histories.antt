@@ -80,14 +80,6 @@ IsAlone owner history = LivesAlone owner history
 abbrev pub NeverLived : ℕ → List Entry → Type 0
 NeverLived owner history = is_in owner (owners_ever history) ≡ false
 
--- the word has a count
-abbrev pub HasCount : Beginning → List Entry → Type 0
-HasCount began history = IsTrue (is_counted began history)
-
--- the word is lone
-abbrev pub HasNoCount : Beginning → List Entry → Type 0
-HasNoCount began history = is_counted began history ≡ false
-
 -- the entry may stand after this history of a block that can have so many owners at most
 abbrev pub MayFollow : ℕ → Beginning → List Entry → Entry → Type 0
 MayFollow most began before (Up by new) =
