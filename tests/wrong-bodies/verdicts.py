@@ -18,7 +18,16 @@ IN_PROOF = re.compile(r"^(?:note: )?(?:\./)?proofs/\S+: error: ")
 GONE = re.compile(r"has no field|is not in scope|has no `|was not admitted|is no name")
 LIMITS = re.compile(r"ran out of (?:stack|the (?:steps|memory))|the memory limit|step limit")
 BROKEN = re.compile(r"\berror\b")
+GOAL_NAME = re.compile(r"error: `([^`]+)`|\(`([^`]+)`\)")
 FALSE = "the facts known there allow values at which this goal is false"
+
+
+def told(lines):
+    """The first of the lines, and the goals that the others name."""
+    names = [it[1] or it[2] for it in map(GOAL_NAME.search, lines) if it]
+    more = [f"`{name}`" for name in dict.fromkeys(names[1:]) if name != names[0]]
+    first = re.sub(r" of `goal\..*", " was found", lines[0].removeprefix("note: "))[:240]
+    return first + ("; also " + ", ".join(more[:4]) if more else "")
 
 
 def verdict(status, said):
@@ -43,4 +52,4 @@ def verdict(status, said):
         found = LIMIT, of(LIMITS)
     else:
         found = UNTRIED, of(BROKEN) or lines[-1:] or ["it says nothing"]
-    return found[0], found[1][0].removeprefix("note: ")[:240]
+    return found[0], told(found[1])
