@@ -43,6 +43,8 @@ class Body:
         """By path the source files that are changed; or why the body doesn't fit them."""
         texts = {}
         for file, old, new in self.pairs:
+            if file not in texts and not os.path.isfile(os.path.join(folder, file)):
+                return {}, f"there is no {file}"
             if file not in texts:
                 with open(os.path.join(folder, file), encoding="utf-8") as source:
                     texts[file] = source.read()

@@ -60,6 +60,16 @@ def watch_over(ran):
     return watch
 
 
+def answer(words, room):
+    """The status of a check, none where it took too long, and what it says."""
+    how = {"stdout": subprocess.PIPE, "stderr": subprocess.STDOUT, "errors": "replace"}
+    try:
+        ran = subprocess.run(words, cwd=room, timeout=PATIENCE, check=False, **how)
+    except subprocess.TimeoutExpired:
+        return None, f"it took more than {PATIENCE} seconds"
+    return ran.returncode, ran.stdout
+
+
 class Workspace:
     """A copy of the crates below those that are tried, as `rt ci` has proved them."""
 
@@ -68,7 +78,7 @@ class Workspace:
         self.uses = {name: row.partition(":")[2].split() for name, row in self.lines.items()}
         self.place = tempfile.mkdtemp(prefix="wrong-bodies-")
         self.libraries = []
-        for crate in crates:
+        for crate in crates & {*self.uses}:
             more = [it for it in below(self.uses, crate) if it not in self.libraries]
             self.libraries += more
 
@@ -139,9 +149,6 @@ class Workspace:
             words = self.words(body.crate)
             for function in body.checks:
                 words += ["--only", function]
-            how = {"stdout": subprocess.PIPE, "stderr": subprocess.STDOUT, "errors": "replace"}
-            try:
-                ran = subprocess.run(words, cwd=room, timeout=PATIENCE, check=False, **how)
-            except subprocess.TimeoutExpired:
-                return None, f"it took more than {PATIENCE} seconds"
-        return ran.returncode, ran.stdout
+            status, said = answer(words, room)
+            # Killed, most likely for memory.
+            return answer(words, room) if status and status < 0 else (status, said)
