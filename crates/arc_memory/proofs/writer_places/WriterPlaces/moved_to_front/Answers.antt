@@ -1,0 +1,7 @@
+-- Arithmetic at once, without a search before it.
+use Rattle.std.proofs.Common.{arith}
+use Rattle.std.proofs.lemmas.Grind.{common_steps}
+use Rattle.arc_memory.proofs.writer_places.WriterPlaces.moved_to_front.Goals as goal
+
+pub of-requires-clause-sizes : goal.of-requires-clause-sizes
+of-requires-clause-sizes g c = grind (arith, common_steps)
