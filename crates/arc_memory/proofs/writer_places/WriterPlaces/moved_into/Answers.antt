@@ -4,6 +4,7 @@ use Rattle.std.proofs.Common.{take, drop, refl, sym, ap, ◌∙◌, arith, appen
 use Rattle.std.proofs.Common.{drop-drop}
 use lib.Seq.{take-add, take_all}
 use lib.ListN.{drop_of_length-le}
+use Rattle.std.proofs.lemmas.Grind.{common_steps}
 use Rattle.arc_memory.proofs.writer_places.WriterPlaces.moved_into.Goals as goal
 
 drop_none : {X : Type 0} (n : ℕ) → ◌≡◌ {A = List X} (drop n []) []
@@ -77,3 +78,9 @@ returns-clause-items g c =
     ∙ ap (λ ys. ys ++ c.of_slots-2.result.items) c.join-front.ensures.places.1)
     ∙ in_order xs _ _ _ _ index moved (full - index) (omega (arith, c.requires.index, many))
     (omega (arith, c.min-moved.ensures)) front left behind back
+
+pub join-requires-2-clause-full : goal.join-requires-2-clause-full
+join-requires-2-clause-full g c = grind (arith, common_steps)
+
+pub join-requires-clause-full : goal.join-requires-clause-full
+join-requires-clause-full g c = grind (arith, common_steps)
