@@ -1,6 +1,9 @@
 -- What a native block keeps, for readers of the same places.
 use Rattle.std.proofs.Common.{◌≡◌, ℕ, ◌-◌, Bool, true, false, List, sym, ap, ◌∙◌, subst}
+use Rattle.std.proofs.Common.{Option, None, Some, tt}
 use Rattle.std.proofs.lemmas.Bool.{false≢true}
+use Rattle.std.specs.Option.{IfSome}
+use Rattle.arc_owners.specs.declared.lifetime.EndedLifetime.{EndedLifetime}
 use Rattle.arc_owners.specs.count.Calls.{Owner}
 use Rattle.arc_memory.specs.declared.frozen_places.FrozenPlaces.{FrozenPlaces}
 use Rattle.arc_memory.specs.declared.kept.Kept.{Kept}
@@ -67,6 +70,27 @@ module _ {T A : Type 0} (drops : Bool) (range : FrozenPlaces T) where
   kept_ended ended is kept kept' same keeps =
       ap (λ k. (kept_in k).inheritance.memory.lifetime) same
       ∙ ap (λ m. m.lifetime) (kept_memory kept keeps) ∙ sym is
+
+-- what the last owner gave out, if it was the last one
+module _ {T A X : Type 0} (kept : Kept T A) where
+  -- the lifetime has ended for which it was lent
+  pub given_ended : (drops : Bool) (range : FrozenPlaces T) → IsKeptFor drops range kept
+      → (last : Option (Kept T A × HeaderRoom X × EndedLifetime))
+      → IfSome last (λ r. r.0 ≡ kept)
+      → IfSome last (λ r. r.2.lifetime ≡ range.memory.lifetime)
+      → IfSome last (λ r. (kept_in r.0).inheritance.memory.lifetime ≡ r.2.lifetime)
+  given_ended drops range keeps None same ended = tt
+  given_ended drops range keeps (Some r) same ended =
+      kept_ended drops range r.2.lifetime ended kept r.0 same keeps
+
+  -- the room in which it lay is that of the piece's header
+  pub given_room : (place : Ptr) (head : ℕ × ℕ) → IsLaidFor place head kept
+      → (last : Option (Kept T A × HeaderRoom X × EndedLifetime))
+      → IfSome last (λ r. r.0 ≡ kept) → IfSome last (λ r. r.1.at ≡ place)
+      → IfSome last (λ r. IsRoomOf r.1 head (kept_in r.0).piece)
+  given_room place head laid None same there = tt
+  given_room place head laid (Some r) same there =
+      laid_room place head kept r.0 r.1 same there laid
 
 module _ {T A : Type 0} (o : Owner) (range : FrozenPlaces T) (memory : WriterMemory T A)
     (start end : ℕ) where

@@ -1,5 +1,6 @@
 -- What the block keeps lies in front of the places that it is kept for.
-use Rattle.std.proofs.Common.{sym, ap, ◌∙◌, subst}
+use Rattle.std.proofs.Common.{sym, ap, ◌∙◌, subst, arith}
+use Rattle.std.proofs.lemmas.Grind.{common_steps}
 use Rattle.arc_owners.specs.memory.Boxes.{value_of}
 use Rattle.arc_memory.specs.KeptPlaces.{kept_in}
 use Rattle.arc_block.specs.Block.{IsLimited}
@@ -23,3 +24,9 @@ invariant_of-result g c =
         c.lend-part.ensures.room.1 ∙ ap (λ p. p.right.head) (sym piece),
       ),
     )
+
+pub returns : goal.returns
+returns g c = grind (arith, common_steps)
+
+pub give_up-requires : goal.give_up-requires
+give_up-requires g c = grind (arith, common_steps)
