@@ -1,7 +1,8 @@
 -- The same parts come back, over the same block.
-use Rattle.std.proofs.Common.{refl}
+use Rattle.std.proofs.Common.{refl, arith}
 use Rattle.arc_parts.specs.Window.{IsBufferWhole}
 use Rattle.arc_parts.proofs.Windows.{taking_refused}
+use Rattle.std.proofs.lemmas.Grind.{common_steps}
 use Rattle.arc_parts.proofs.parts.Parts.try_into_buffer_as.Goals as goal
 
 pub returns-in-Err-clause-refused : goal.returns-in-Err-clause-refused
@@ -10,3 +11,6 @@ returns-in-Err-clause-refused g c =
     c.in-Err.block c.in-Err.ensures.others.0 (IsBufferWhole c.args.self.items c.args.self.place)
     (c.if-not-is_buffer_whole.ensures.0 refl)
     c.args.pass.now c.try_into_content_as.new.pass c.in-Err.ensures.others.1
+
+pub returns-in-Ok-clause-taken : goal.returns-in-Ok-clause-taken
+returns-in-Ok-clause-taken g c = grind (arith, common_steps)

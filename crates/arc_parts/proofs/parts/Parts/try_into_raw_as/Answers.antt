@@ -1,8 +1,9 @@
 -- The same parts come back, over the same block.
-use Rattle.std.proofs.Common.{refl, ◌∙◌}
+use Rattle.std.proofs.Common.{refl, ◌∙◌, arith}
 use Rattle.arc_parts.specs.Window.{IsRawWhole}
 use Rattle.arc_parts.proofs.Raws.{raw_whole_is_all}
 use Rattle.arc_parts.proofs.Windows.{taking_refused}
+use Rattle.std.proofs.lemmas.Grind.{common_steps}
 use Rattle.arc_parts.proofs.parts.Parts.try_into_raw_as.Goals as goal
 
 pub returns-in-Err-clause-refused : goal.returns-in-Err-clause-refused
@@ -19,3 +20,6 @@ returns-in-Raw-clause-taken g c =
       c.into_arc.ensures ∙ raw_whole_is_all _ _ _ c.args.self _ c.self.view_is c.in-Raw.is
           c.self.invariant whole,
     )
+
+pub returns-in-Ok-clause-taken : goal.returns-in-Ok-clause-taken
+returns-in-Ok-clause-taken g c = grind (arith, common_steps)

@@ -1,5 +1,5 @@
 -- The part lies where its source does, has its items, and stands that much further in.
-use Rattle.std.proofs.Common.{Fits, ◌≡◌, sym, ap, ◌∙◌, subst, rules, IfOk}
+use Rattle.std.proofs.Common.{Fits, ◌≡◌, sym, ap, ◌∙◌, subst, rules, IfOk, arith}
 use mir.Syntax.{w64}
 use Rattle.arc_owners.specs.count.Calls.{MakesAnother}
 use Rattle.arc_block.specs.Block.{raw}
@@ -9,6 +9,7 @@ use Rattle.arc_parts.proofs.NativeWindows.{native_items, native_shares, native_w
 use Rattle.arc_parts.proofs.Windows.{part_items, part_shares, part_within}
 use Rattle.arc_parts.proofs.Windows.{slice_items, slice_shares, slice_within, places_fit}
 use Rattle.arc_parts.proofs.Windows.{none_there, none_on_nothing}
+use Rattle.std.proofs.lemmas.Grind.{common_steps}
 use Rattle.arc_parts.proofs.parts.Parts.try_part_once_as.Goals as goal
 
 pub returns-in-Ok-clause-items : goal.returns-in-Ok-clause-items
@@ -122,3 +123,21 @@ returns-in-Err-try_clone-clause-refused g c =
     c.args.start c.args.end c.requires.range.0 c.requires.range.1 g.L.Layout.STATIC
     (sym c.if-stands_on_nothing.ensures) (layout_facts g.L.Layout) c.requires.held
     g.L.Layout.clone_wants (g.L.Layout.wants raw) c.args.pass.now
+
+pub invariant_of-result-in-Ok-try_clone : goal.invariant_of-result-in-Ok-try_clone
+invariant_of-result-in-Ok-try_clone g c = grind (arith, common_steps)
+
+pub returns-in_err-block-in-Block-clause-again : goal.returns-in_err-block-in-Block-clause-again
+returns-in_err-block-in-Block-clause-again g c = grind (arith, common_steps)
+
+pub returns-in_err-block-in-Native-clause-again : goal.returns-in_err-block-in-Native-clause-again
+returns-in_err-block-in-Native-clause-again g c = grind (arith, common_steps)
+
+pub returns-in-Ok-try_clone-clause-place : goal.returns-in-Ok-try_clone-clause-place
+returns-in-Ok-try_clone-clause-place g c = grind (arith, common_steps)
+
+pub returns-in-Err-2-clause-refused : goal.returns-in-Err-2-clause-refused
+returns-in-Err-2-clause-refused g c = grind (arith, common_steps)
+
+pub returns-in-Err-clause-refused : goal.returns-in-Err-clause-refused
+returns-in-Err-clause-refused g c = grind (arith, common_steps)
