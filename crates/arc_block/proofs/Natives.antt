@@ -1,6 +1,6 @@
 -- What a native block keeps, for readers of the same places.
 use Rattle.std.proofs.Common.{◌≡◌, ℕ, ◌-◌, Bool, true, false, List, sym, ap, ◌∙◌, subst}
-use Rattle.std.proofs.Common.{Option, None, Some, tt}
+use Rattle.std.proofs.Common.{Option, None, Some}
 use Rattle.std.proofs.lemmas.Bool.{false≢true}
 use Rattle.std.specs.Option.{IfSome}
 use Rattle.arc_owners.specs.declared.lifetime.EndedLifetime.{EndedLifetime}
