@@ -67,6 +67,7 @@ impl<
     ///
     /// On a block that counts its owners Up, or Full where refused.
     #[inline(always)]
+    #[tactic(auto, using(arc_parts::proofs::Attempts::joins_pass))]
     pub fn try_clone_as(&self, rt: &impl Wait, pass: &mut Pass<H>) -> Result<Self, OwnerError>
         requires pass { IsPassAt self.now.place pass.old }
         ensures items { IfOk result (λ window. window.items ≡ self.now.items) }

@@ -1,9 +1,10 @@
 -- The items from here on are a range of the list.
-use Rattle.std.proofs.Common.{length, sym, ap, ◌∙◌, subst}
+use Rattle.std.proofs.Common.{length, sym, ap, ◌∙◌, subst, arith}
 use Rattle.arc_buffer.specs.Slice.{IsEdge, IsRange}
 use Rattle.arc_block.specs.LayoutFacts.{layout_facts}
 use Rattle.arc_parts.specs.Window.{Window}
 use Rattle.arc_read.proofs.Cuts.{keeps}
+use Rattle.std.proofs.lemmas.Grind.{common_steps}
 use Rattle.arc_read.proofs.slice.ArcSlice.advance.Goals as goal
 
 pub invariant_of-self : goal.invariant_of-self
@@ -26,3 +27,6 @@ invariant_of-self g c =
       to =
           (g.met.S.Subsliceable.ends_are_edges _ h).1.cuts;
     }))
+
+pub returns : goal.returns
+returns g c = grind (arith, common_steps)

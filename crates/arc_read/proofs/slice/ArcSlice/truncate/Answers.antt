@@ -4,6 +4,7 @@ use Rattle.arc_buffer.specs.Slice.{IsEdge}
 use Rattle.arc_block.specs.LayoutFacts.{layout_facts}
 use Rattle.arc_parts.specs.Window.{Window}
 use Rattle.arc_read.proofs.Cuts.{keeps}
+use Rattle.std.proofs.lemmas.Grind.{common_steps}
 use Rattle.arc_read.proofs.slice.ArcSlice.truncate.Goals as goal
 
 pub invariant_of-self : goal.invariant_of-self
@@ -27,3 +28,6 @@ invariant_of-self g c =
           (g.met.S.Subsliceable.ends_are_edges _ h).0.cuts;
       to = edge.cuts;
     })
+
+pub returns-else-n-len : goal.returns-else-n-len
+returns-else-n-len g c = grind (arith, common_steps)

@@ -1,6 +1,6 @@
 -- Attempts that were lost, and then one that wasn't, are one call.
 use Rattle.std.proofs.Common.{refl}
-use Rattle.arc_parts.proofs.Attempts.{joins_at, joins_pass, joins_made, joins_refused}
+use Rattle.arc_parts.proofs.Attempts.{joins_at, joins_made, joins_refused}
 use Rattle.arc_read.proofs.slice.ArcSlice.try_clone_as.Goals as goal
 
 pub loop-preserved : goal.loop-preserved
@@ -11,11 +11,6 @@ loop-preserved g c = (
   joins_at c.args.self.now.place _ _ _ c.loop.invariant.3
       c.in_default-try_clone_once_as.ensures.again,
 )
-
-pub try_clone_once_as-requires-in-loop : goal.try_clone_once_as-requires-in-loop
-try_clone_once_as-requires-in-loop g c = record {
-  pass = joins_pass c.args.self.now.place _ _ c.loop.invariant.3 c.requires.pass;
-}
 
 pub returns-in-Some-try_clone_once_as-clause-items :
     goal.returns-in-Some-try_clone_once_as-clause-items

@@ -1,0 +1,7 @@
+-- Arithmetic at once, without a search before it.
+use Rattle.std.proofs.Common.{arith}
+use Rattle.std.proofs.lemmas.Grind.{common_steps}
+use Rattle.arc_read.proofs.adapters.buf.ArcSliceByteTextBuf.advance.Goals as goal
+
+pub returns-clause-kept : goal.returns-clause-kept
+returns-clause-kept g c = grind (arith, common_steps)
