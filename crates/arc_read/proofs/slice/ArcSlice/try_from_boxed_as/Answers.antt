@@ -1,8 +1,7 @@
 -- The vector has the box's items, and a place for each.
-use Rattle.std.proofs.Common.{length, ◌∙◌, ap, subst, arith}
+use Rattle.std.proofs.Common.{length, ◌∙◌, ap, subst}
 use Rattle.std.specs.Vec.{vec_capacity}
 use Rattle.arc_parts.specs.Steps.{MakesOfVec}
-use Rattle.std.proofs.lemmas.Grind.{common_steps}
 use Rattle.arc_read.proofs.slice.ArcSlice.try_from_boxed_as.Goals as goal
 
 pub returns-in-Ok-try_from_legal_vec_as-clause-made :
@@ -19,6 +18,3 @@ returns-in-Ok-try_from_legal_vec_as-clause-made g c =
     (exact.1 ∙ ap length list)
     (subst (λ xs. MakesOfVec static g.L.Layout.lone drops whole xs (vec_capacity inner) w) list
     c.in-Ok-try_from_legal_vec_as.ensures.made)
-
-pub returns-in-Err-try_from_legal_vec_as-clause-refused : goal.returns-in-Err-try_from_legal_vec_as-clause-refused
-returns-in-Err-try_from_legal_vec_as-clause-refused g c = grind (arith, common_steps)

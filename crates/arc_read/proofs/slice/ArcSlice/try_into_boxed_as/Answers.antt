@@ -1,6 +1,5 @@
 -- The box has the window's list, which is legal.
-use Rattle.std.proofs.Common.{sym, ◌∙◌, subst, arith}
-use Rattle.std.proofs.lemmas.Grind.{common_steps}
+use Rattle.std.proofs.Common.{sym, ◌∙◌, subst}
 use Rattle.arc_read.proofs.slice.ArcSlice.try_into_boxed_as.Goals as goal
 
 pub from_inner-requires : goal.from_inner-requires
@@ -9,6 +8,3 @@ from_inner-requires g c =
     (subst (λ xs. ∥ g.S.Slice.is_legal xs ∥₁)
     (sym (c.into_boxed_slice.ensures.items ∙ c.in-Ok.ensures.taken.1))
     c.into_parts.ensures.legal))
-
-pub returns-in-Ok-clause-taken : goal.returns-in-Ok-clause-taken
-returns-in-Ok-clause-taken g c = grind (arith, common_steps)

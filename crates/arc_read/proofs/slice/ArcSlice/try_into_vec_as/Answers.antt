@@ -1,8 +1,7 @@
 -- The vector has the window's list, which is legal.
-use Rattle.std.proofs.Common.{sym, ap, ◌∙◌, subst, arith}
+use Rattle.std.proofs.Common.{sym, ap, ◌∙◌, subst}
 use Rattle.arc_parts.specs.Window.{PartsView}
 use Rattle.arc_block.specs.Place.{size_at}
-use Rattle.std.proofs.lemmas.Grind.{common_steps}
 use Rattle.arc_read.proofs.slice.ArcSlice.try_into_vec_as.Goals as goal
 
 pub from_inner-requires : goal.from_inner-requires
@@ -19,6 +18,3 @@ returns-in-Ok-clause-places g c = (
       ∙ ap (λ (p : PartsView g.row.S-Item.Denot g.row.M.Denot). size_at p.place)
       c.into_parts.ensures.parts,
 )
-
-pub returns-in-Ok-clause-taken : goal.returns-in-Ok-clause-taken
-returns-in-Ok-clause-taken g c = grind (arith, common_steps)
