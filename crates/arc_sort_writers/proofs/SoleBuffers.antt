@@ -9,7 +9,7 @@ use Rattle.std.proofs.lemmas.List.{length-append, length-take-le, drop-append-le
 use Rattle.arc_owners.specs.count.Calls.{Owner}
 use Rattle.arc_owners.specs.declared.error.TryReserveError.{TryReserveError}
 use Rattle.arc_buffer.specs.Slice.{sub}
-use Rattle.arc_buffer.proofs.Sub.{length-sub}
+use Rattle.arc_buffer.proofs.Sub.{length-sub, sub-whole}
 use Rattle.arc_block.specs.Block.{buffer_info, vector, buffer, raw, IsMemory}
 use Rattle.arc_block.specs.Block.{IsBuffer}
 use Rattle.arc_block.specs.Contents.{held_in, content_items}
@@ -21,7 +21,7 @@ use Rattle.arc_parts.specs.declared.room.Room.TheVariants.{Front, Growth}
 use Rattle.std.specs.Prelude.{Result, Ok, Err, OnOk, slice_set}
 use Rattle.arc_block.specs.Place.{on_block}
 use Rattle.arc_block.specs.Table.{Role, sole_writer}
-use Rattle.arc_parts.specs.Window.{PartsView}
+use Rattle.arc_parts.specs.Window.{PartsView, IsBufferWhole}
 use Rattle.arc_sort_writers.specs.SortParts.{block_part, IsBufferWithin}
 use Rattle.arc_parts.specs.Writers.{capacity_of}
 use Rattle.arc_block.specs.Place.{size_at, offset_at}
@@ -176,6 +176,27 @@ module _ {T B M A : Type 0} (list : B → List T) (places : B → ℕ) (drops on
         room = refl;
         answer = answer;
       })
+
+  -- where the items are all of it, it has these and no others
+  pub taken_whole : IsBufferWhole w.items w.place
+      → (list held.buffer ≡ w.items) × (places held.buffer ≡ size_at w.place)
+  taken_whole whole =
+      let xs = list held.buffer in
+      let Q : PartsView T M → Type 0 = λ s. IsBufferWhole s.items s.place
+      → (list held.buffer ≡ s.items) × (places held.buffer ≡ size_at s.place) in
+      subst Q there (λ (all : IsBufferWhole (sub xs start end)
+      (on_block (Some o) start (buffer_info held.writable (places held.buffer) (length xs)
+      held.metadata))).
+      let full : length xs ≡ length (sub xs start end) = cc (all.whole.1) in
+      let last : end ≡ length xs = omega (
+        arith,
+        full,
+        length-sub xs start end inside.1 inside.2,
+        all.whole.0,
+      ) in (
+        sym (ap (λ n. sub xs n end) all.whole.0 ∙ ap (sub xs 0) last ∙ sub-whole xs),
+        refl,
+      )) whole
 
   -- the items stand at the buffer's front now
   pub front_seen : (b : B) → drops ≡ false

@@ -15,6 +15,10 @@ ghost use Rattle.arc_owners.specs.count.Calls.{Asks, IsFirst, IsFreshPass};
 ghost use Rattle.arc_owners.specs.memory.SoleBoxes.{sole_in};
 ghost use Rattle.arc_owners.specs.memory.SoleCounts.{count_owner};
 ghost use Rattle.arc_memory.specs.Sources.{IsPiece};
+ghost use Rattle.arc_memory.specs.LentRanges.{part_range};
+ghost use Rattle.arc_memory.specs.SharedWriters.{writer_owner, writer_value, writer_place};
+ghost use Rattle.arc_memory.specs.SharedWriters.{writer_range, writer_items};
+ghost use Rattle.arc_owners.specs.memory.Boxes.{owner_in, value_of, place_in};
 
 use arc_block::block::{MAX_OWNERS, NativeBlock, NativeCount};
 use arc_buffer::kinds::Slice;
@@ -62,6 +66,27 @@ impl<T: Drop, A: Allocator + Copy, H: Mark> Drop for SharedNative<T, A, H> {
     }
 }
 
+/// A writer of the part's places, which these numbers tell. Apart, so that what the unsafe call
+/// asks is proved with no other facts beside it.
+#[inline(always)]
+fn writer_of<T: Drop, A: Allocator + Copy, H: Mark>(
+    part: WriterPart<T, Kept<T, A>, Lodged, MAX_OWNERS, H>,
+    base: *const T,
+    start: usize,
+    len: usize,
+    capacity: usize,
+) -> SharedWriter<T, Kept<T, A>, Lodged, MAX_OWNERS, H>
+    requires place { (base ≡ part.part.memory.base) × (start ≡ part.part.start) }
+    requires sizes { (len ≡ length part.part.items) × (capacity ≡ part.part.count) }
+    ensures owner { (writer_owner result ≡ owner_in part.owner)
+        × (writer_value result ≡ value_of part.owner)
+        × (writer_place result ≡ place_in part.owner) }
+    ensures range { writer_range result ≡ part_range part.part }
+    ensures items { writer_items result ≡ part.part.items }
+{
+    unsafe { SharedWriter::of(part, base, start, len, capacity) }
+}
+
 impl<T: Drop, A: Allocator + Copy, H: Mark> SharedNative<T, A, H> {
     ghost use Rattle.std.specs.Borrow.{sem};
     ghost use Rattle.arc_sort_writers.specs.Lends.{lends_writer_items};
@@ -88,10 +113,8 @@ impl<T: Drop, A: Allocator + Copy, H: Mark> SharedNative<T, A, H> {
         beyond.give_up();
         let sole = SoleBox::lay(count, room, Kept::Places(kept));
         let part = WriterPart::lend(sole, lifetime, part);
-        SharedNative {
-            writer: unsafe { SharedWriter::of(part, base, start, len, capacity) },
-            head,
-        }
+        let writer = writer_of(part, base, start, len, capacity);
+        SharedNative { writer, head }
     }
 
     /// The only owner of the same block, with its memory, where no other owner lives: his places
@@ -341,6 +364,7 @@ impl<T: Drop, A: Allocator + Copy, H: Mark> SharedNative<T, A, H> {
 
     /// A reader of the items, which nobody changes again, while other owners write their own
     /// places. Those behind the items are given up. It adds no entry and takes no memory.
+    #[tactic(auto, using(crate::proofs::Takes::kept_frozen))]
     pub fn freeze<S: Slice<Item = T>>(self) -> NativeBlock<S, A, MAX_OWNERS, H>
         requires { S.DROPS ≡ false }
         ensures { result ≡ native_view S.DROPS self.owner self.items self.start self.size }

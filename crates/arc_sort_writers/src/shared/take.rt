@@ -2,8 +2,7 @@
 ghost use Rattle.std.specs.Prelude.{◌≡◌, ◌↔◌, false, IfOk, IfErr, IsTrue, length};
 ghost use Rattle.arc_owners.specs.count.Calls.{Asks, IsPassFor, TakesBlock};
 
-use super::SharedNative;
-use arc_memory::SharedWriter;
+use super::{SharedNative, writer_of};
 use arc_owners::mark::Mark;
 use arc_owners::owners::Pass;
 use std::alloc::Allocator;
@@ -20,7 +19,7 @@ impl<T: Drop, A: Allocator + Copy, H: Mark> SharedNative<T, A, H> {
         let (len, capacity) = (writer.places.len(), writer.places.capacity());
         let part = writer.into_part();
         let is = part.owner.get().count() == size;
-        let writer = unsafe { SharedWriter::of(part, base, start, len, capacity) };
+        let writer = writer_of(part, base, start, len, capacity);
         (SharedNative { writer, head }, is)
     }
 

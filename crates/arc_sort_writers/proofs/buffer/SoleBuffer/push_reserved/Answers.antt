@@ -1,5 +1,6 @@
 -- The item stands behind the others.
-use Rattle.std.proofs.Common.{ap, sym, ◌∙◌}
+use Rattle.std.proofs.Common.{ap, sym, ◌∙◌, arith}
+use Rattle.std.proofs.lemmas.Grind.{common_steps}
 use Rattle.arc_owners.specs.memory.SoleBoxes.{sole_in, sole_value}
 use Rattle.arc_block.specs.Contents.{held_in}
 use Rattle.arc_sort_writers.specs.SortParts.{block_part}
@@ -22,3 +23,6 @@ returns g c =
     (sym c.get_mut.ensures.value ∙ c.in-Buffer.is) start
     c.self.inside.end c.args.self.now c.self.view_is c.self.invariant put.new.buffer c.args.item
     put.ensures.list put.ensures.places c.requires
+
+pub invariant_of-self : goal.invariant_of-self
+invariant_of-self g c = grind (arith, common_steps)

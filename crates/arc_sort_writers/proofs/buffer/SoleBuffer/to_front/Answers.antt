@@ -1,5 +1,6 @@
 -- The buffer has the same items in another order.
-use Rattle.std.proofs.Common.{length, take, drop, ◌++◌, sym, ap, ◌∙◌}
+use Rattle.std.proofs.Common.{length, take, drop, ◌++◌, sym, ap, ◌∙◌, arith}
+use Rattle.std.proofs.lemmas.Grind.{common_steps}
 use Rattle.arc_owners.specs.memory.SoleBoxes.{sole_in, sole_value}
 use Rattle.arc_sort_writers.proofs.SoleBuffers.{front_seen}
 use Rattle.arc_sort_writers.proofs.buffer.SoleBuffer.to_front.Goals as goal
@@ -18,3 +19,6 @@ returns-clause-shifted g c =
     (g.B.BufferMut.with_list held.buffer c.rotate_left.new.self) c.requires
     (kept.0 ∙ c.rotate_left.ensures.after ∙ ap (λ xs. drop start xs ++ take start xs) was)
     (ap (λ xs. length xs) kept.0 ∙ long) kept.1
+
+pub returns-clause-room : goal.returns-clause-room
+returns-clause-room g c = grind (arith, common_steps)

@@ -1,5 +1,6 @@
 -- What is written stands in the same places.
-use Rattle.std.proofs.Common.{refl, ◌∙◌}
+use Rattle.std.proofs.Common.{refl, ◌∙◌, arith}
+use Rattle.std.proofs.lemmas.Grind.{common_steps}
 use Rattle.std.specs.Option.{option_map}
 use Rattle.arc_owners.specs.memory.SoleCounts.{count_owner}
 use Rattle.arc_sort_writers.proofs.SoleNatives.{slice_native, lent_native}
@@ -24,3 +25,6 @@ returns g c =
             c.self.view_is c.self.invariant.0 c.end_in-end.ensures;
       },
     )
+
+pub invariant_of-self-lent : goal.invariant_of-self-lent
+invariant_of-self-lent g c = grind (arith, common_steps)

@@ -1,4 +1,6 @@
 -- The items stand behind the others.
+use Rattle.std.proofs.Common.{arith}
+use Rattle.std.proofs.lemmas.Grind.{common_steps}
 use Rattle.std.specs.Option.{option_map}
 use Rattle.arc_owners.specs.memory.SoleCounts.{count_owner}
 use Rattle.arc_sort_writers.proofs.SoleNatives.{push_native, within_more}
@@ -21,3 +23,6 @@ invariant_of-self g c =
     c.self.view_is
     c.self.invariant.0 c.self.invariant.1 c.extend_from_slice.ensures.items
     c.extend_from_slice.ensures.memory c.requires
+
+pub extend_from_slice-requires : goal.extend_from_slice-requires
+extend_from_slice-requires g c = grind (arith, common_steps)

@@ -1,4 +1,6 @@
 -- The items stand at the front.
+use Rattle.std.proofs.Common.{arith}
+use Rattle.std.proofs.lemmas.Grind.{common_steps}
 use Rattle.std.specs.Option.{option_map}
 use Rattle.arc_owners.specs.memory.SoleCounts.{count_owner}
 use Rattle.arc_sort_writers.proofs.SoleNatives.{front_native, front_room}
@@ -17,3 +19,6 @@ returns-clause-room g c =
     c.self.inside.memory c.to_front.new.self c.self.inside.start c.self.inside.behind
     c.self.inside.beyond c.args.self.now c.self.view_is c.self.invariant.0 c.requires
     c.to_front.ensures.items c.to_front.ensures.start c.to_front.ensures.memory.0
+
+pub invariant_of-self : goal.invariant_of-self
+invariant_of-self g c = grind (arith, common_steps)

@@ -1,5 +1,6 @@
 -- What is left is the first items.
 use Rattle.std.proofs.Common.{◌≡◌, ◌+◌, ◌-◌, ◌<◌, length, take, sym, ap, ◌∙◌, arith}
+use Rattle.std.proofs.lemmas.Grind.{common_steps}
 use Rattle.std.specs.Option.{option_map}
 use Rattle.arc_owners.specs.memory.SoleCounts.{count_owner}
 use Rattle.arc_sort_writers.proofs.SoleNatives.{long_native, cut_native, cut_native_owned}
@@ -52,3 +53,12 @@ returns-else-DROPS g c =
     c.self.invariant.0 short (sym c.DROPS.ensures ∙ c.if-DROPS.false)
     (c.truncate.ensures.items ∙ ap (λ k. take k in_self.memory.places.vec.items) at)
     c.truncate.ensures.memory.whole c.truncate.ensures.memory.start
+
+pub returns-in_default : goal.returns-in_default
+returns-in_default g c = grind (arith, common_steps)
+
+pub returns-then-end_in-end : goal.returns-then-end_in-end
+returns-then-end_in-end g c = grind (arith, common_steps)
+
+pub invariant_of-self-else-DROPS : goal.invariant_of-self-else-DROPS
+invariant_of-self-else-DROPS g c = grind (arith, common_steps)

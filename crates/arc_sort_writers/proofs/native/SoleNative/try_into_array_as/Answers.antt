@@ -1,5 +1,6 @@
 -- The items are all of the memory's.
-use Rattle.std.proofs.Common.{sym, ◌∙◌, rules}
+use Rattle.std.proofs.Common.{sym, ◌∙◌, rules, arith}
+use Rattle.std.proofs.lemmas.Grind.{common_steps}
 use Rattle.std.specs.Option.{option_map}
 use Rattle.arc_owners.specs.memory.SoleCounts.{count_owner}
 use Rattle.arc_parts.specs.Writers.{IsWholeWriter}
@@ -16,3 +17,6 @@ returns-clause-taken g c =
           fields.1 fields.2 fields.3 fields.4 g.row.N c.args.self (sym was.parts) was.within
           was.left whole,
     )
+
+pub into_array-requires : goal.into_array-requires
+into_array-requires g c = grind (arith, common_steps)

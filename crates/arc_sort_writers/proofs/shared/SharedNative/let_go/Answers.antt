@@ -24,3 +24,9 @@ pub free-requires-clause-ended : goal.free-requires-clause-ended
 free-requires-clause-ended g c = let w = c.self.inside.writer in
     kept_until (writer_value w) c.in-Some.kept (search rules) (writer_range w).memory
     c.in-Some.ended.lifetime c.self.invariant.1 (search rules)
+
+pub returns-in-Some-clause-forgotten : goal.returns-in-Some-clause-forgotten
+returns-in-Some-clause-forgotten g c whole = (c.let_go-last.ensures.forgotten whole).1
+
+pub returns-in_default-clause-forgotten : goal.returns-in_default-clause-forgotten
+returns-in_default-clause-forgotten g c whole = (c.let_go-last.ensures.forgotten whole).1

@@ -1,5 +1,6 @@
 -- The items stand behind the others.
-use Rattle.std.proofs.Common.{length, ◌++◌, sym, ap, ◌∙◌}
+use Rattle.std.proofs.Common.{length, ◌++◌, sym, ap, ◌∙◌, arith}
+use Rattle.std.proofs.lemmas.Grind.{common_steps}
 use Rattle.std.proofs.lemmas.Bool.{eqb-true}
 use Rattle.std.proofs.lemmas.List.{nil_from_length}
 use Rattle.std.specs.declared.vec.Vec.{Vec}
@@ -26,3 +27,9 @@ returns g c =
     ∙ ap (λ (v : Vec g.row.S-Item.Denot g.row.A.Denot). v.items ++ c.args.items.now) was)
     (c.with_all.ensures.capacity ∙ ap vec_capacity was) c.requires
     (some_from_test (length c.args.items.now) (sym c.is_empty.ensures ∙ c.if-is_empty.false))
+
+pub invariant_of-self : goal.invariant_of-self
+invariant_of-self g c = grind (arith, common_steps)
+
+pub with_all-requires : goal.with_all-requires
+with_all-requires g c = grind (arith, common_steps)

@@ -1,5 +1,6 @@
 -- What is left is the first items.
-use Rattle.std.proofs.Common.{refl, sym, ◌∙◌}
+use Rattle.std.proofs.Common.{refl, sym, ◌∙◌, arith}
+use Rattle.std.proofs.lemmas.Grind.{common_steps}
 use Rattle.std.proofs.lemmas.Bool.{false≢true}
 use Rattle.arc_owners.specs.memory.SoleBoxes.{sole_in}
 use Rattle.arc_sort_writers.proofs.Writers.{cut_seen}
@@ -23,3 +24,6 @@ returns-else-not-DROPS g c =
     c.self.inside.start c.self.inside.end c.args.len c.args.self.now c.self.view_is c.self.invariant
     c.if-self-len.false
     (λ same. refl) (λ copied. absurd (false≢true (sym copied ∙ owned)))
+
+pub returns-then-self-len : goal.returns-then-self-len
+returns-then-self-len g c = grind (arith, common_steps)

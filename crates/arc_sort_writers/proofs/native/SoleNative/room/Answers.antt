@@ -1,0 +1,7 @@
+-- The items lie within the block's places.
+use Rattle.std.proofs.Common.{arith}
+use Rattle.std.proofs.lemmas.Grind.{common_steps}
+use Rattle.arc_sort_writers.proofs.native.SoleNative.room.Goals as goal
+
+pub room_in-requires-clause-within : goal.room_in-requires-clause-within
+room_in-requires-clause-within g c = grind (arith, common_steps)
