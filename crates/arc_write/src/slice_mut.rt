@@ -123,14 +123,6 @@ impl<
     A: Allocator + Copy,
     H: Mark,
 > ArcSliceMut<S, L, 1, B, M, A, H> {
-    /// The window stands on nothing, or on a block that the layout holds. Does nothing: its
-    /// contract is the law.
-    pub fn known_held(&self)
-        ensures { IsBlockHeld (layout_facts L.Layout) self.now.place }
-    {
-        let _ = &self.parts;
-    }
-
     /// A window with no items and no places, which stands on nothing.
     pub fn new(alloc: A) -> Self
     where

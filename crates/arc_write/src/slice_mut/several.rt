@@ -82,14 +82,6 @@ impl<
         as_several!(parts, parts => parts)
     }
 
-    /// The window stands on nothing, or on a block that the layout holds. Does nothing: its
-    /// contract is the law.
-    pub fn known_held(&self)
-        ensures { IsBlockHeld (layout_facts L.Layout) self.now.place }
-    {
-        let _ = &self.parts;
-    }
-
     /// The window stands on nothing, or on a block that counts its owners and keeps its items in
     /// memory of ours, as one of several writers. Does nothing: its contract is the law.
     pub fn known_shared_place(&self)
