@@ -29,6 +29,7 @@ impl<
 > ArcSliceMut<S, L, 1, B, M, A, H> {
     /// A window over all items of a caller's buffer, on a block that keeps the buffer, with its
     /// metadata where there is some.
+    #[tactic(auto, using(crate::proofs::Held::buffer_held))]
     fn try_from_held_buffer_as(
         alloc: A,
         buffer: B,

@@ -87,6 +87,7 @@ impl<
     /// # Allocates
     ///
     /// Once, except for no items.
+    #[tactic(auto, using(crate::proofs::Held::native_held))]
     pub fn try_from_slice_as(
         alloc: A,
         items: &[S::Item],
@@ -142,6 +143,7 @@ impl<
     /// # Allocates
     ///
     /// Once, except for no zeros.
+    #[tactic(auto, using(crate::proofs::Held::native_held))]
     pub fn try_zeroed_as(alloc: A, count: usize, pass: &mut Pass<H>) -> Result<Self, AllocError>
     where
         S: Zeroable,
@@ -191,6 +193,7 @@ impl<
     /// # Allocates
     ///
     /// Once, except for no items.
+    #[tactic(auto, using(crate::proofs::Held::native_held))]
     pub fn try_from_array_as<const N: usize>(
         alloc: A,
         array: [S::Item; N],
