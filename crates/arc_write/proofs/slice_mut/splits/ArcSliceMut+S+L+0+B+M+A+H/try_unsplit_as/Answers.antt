@@ -9,17 +9,19 @@ use Rattle.arc_write.proofs.slice_mut.splits.ArcSliceMut+S+L+0+B+M+A+H.try_unspl
 use Rattle.arc_write.proofs.slice_mut.splits.ArcSliceMut+S+L+0+B+M+A+H.try_unsplit_as.Goals.{in-Ok}
 use Rattle.arc_write.proofs.slice_mut.splits.ArcSliceMut+S+L+0+B+M+A+H.try_unsplit_as.Goals.{in-Err}
 
-pub try_unsplit_as-requires : goal.try_unsplit_as-requires
-try_unsplit_as-requires g c =
-    let seen = seen_as c.self.inside.parts _ _ c.in-Several.is c.self.view_is in record {
-      block = subst (λ (v : PartsView g.row.S-Item.Denot g.row.M.Denot).
-          IsOneBlock c.in-Several.parts.place v.place)
-          (sym c.into_shared_parts-other.ensures.parts)
-          (subst (λ (w : PartsView g.row.S-Item.Denot g.row.M.Denot).
-          IsOneBlock w.place c.args.other.place) seen c.requires.block);
-      pass = subst (λ (w : PartsView g.row.S-Item.Denot g.row.M.Denot).
-          IsPassAt w.place c.args.pass.now) seen c.requires.pass;
-    }
+pub try_unsplit_as-requires-clause-block : goal.try_unsplit_as-requires-clause-block
+try_unsplit_as-requires-clause-block g c =
+    let seen = seen_as c.self.inside.parts _ _ c.in-Several.is c.self.view_is in
+    subst (λ (v : PartsView g.row.S-Item.Denot g.row.M.Denot).
+    IsOneBlock c.in-Several.parts.place v.place) (sym c.into_shared_parts-other.ensures.parts)
+    (subst (λ (w : PartsView g.row.S-Item.Denot g.row.M.Denot).
+    IsOneBlock w.place c.args.other.place) seen c.requires.block)
+
+pub try_unsplit_as-requires-clause-pass : goal.try_unsplit_as-requires-clause-pass
+try_unsplit_as-requires-clause-pass g c =
+    let seen = seen_as c.self.inside.parts _ _ c.in-Several.is c.self.view_is in
+    subst (λ (w : PartsView g.row.S-Item.Denot g.row.M.Denot). IsPassAt w.place c.args.pass.now)
+    seen c.requires.pass
 
 pub invariant_of-self : goal.invariant_of-self
 invariant_of-self g c =
