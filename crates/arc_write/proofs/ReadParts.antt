@@ -13,7 +13,7 @@ use Rattle.bytes.specs.Unread.{IsChunkOf}
 use Rattle.arc_block.specs.Table.{Role, RowOf, reader, sole_writer, one_writer_of_several, inline}
 use Rattle.arc_block.specs.Table.{forgotten}
 use Rattle.arc_parts.specs.Writers.{after_advance, capacity_of, with_capacity, with_more}
-use Rattle.arc_write.specs.Within.{spare_places}
+use Rattle.arc_write.specs.Within.{spare_places, taken}
 
 -- all bytes are a chunk of themselves
 pub whole_chunk : (xs all : List ℕ) → xs ≡ all → IsChunkOf xs all
@@ -87,12 +87,22 @@ read_bytes items buffer copied rest n count front behind =
       )),
     )
 
+-- all bytes are written where there are places for them
+pub all_written : {N T M : Type 0} → (w : RowOf N T M) (xs : List T)
+    → length xs ≤ spare_places w → take (taken w xs) xs ≡ xs
+all_written w xs within = take_all (taken w xs) xs (omega (arith, within))
+
 -- behind so many items more there are so many places less
 module _ {N T M : Type 0} where
+  pub spare_after : (xs : List T) (w v : RowOf N T M) → v ≡ with_more xs w
+      → spare_places v ≡ spare_places w - length xs
+  spare_after xs w v more =
+      ap (λ (u : RowOf N T M). spare_places u) more
+      ∙ ap (λ len. capacity_of w.role - len) (length-append w.items xs)
+      ∙ omega arith
+
   pub spare_more : (n : ℕ) (x : T) (w v : RowOf N T M) → v ≡ with_more (replicate n x) w
       → spare_places v ≡ spare_places w - n
   spare_more n x w v more =
-      ap (λ (u : RowOf N T M). spare_places u) more
-      ∙ ap (λ len. capacity_of w.role - len)
-      (length-append w.items (replicate n x) ∙ ap (λ k. length w.items + k) (length-replicate n x))
-      ∙ omega arith
+      spare_after (replicate n x) w v more
+      ∙ ap (λ k. spare_places w - k) (length-replicate n x)

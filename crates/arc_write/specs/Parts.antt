@@ -15,6 +15,11 @@ abbrev pub IsOfUnique : {P Q : Type 0} → ℕ → WriterStorage P Q → Type 0
 IsOfUnique unique (Sole parts) = unique ≡ 1
 IsOfUnique unique (Several parts) = unique ≡ 0
 
+-- the same role's parts, changed
+abbrev pub changed_parts : {P : Type 0} → (P → P) → WriterStorage P P → WriterStorage P P
+changed_parts f (Sole parts) = Sole (f parts)
+changed_parts f (Several parts) = Several (f parts)
+
 -- the same parts with these items
 abbrev pub with_stored_items : {T M : Type 0} → WriterStorage (PartsView T M) (PartsView T M)
     → List T → WriterStorage (PartsView T M) (PartsView T M)

@@ -38,7 +38,7 @@ pub struct ArcSliceMut<
     A: Allocator + Copy = Global,
     H: Mark = Open,
 > {
-    parts: WriterStorage<SoleParts<S, B, M, A, H>, SharedParts<S, B, M, A, H>>,
+    pub(crate) parts: WriterStorage<SoleParts<S, B, M, A, H>, SharedParts<S, B, M, A, H>>,
     of: PhantomData<L>,
 }
 

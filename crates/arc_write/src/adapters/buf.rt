@@ -26,14 +26,14 @@ impl<
     ghost kept = { λ w. kept_spare (spare_places w) };
 
     fn remaining(&self) -> usize {
-        self.len_of_either()
+        self.parts.len()
     }
 
     fn chunk(&self) -> &[u8]
         ensures chunk { IsChunkOf result.now self.now.items }
         ensures whole { result.now ≡ self.now.items }
     {
-        self.slice_of_either()
+        self.parts.as_slice()
     }
 
     /// The window's own `advance`: the places of what was read go too.
@@ -43,7 +43,7 @@ impl<
         ensures kept { kept_spare (spare_places self.new) ≡ kept_spare (spare_places self.old) }
         ensures window { self.new ≡ after_advance count self.old }
     {
-        self.advance_of_either(count);
+        self.parts.advance(count);
     }
 }
 
@@ -60,14 +60,14 @@ impl<
     ghost kept = { λ w. kept_spare (spare_places w) };
 
     fn remaining(&self) -> usize {
-        self.len_of_either()
+        self.parts.len()
     }
 
     fn chunk(&self) -> &[u8]
         ensures chunk { IsChunkOf result.now self.now.items }
         ensures whole { result.now ≡ self.now.items }
     {
-        self.slice_of_either()
+        self.parts.as_slice()
     }
 
     /// The window's own `advance`: the places of what was read go too.
@@ -77,6 +77,6 @@ impl<
         ensures kept { kept_spare (spare_places self.new) ≡ kept_spare (spare_places self.old) }
         ensures window { self.new ≡ after_advance count self.old }
     {
-        self.advance_of_either(count);
+        self.parts.advance(count);
     }
 }

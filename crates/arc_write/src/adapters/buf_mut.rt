@@ -42,7 +42,7 @@ impl<
             (Some (spare_places self.new)) additional }
         ensures same { self.new ≡ self.old }
     {
-        if additional <= self.capacity_of_either() - self.len_of_either() {
+        if additional <= self.spare_of_either() {
             Ok(())
         } else {
             Err(AllocError)
@@ -97,7 +97,7 @@ impl<
         ensures window { OnOk result (self.new ≡ with_more (replicate count byte) self.old) }
         ensures same { OnErr result (self.new ≡ self.old) }
     {
-        if count > self.capacity_of_either() - self.len_of_either() {
+        if count > self.spare_of_either() {
             return Err(AllocError);
         }
         self.fill(byte, count);
@@ -109,7 +109,7 @@ impl<
         ensures spare { min (spare_places self.now) (2 ^ 64 - 1) ≤ result }
         ensures value { result ≡ spare_places self.now }
     {
-        self.capacity_of_either() - self.len_of_either()
+        self.parts.spare()
     }
 }
 
@@ -123,7 +123,6 @@ impl<
     H: Mark,
 > ArcSliceMut<S, L, UNIQUE, B, M, A, H> {
     /// So many bytes of one value more, where the window has places for them.
-    #[tactic(auto, using(crate::proofs::More::more_none, crate::proofs::More::one_more_alike))]
     fn fill(&mut self, byte: u8, count: usize)
         requires { length self.old.items + count ≤ capacity_of self.old.role }
         ensures { self.new ≡ with_more (replicate count byte) self.old }

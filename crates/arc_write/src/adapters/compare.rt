@@ -31,7 +31,7 @@ where
     ghost laws = { on_per (λ x. x.items) (lists_per S.Item.PartialEq.laws) };
 
     fn eq(&self, other: &Self) -> bool {
-        equal(self.slice_of_either(), other.slice_of_either())
+        equal(self.parts.as_slice(), other.parts.as_slice())
     }
 }
 
@@ -67,7 +67,7 @@ where
     ghost laws = { on_po (λ x. x.items) (lists_po S.Item.PartialOrd.laws) };
 
     fn partial_cmp(&self, other: &Self) -> Option<Ordering> {
-        partial_order(self.slice_of_either(), other.slice_of_either())
+        partial_order(self.parts.as_slice(), other.parts.as_slice())
     }
 }
 
@@ -92,7 +92,7 @@ where
     ghost matches_eq = { λ x y. lists_ties S.Item.cmp S.Item.matches_eq x.items y.items };
 
     fn cmp(&self, other: &Self) -> Ordering {
-        order(self.slice_of_either(), other.slice_of_either())
+        order(self.parts.as_slice(), other.parts.as_slice())
     }
 }
 
@@ -111,7 +111,7 @@ impl<
         S::Item: PartialEq,
         ensures { result ≡ pointwise S.Item.eq self.now.items other.now }
     {
-        equal(self.slice_of_either(), other)
+        equal(self.parts.as_slice(), other)
     }
 }
 
@@ -127,6 +127,6 @@ impl<
     pub fn eq_str(&self, other: &str) -> bool
         ensures { result ≡ pointwise nat_eq self.now.items other.now }
     {
-        equal(self.slice_of_either(), other.as_bytes())
+        equal(self.parts.as_slice(), other.as_bytes())
     }
 }

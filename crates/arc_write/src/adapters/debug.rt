@@ -19,6 +19,6 @@ impl<
     ghost debug_output = { λ w. S.debug_items w.items };
 
     fn fmt<W: fmt::Write>(&self, f: &mut fmt::Formatter<W>) -> fmt::Result {
-        S::fmt_items(self.as_legal_slice(), f)
+        S::fmt_items(self.parts.as_slice(), f)
     }
 }

@@ -10,7 +10,7 @@ use arc_buffer::kinds::{ByteText, Text};
 use arc_owners::mark::Mark;
 use bstr::BStr;
 use std::alloc::Allocator;
-use std::fmt;
+use std::{fmt, str};
 
 impl<
     L: LayoutMut,
@@ -25,7 +25,7 @@ impl<
     ghost styled_output = { λ w spec. Some (styled_text spec w.items) };
 
     fn fmt<W: fmt::Write>(&self, f: &mut fmt::Formatter<W>) -> fmt::Result {
-        f.pad(self.str_of_either())
+        f.pad(unsafe { str::from_utf8_unchecked(self.parts.as_slice()) })
     }
 }
 
@@ -40,6 +40,6 @@ impl<
     ghost output = { λ w. Some (encode_utf8_all (lossy_chars w.items)) };
 
     fn fmt<W: fmt::Write>(&self, f: &mut fmt::Formatter<W>) -> fmt::Result {
-        fmt::Display::fmt(&BStr::new(self.slice_of_either()), f)
+        fmt::Display::fmt(&BStr::new(self.parts.as_slice()), f)
     }
 }

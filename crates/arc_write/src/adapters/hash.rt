@@ -28,6 +28,6 @@ where
         (items_Alike (record { fed = S.Item.respects_eq }))).fed };
 
     fn hash<F: Hasher>(&self, state: &mut F) {
-        self.slice_of_either().hash(state);
+        self.parts.as_slice().hash(state);
     }
 }

@@ -24,7 +24,7 @@ impl<
     fn fmt<W: fmt::Write>(&self, f: &mut fmt::Formatter<W>) -> fmt::Result
         ensures { WritesOnOk W.write_str_gives f.old result (hex_bytes false self.now.items) f.new }
     {
-        write_hex(self.slice_of_either(), false, f)
+        write_hex(self.parts.as_slice(), false, f)
     }
 }
 
@@ -40,6 +40,6 @@ impl<
     fn fmt<W: fmt::Write>(&self, f: &mut fmt::Formatter<W>) -> fmt::Result
         ensures { WritesOnOk W.write_str_gives f.old result (hex_bytes true self.now.items) f.new }
     {
-        write_hex(self.slice_of_either(), true, f)
+        write_hex(self.parts.as_slice(), true, f)
     }
 }

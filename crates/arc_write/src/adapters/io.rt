@@ -37,9 +37,9 @@ impl<
         ensures window { self.new
             ≡ after_advance (min (length self.old.items) (length buffer.old)) self.old }
     {
-        let count = self.len_of_either().min(buffer.len());
-        buffer[..count].copy_from_slice(&self.slice_of_either()[..count]);
-        self.advance_of_either(count);
+        let count = self.parts.len().min(buffer.len());
+        buffer[..count].copy_from_slice(&self.parts.as_slice()[..count]);
+        self.parts.advance(count);
         Ok(count)
     }
 
@@ -60,7 +60,7 @@ impl<
         ensures window { self.new
             ≡ after_advance (min (length self.old.items) (length buffer.old)) self.old }
     {
-        let is_short = self.len_of_either() < buffer.len();
+        let is_short = self.parts.len() < buffer.len();
         self.read(buffer)?;
         if is_short {
             return Err(io::Error::new(ErrorKind::UnexpectedEof, "failed to fill whole buffer"));
@@ -87,7 +87,7 @@ impl<
         ensures count { result ≡ Ok (taken self.old bytes.now) }
         ensures window { self.new ≡ after_write self.old bytes.now }
     {
-        let count = (self.capacity_of_either() - self.len_of_either()).min(bytes.len());
+        let count = self.spare_of_either().min(bytes.len());
         match self.try_extend_within(&bytes[..count]) {
             Ok(()) => Ok(count),
             Err(_) => unreachable!(),
@@ -107,7 +107,7 @@ impl<
             × (error_kind e ≡ ErrorKind.WriteZero)) }
         ensures window { self.new ≡ after_write self.old bytes.now }
     {
-        let is_full = self.capacity_of_either() - self.len_of_either() < bytes.len();
+        let is_full = self.spare_of_either() < bytes.len();
         self.write(bytes)?;
         if is_full {
             return Err(io::Error::new(ErrorKind::WriteZero, "failed to write whole buffer"));

@@ -14,6 +14,7 @@ use std::convert::{AsSlice, AsStr};
 use std::iter::IntoIterator;
 use std::ops::{DerefSlice, DerefSliceMut};
 use std::slice::Iter;
+use std::str;
 
 impl<
     S: Slice,
@@ -27,7 +28,7 @@ impl<
     ghost items = { λ w. w.items };
 
     fn as_slice(&self) -> &[S::Item] {
-        self.slice_of_either()
+        self.parts.as_slice()
     }
 }
 
@@ -42,7 +43,7 @@ impl<
     ghost text = { λ w. w.items };
 
     fn as_str(&self) -> &str {
-        self.str_of_either()
+        unsafe { str::from_utf8_unchecked(self.parts.as_slice()) }
     }
 }
 
@@ -60,7 +61,7 @@ impl<
     ghost deref_gives = { λ w xs. xs ≡ w.items };
 
     fn deref(&self) -> &[S::Item] {
-        self.slice_of_either()
+        self.parts.as_slice()
     }
 }
 
@@ -81,7 +82,7 @@ impl<
             A.Allocator H.Mark self.entry result) }
         ensures value { result.now ≡ self.old.items }
     {
-        self.mut_slice_of_either()
+        self.parts.as_mut_slice()
     }
 }
 
@@ -104,6 +105,6 @@ impl<
         × EveryRun (iter_steps {A = T}) (λ p. ItemsMapTo p (λ y. y.now) (iter_rest p.from)) };
 
     fn into_iter(self) -> Iter<'a, T> {
-        self.slice_of_either().iter()
+        self.parts.as_slice().iter()
     }
 }

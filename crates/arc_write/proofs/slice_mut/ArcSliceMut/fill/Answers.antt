@@ -1,8 +1,21 @@
 -- One byte more each time.
-use Rattle.std.proofs.Common.{◌≡◌, ◌∷◌, [], replicate, ap, ◌∙◌, arith}
+use Rattle.std.proofs.Common.{◌≡◌, ◌∷◌, [], replicate, sym, ap, ◌∙◌, arith}
 use Rattle.arc_parts.specs.Writers.{with_more}
-use Rattle.arc_write.proofs.More.{one_more_alike}
+use Rattle.arc_write.proofs.More.{more_none, one_more_alike}
+use Rattle.arc_write.proofs.ReadParts.{spare_more}
 use Rattle.arc_write.proofs.slice_mut.ArcSliceMut.fill.Goals as goal
+
+pub loop-init : goal.loop-init
+loop-init g c = sym (more_none c.args.self.now)
+
+pub unreachable-requires : goal.unreachable-requires
+unreachable-requires g c = omega (
+  arith,
+  c.in-Err.ensures.full.0,
+  spare_more c.loop.counter c.args.byte c.args.self.now c.loop.self c.loop.invariant,
+  c.loop-test.true,
+  c.requires,
+)
 
 pub loop-preserved : goal.loop-preserved
 loop-preserved g c =

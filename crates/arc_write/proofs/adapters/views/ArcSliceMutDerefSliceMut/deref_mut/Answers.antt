@@ -2,7 +2,7 @@
 use Rattle.std.proofs.Common.{refl, ap, ◌∙◌}
 use Rattle.arc_block.specs.LayoutFacts.{layout_facts}
 use Rattle.arc_write.proofs.Parts.{lent_held, lent_seen}
-use Rattle.arc_write.proofs.slice_mut.ArcSliceMut.mut_slice_of_either.Goals as goal
+use Rattle.arc_write.proofs.adapters.views.ArcSliceMutDerefSliceMut.deref_mut.Goals as goal
 
 pub returns : goal.returns
 returns g c = (
