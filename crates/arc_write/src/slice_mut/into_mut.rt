@@ -120,7 +120,6 @@ impl<
 
     ghost seen = { λ window. window };
 
-    #[tactic(auto, using(crate::proofs::Legal::sole_legal))]
     fn try_into_mut_as<K: LayoutMut>(
         self,
         pass: &mut Pass<H>,

@@ -6,8 +6,14 @@ use Rattle.arc_parts.specs.Window.{PartsView}
 use Rattle.arc_block.specs.declared.layout.Move.TheVariants.{HandedBack}
 use Rattle.arc_write.specs.Moves.{BecomesWriter}
 use Rattle.arc_write.proofs.Held.{unasked_back}
+use Rattle.arc_write.proofs.Legal.{sole_legal}
 use Rattle.arc_write.proofs.Moves.{becomes_writer, sole_has_items, sole_has_pass}
 use Rattle.arc_write.proofs.slice_mut.into_mut.ArcSliceIntoMut.try_into_mut_as.Goals as goal
+
+pub from_parts-requires-clause-legal : goal.from_parts-requires-clause-legal
+from_parts-requires-clause-legal g c =
+    sole_legal g.S.Slice.is_legal g.K.Layout.ANY g.S.Slice.DROPS c.into_parts.result
+    c.in-Ok.parts _ _ c.in-Ok.ensures.sole.0 c.in-Ok.ensures.sole.1 c.into_parts.ensures.legal
 
 pub returns-in-Ok-clause-sole : goal.returns-in-Ok-clause-sole
 returns-in-Ok-clause-sole g c =
