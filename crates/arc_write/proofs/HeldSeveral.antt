@@ -1,6 +1,6 @@
 -- What the window of one of several writers stands on is held by its layout, whatever is done to
 -- it.
-use Rattle.std.proofs.Common.{◌≡◌, ℕ, Bool, true, false, List, [], ◌∷◌, ◌++◌, length}
+use Rattle.std.proofs.Common.{◌≡◌, ℕ, Bool, true, false, List, [], ◌∷◌}
 use Rattle.std.proofs.Common.{Option, Some, None, refl, sym, ap, subst}
 use Rattle.std.specs.Prelude.{Result, Ok, Err, OnOk, IfOk, OnErr, IfErr}
 use Rattle.arc_owners.specs.count.Calls.{Owner}
@@ -14,10 +14,10 @@ use Rattle.arc_block.specs.Place.{Place, nowhere, static_data, on_block, moved}
 use Rattle.arc_parts.specs.Shared.{LeavesVector, MakesRoomBeside, MakesRoomIf, MakesSharedRoom}
 use Rattle.arc_parts.specs.Shared.{PushesShared}
 use Rattle.arc_parts.specs.Shared.{ReclaimsIf, ReclaimsShared, StandsToSplit, StandsToSplitAt}
-use Rattle.arc_parts.specs.Shared.{SplitsWriterOff, SplitsWriterTo, as_unique, extended, front_of}
+use Rattle.arc_parts.specs.Shared.{SplitsWriterOff, SplitsWriterTo, as_unique, front_of}
 use Rattle.arc_parts.specs.Steps.{Shares}
 use Rattle.arc_parts.specs.Window.{PartsView, IsBlockHeld}
-use Rattle.arc_parts.specs.Writers.{after_advance, with_full, with_more}
+use Rattle.arc_parts.specs.Writers.{after_advance}
 use Rattle.arc_write.proofs.Held.{room_held, reclaimed_held, advanced_held}
 
 module _ {M : Type 0} (layout : LayoutFacts) where
@@ -175,10 +175,3 @@ pub left_items : {T M H E : Type 0} (one_pass : Bool) (w v : PartsView T M) (bef
     → OnErr reply ((v ≡ w) × (left ≡ before)) → v.items ≡ w.items
 left_items one_pass w v before left (Ok new) moved stays = ap (λ p. p.items) moved.made
 left_items one_pass w v before left (Err e) moved stays = ap (λ p. p.items) stays.0
-
--- where full places aren't counted, items more change nothing else
-pub more_uncounted : {T M : Type 0} → (xs : List T) (w : PartsView T M)
-    → ((len more : ℕ) → with_full len more w.place ≡ w.place) → extended xs w ≡ with_more xs w
-more_uncounted xs w uncounted =
-    ap (λ place. record w { items = w.items ++ xs; place = place })
-    (sym (uncounted (length w.items) (length xs)))

@@ -66,7 +66,8 @@ module _ {T M : Type 0} (layout : LayoutFacts) (legal : List T → Type 0) (uniq
         → OnOk reply (Room × (new ≡ changed_parts (with_more xs) parts))
         → OnErr reply (NoRoom × (new ≡ parts))
         → HoldsParts layout legal unique parts → HoldsParts layout legal unique new
-    within_parts Room NoRoom xs parts new (Ok u) done full holds = more_parts xs parts new done.1 holds
+    within_parts Room NoRoom xs parts new (Ok u) done full holds =
+        more_parts xs parts new done.1 holds
     within_parts Room NoRoom xs parts new (Err e) done full holds =
         subst (HoldsParts layout legal unique) (sym full.1) holds
 
