@@ -1,6 +1,8 @@
 -- The only one's room is that of one of several, once he was told that he is alone.
-use Rattle.std.proofs.Common.{sym, ap, ◌∙◌}
+use Rattle.std.proofs.Common.{sym, ap, ◌∙◌, subst}
+use Rattle.arc_parts.specs.Window.{PartsView, IsOfBuffer}
 use Rattle.arc_writer_parts.proofs.Rooms.{asked_reclaimed, reclaimed_items}
+use Rattle.arc_writer_parts.proofs.Rooms.{no_buffer_shared, no_buffer_reclaimed}
 use Rattle.arc_writer_parts.proofs.shared.SharedParts.with_places_as.Goals as goal
 
 pub returns-in-Ok-clause-room : goal.returns-in-Ok-clause-room
@@ -18,3 +20,10 @@ returns-in-Ok-clause-items g c =
     ∙ reclaimed_items _ c.in-Ok.sole c.try_reclaim-found.new.self c.try_reclaim-found.result
     c.try_reclaim-found.ensures
     ∙ ap (λ w. w.items) c.in-Ok.ensures.sole
+
+pub into_shared_memory-requires-clause-place : goal.into_shared_memory-requires-clause-place
+into_shared_memory-requires-clause-place g c =
+    no_buffer_reclaimed _ c.in-Ok.sole c.try_reclaim-found.new.self c.try_reclaim-found.result
+    c.try_reclaim-found.ensures
+    (subst (λ (w : PartsView g.row.S-Item.Denot g.row.M.Denot). ¬ IsOfBuffer w.place)
+    (sym c.in-Ok.ensures.sole) (no_buffer_shared c.args.self.place c.known_place.ensures.place))
