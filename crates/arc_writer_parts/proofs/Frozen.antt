@@ -1,15 +1,17 @@
--- One of several writers on a native block, as a reader.
+-- Writers' parts as a reader's: of one of several on a native block, and of nothing.
 use Rattle.std.proofs.Common.{◌≡◌, ℕ, ◌+◌, ◌-◌, Bool, true, false, List, length, Some, sym, ◌∙◌}
-use Rattle.std.proofs.Common.{arith}
+use Rattle.std.proofs.Common.{subst, arith}
 use Rattle.std.proofs.lemmas.Bool.{false≢true}
 use Rattle.arc_buffer.specs.Slice.{sub}
 use Rattle.arc_buffer.proofs.Sub.{sub-whole}
 use Rattle.arc_block.specs.Block.{native, memory_info}
 use Rattle.arc_block.specs.Natives.{NativeView, native_view}
 use Rattle.arc_sort_writers.specs.NativeWriters.{NativeWriter, native_row}
-use Rattle.arc_block.specs.Place.{on_block}
+use Rattle.arc_owners.specs.declared.count.tokens.Pass.{Pass}
+use Rattle.arc_block.specs.Place.{on_block, IsOnBlock}
 use Rattle.arc_block.specs.Table.{reader}
-use Rattle.arc_parts.specs.Window.{PartsView, parts_of, window_seen}
+use Rattle.arc_parts.specs.Steps.{Makes, Begins}
+use Rattle.arc_parts.specs.Window.{Window, PartsView, parts_of, window_seen}
 use Rattle.arc_parts.specs.Writers.{as_reader}
 use Rattle.arc_parts.specs.declared.storage.Storage.TheVariants.{Native}
 
@@ -33,3 +35,12 @@ frozen_several {T} {M} false w b start len copied is begins long =
     } in
     (λ i. parts_of (window_seen {M = M} (Native (is i)) (begins i) (begins i + long i)))
     ∙ (λ i. make (items i))
+
+-- what is made of parts on no block, where these are the same parts
+pub made_alike : {T M H : Type 0} (static drops one_pass : Bool) (its w : PartsView T M) → its ≡ w
+    → (made : Window T M) (old new : Pass H)
+    → ((¬ IsOnBlock its.place) → Makes static drops one_pass its.items made × Begins made old new)
+    → (¬ IsOnBlock w.place) → Makes static drops one_pass w.items made × Begins made old new
+made_alike {T} {M} static drops one_pass its w same made old new told =
+    subst (λ (v : PartsView T M). (¬ IsOnBlock v.place)
+    → Makes static drops one_pass v.items made × Begins made old new) same told

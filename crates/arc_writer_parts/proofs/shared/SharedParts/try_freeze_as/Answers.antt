@@ -1,10 +1,9 @@
 -- What is said of an arm's parts is said of these.
-use Rattle.std.proofs.Common.{sym, ap, ◌∙◌, subst}
-use Rattle.arc_block.specs.Place.{IsOnBlock}
-use Rattle.arc_parts.specs.Steps.{Makes}
+use Rattle.std.proofs.Common.{sym, ap, ◌∙◌}
 use Rattle.arc_parts.specs.Window.{PartsView, window_of}
 use Rattle.arc_parts.specs.Writers.{as_reader}
 use Rattle.arc_writer_parts.specs.PartsOn.{shared_on}
+use Rattle.arc_writer_parts.proofs.Frozen.{made_alike}
 use Rattle.arc_writer_parts.proofs.shared.SharedParts.try_freeze_as.Goals as goal
 
 pub returns-in-Several-clause-items : goal.returns-in-Several-clause-items
@@ -20,12 +19,7 @@ returns-in-Ok-clause-items g c =
     (sym (ap shared_on c.in-Alone.is) ∙ c.self.view_is)
 
 pub returns-in-Ok-clause-made : goal.returns-in-Ok-clause-made
-returns-in-Ok-clause-made g c never =
-    let seen = sym (ap shared_on c.in-Alone.is) ∙ c.self.view_is in
-    let got = c.in-Ok.ensures.made (λ on. never
-    (subst (λ (w : PartsView g.row.S-Item.Denot g.row.M.Denot). IsOnBlock w.place) seen on)) in (
-      subst (λ (w : PartsView g.row.S-Item.Denot g.row.M.Denot).
-          Makes g.L.Layout.STATIC g.S.Slice.DROPS g.H.Mark.whole w.items (window_of c.in-Ok.parts))
-          seen got.0,
-      got.1,
-    )
+returns-in-Ok-clause-made g c =
+    made_alike g.L.Layout.STATIC g.S.Slice.DROPS g.H.Mark.whole _ c.args.self
+    (sym (ap shared_on c.in-Alone.is) ∙ c.self.view_is) (window_of c.in-Ok.parts) _ _
+    c.in-Ok.ensures.made

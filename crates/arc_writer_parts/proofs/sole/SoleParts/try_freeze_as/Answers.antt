@@ -1,9 +1,8 @@
 -- What is said of an arm's parts is said of these.
-use Rattle.std.proofs.Common.{sym, ap, ◌∙◌, subst}
-use Rattle.arc_block.specs.Place.{IsOnBlock}
-use Rattle.arc_parts.specs.Steps.{Makes}
+use Rattle.std.proofs.Common.{sym, ap, ◌∙◌}
 use Rattle.arc_parts.specs.Window.{PartsView, window_of}
 use Rattle.arc_writer_parts.specs.PartsOn.{sole_on}
+use Rattle.arc_writer_parts.proofs.Frozen.{made_alike}
 use Rattle.arc_writer_parts.proofs.sole.SoleParts.try_freeze_as.Goals as goal
 
 pub returns-in-Ok-clause-items : goal.returns-in-Ok-clause-items
@@ -25,34 +24,19 @@ returns-in-Ok-try_freeze_as-2-clause-items g c =
     (sym (ap sole_on c.in-Buffer.is) ∙ c.self.view_is)
 
 pub returns-in-Ok-clause-made : goal.returns-in-Ok-clause-made
-returns-in-Ok-clause-made g c never =
-    let seen = sym (ap sole_on c.in-Native.is) ∙ c.self.view_is in
-    let got = c.in-Ok.ensures.made (λ on. never
-    (subst (λ (w : PartsView g.row.S-Item.Denot g.row.M.Denot). IsOnBlock w.place) seen on)) in (
-      subst (λ (w : PartsView g.row.S-Item.Denot g.row.M.Denot).
-          Makes g.L.Layout.STATIC g.S.Slice.DROPS g.H.Mark.whole w.items
-          (window_of c.in-Ok.parts)) seen got.0,
-      got.1,
-    )
+returns-in-Ok-clause-made g c =
+    made_alike g.L.Layout.STATIC g.S.Slice.DROPS g.H.Mark.whole _ c.args.self
+    (sym (ap sole_on c.in-Native.is) ∙ c.self.view_is) (window_of c.in-Ok.parts) _ _
+    c.in-Ok.ensures.made
 
 pub returns-in-Ok-try_freeze_as-clause-made : goal.returns-in-Ok-try_freeze_as-clause-made
-returns-in-Ok-try_freeze_as-clause-made g c never =
-    let seen = sym (ap sole_on c.in-Vector.is) ∙ c.self.view_is in
-    let got = c.in-Ok-try_freeze_as.ensures.made (λ on. never
-    (subst (λ (w : PartsView g.row.S-Item.Denot g.row.M.Denot). IsOnBlock w.place) seen on)) in (
-      subst (λ (w : PartsView g.row.S-Item.Denot g.row.M.Denot).
-          Makes g.L.Layout.STATIC g.S.Slice.DROPS g.H.Mark.whole w.items
-          (window_of c.in-Ok-try_freeze_as.parts)) seen got.0,
-      got.1,
-    )
+returns-in-Ok-try_freeze_as-clause-made g c =
+    made_alike g.L.Layout.STATIC g.S.Slice.DROPS g.H.Mark.whole _ c.args.self
+    (sym (ap sole_on c.in-Vector.is) ∙ c.self.view_is) (window_of c.in-Ok-try_freeze_as.parts) _ _
+    c.in-Ok-try_freeze_as.ensures.made
 
 pub returns-in-Ok-try_freeze_as-2-clause-made : goal.returns-in-Ok-try_freeze_as-2-clause-made
-returns-in-Ok-try_freeze_as-2-clause-made g c never =
-    let seen = sym (ap sole_on c.in-Buffer.is) ∙ c.self.view_is in
-    let got = c.in-Ok-try_freeze_as-2.ensures.made (λ on. never
-    (subst (λ (w : PartsView g.row.S-Item.Denot g.row.M.Denot). IsOnBlock w.place) seen on)) in (
-      subst (λ (w : PartsView g.row.S-Item.Denot g.row.M.Denot).
-          Makes g.L.Layout.STATIC g.S.Slice.DROPS g.H.Mark.whole w.items
-          (window_of c.in-Ok-try_freeze_as-2.parts)) seen got.0,
-      got.1,
-    )
+returns-in-Ok-try_freeze_as-2-clause-made g c =
+    made_alike g.L.Layout.STATIC g.S.Slice.DROPS g.H.Mark.whole _ c.args.self
+    (sym (ap sole_on c.in-Buffer.is) ∙ c.self.view_is) (window_of c.in-Ok-try_freeze_as-2.parts) _ _
+    c.in-Ok-try_freeze_as-2.ensures.made
