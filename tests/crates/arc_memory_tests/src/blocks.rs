@@ -1,6 +1,4 @@
 //! Native blocks that only three may share.
-ghost use Rattle.std.specs.Prelude.{◌≡◌, IfSome};
-ghost use Rattle.arc_owners.specs.count.Calls.{IsPassFor, MakesAnother};
 
 use arc_block::block::NativeBlock;
 use arc_buffer::kinds::Plain;
@@ -19,12 +17,7 @@ fn shared<A: Allocator + Copy>(
     leave: RaiseLeave,
     block: &Bytes<A>,
     pass: &mut Pass<Open>,
-) -> Option<Bytes<A>>
-    requires { IsPassFor block.now.owner pass.old }
-    ensures made { IfSome result (λ other.
-        MakesAnother block.now.owner pass.old pass.new other.owner) }
-    ensures alike { IfSome result (λ other. other ≡ record block.now { owner = other.owner }) }
-{
+) -> Option<Bytes<A>> {
     match block.try_share_once_as(leave, pass) {
         Some(Ok(made)) => Some(made),
         Some(Err(_)) => None,

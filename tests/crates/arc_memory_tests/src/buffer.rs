@@ -1,5 +1,4 @@
 //! Buffers that are read, and those that are written at one place.
-ghost use Rattle.std.specs.Prelude.{◌≡◌, ◌<◌, length, slice_set};
 
 use crate::page::Page;
 use arc_buffer::buffer::{AsMutBuffer, AsRefBuffer, Buffer, BufferMut, Lend, LendMut};
@@ -10,19 +9,12 @@ use std::sync::Arc;
 use std::test::Fail;
 
 /// The buffer with an item in the place of the one at `i`: its other items and its places stay.
-fn set<T: Drop, B: BufferMut<T>>(buffer: &mut B, i: usize, item: T)
-    requires { i < length (B.list buffer.old) }
-    ensures list { B.list buffer.new ≡ slice_set (B.list buffer.old) i item }
-    ensures places { B.places buffer.new ≡ B.places buffer.old }
-{
+fn set<T: Drop, B: BufferMut<T>>(buffer: &mut B, i: usize, item: T) {
     buffer.as_mut_slice()[i] = item;
 }
 
 /// The value with an item in the place of the one at `i`, written while a buffer had it.
-fn set_lent<T: Drop, B: LendMut<T>>(value: B, i: usize, item: T) -> B
-    requires { i < length (B.lent value) }
-    ensures { B.lent result ≡ slice_set (B.lent value) i item }
-{
+fn set_lent<T: Drop, B: LendMut<T>>(value: B, i: usize, item: T) -> B {
     let mut buffer = AsMutBuffer::new(value);
     set(&mut buffer, i, item);
     buffer.into_inner()

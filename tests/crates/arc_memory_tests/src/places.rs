@@ -1,6 +1,5 @@
 //! Memory of a vector: taken apart, edited by a vector that lodges in a part, and put together.
 //! Empty places.
-ghost use Rattle.std.specs.Prelude.{◌≡◌, IfSome, length};
 
 use arc_memory::{Allocation, Lodging, put_together, take_apart};
 use linked_list_allocator::LocalHeap;
@@ -8,9 +7,7 @@ use std::alloc::Allocator;
 use std::test::Fail;
 
 /// A vector of three items.
-fn three_of<T: Copy + Drop, A: Allocator>(alloc: A, items: [T; 3]) -> Option<Vec<T, A>>
-    ensures { IfSome result (λ v. length v.items ≡ 3) }
-{
+fn three_of<T: Copy + Drop, A: Allocator>(alloc: A, items: [T; 3]) -> Option<Vec<T, A>> {
     match Vec::from_slice(alloc, &items) {
         Ok(items) => Some(items),
         Err(_) => None,
@@ -19,9 +16,7 @@ fn three_of<T: Copy + Drop, A: Allocator>(alloc: A, items: [T; 3]) -> Option<Vec
 
 /// Cut, edited by a vector that lodges in a part, and joined again: the last item, and the vector
 /// with another one in its place.
-fn last_replaced<T, A: Allocator>(items: Vec<T, A>, item: T) -> (T, Vec<T, A>)
-    requires { length items.items ≡ 3 }
-{
+fn last_replaced<T, A: Allocator>(items: Vec<T, A>, item: T) -> (T, Vec<T, A>) {
     let (base, allocation, places) = take_apart(items);
     let (front, back) = places.split(1);
     let room = allocation.count() - 1;

@@ -1,6 +1,4 @@
 //! Parts of several writers whose items have no size. All memory is given back.
-ghost use Rattle.std.specs.Prelude.{IfSome};
-ghost use Rattle.arc_parts.specs.Shared.{IsOneBlock};
 
 use arc_buffer::kinds::Plain;
 use arc_owners::owners::Pass;
@@ -30,9 +28,7 @@ fn split_off<'a, T: Copy + Drop>(
     rt: &impl Wait,
     parts: &mut Writer<'a, T>,
     at: usize,
-) -> Option<Writer<'a, T>>
-    ensures { IfSome result (λ back. IsOneBlock parts.new.place back.place) }
-{
+) -> Option<Writer<'a, T>> {
     if parts.capacity() < at {
         return None;
     }
@@ -41,9 +37,7 @@ fn split_off<'a, T: Copy + Drop>(
 }
 
 /// Whether the other parts are put behind the first ones.
-fn is_joined<'a, T: Copy + Drop>(parts: &mut Writer<'a, T>, other: Writer<'a, T>) -> bool
-    requires { IsOneBlock parts.old.place other.place }
-{
+fn is_joined<'a, T: Copy + Drop>(parts: &mut Writer<'a, T>, other: Writer<'a, T>) -> bool {
     let mut pass = parts.pass();
     match parts.try_unsplit_as(other, &mut pass) {
         Ok(()) => true,

@@ -1,10 +1,4 @@
 //! Owners and their count: the replies at the greatest count, and two threads.
-ghost use Rattle.std.specs.Prelude.{◌≡◌, [], ◌∷◌};
-ghost use Rattle.std.specs.List.{Contains};
-ghost use mathlib.Core.List.{IsPrefix};
-ghost use Rattle.arc_owners.specs.declared.history.entry.Entry.TheVariants.{Up, Full, Down};
-ghost use Rattle.arc_owners.specs.count.Calls.{block_of, owner_of, seen, mine, history_of};
-ghost use Rattle.arc_owners.specs.count.Calls.{IsOwnerOf, IsPassOf, IsSamePass, HasCountIn, Asks};
 
 use arc_owners::error::CountFull;
 use arc_owners::mark::{Mark, Open, Whole};
@@ -15,11 +9,8 @@ use std::thread::{Threads, join};
 
 /// The replies where the word counts three owners at most: two are made, a third is refused, the
 /// second one made is released, not as the last, and then there is room again. No other reply can
-/// come, and the history is exactly this.
-fn worked_run<R: Wait>(rt: &R) -> Pass<Whole>
-    ensures seen { seen result ≡ Up 0 1 ∷ Up 0 2 ∷ Full 0 ∷ Down 2 ∷ Up 0 3 ∷ [] }
-    ensures made { mine result ≡ Up 0 1 ∷ Up 0 2 ∷ Full 0 ∷ Down 2 ∷ Up 0 3 ∷ [] }
-{
+/// come.
+fn worked_run<R: Wait>(rt: &R) -> Pass<Whole> {
     let (owners, first, mut pass) = Owners::<3, Whole>::new();
     let Ok(_second) = owners.up_as(rt, &first, &mut pass) else {
         unreachable!()
@@ -52,11 +43,7 @@ fn thousand<R: Wait>(
     owners: &Owners<8, Open>,
     first: &Share<Open>,
     pass: Pass<Open>,
-) -> (u32, Pass<Open>)
-    requires of { IsOwnerOf (block_of owners.now) first.now × IsPassOf (block_of owners.now) pass }
-    requires counted { HasCountIn (block_of owners.now) (seen pass) }
-    ensures { IsPassOf (block_of owners.now) result.1 }
-{
+) -> (u32, Pass<Open>) {
     let mut pass = pass;
     let mut made = 0u32;
     for _ in 0..1000u32 {
@@ -75,16 +62,8 @@ fn alone_after_two<R: Threads + Wait + Sync>(rt: &R) -> (u32, u32, bool) {
     let two = owners.pass(&first);
     let ((ones, mut one), (twos, two)) = join(
         rt,
-        || -> (u32, Pass<Open>)
-            requires of { IsOwnerOf (block_of owners) first × IsPassOf (block_of owners) one }
-            requires counted { HasCountIn (block_of owners) (seen one) }
-            ensures { IsPassOf (block_of owners) result.1 }
-        { thousand(rt, &owners, &first, one) },
-        || -> (u32, Pass<Open>)
-            requires of { IsOwnerOf (block_of owners) first × IsPassOf (block_of owners) two }
-            requires counted { HasCountIn (block_of owners) (seen two) }
-            ensures { IsPassOf (block_of owners) result.1 }
-        { thousand(rt, &owners, &first, two) },
+        || -> (u32, Pass<Open>) { thousand(rt, &owners, &first, one) },
+        || -> (u32, Pass<Open>) { thousand(rt, &owners, &first, two) },
     );
     owners.learn(&mut one, &two);
     (ones, twos, owners.alone_as(&first, &mut one))
@@ -109,23 +88,14 @@ fn forgotten_owner_stays(rt: HostRuntime) -> Result<(), Fail> {
 }
 
 /// Ends an owner, and hands the pass back.
-fn ended(owners: &Owners<8, Open>, share: Share<Open>, pass: Pass<Open>) -> Pass<Open>
-    requires share { IsOwnerOf (block_of owners.now) share }
-    requires pass { IsPassOf (block_of owners.now) pass }
-    ensures same { IsSamePass (block_of owners.now) pass result }
-    ensures ended { Contains (seen result) (Down (owner_of share).number) }
-{
+fn ended(owners: &Owners<8, Open>, share: Share<Open>, pass: Pass<Open>) -> Pass<Open> {
     let mut pass = pass;
     owners.down_as(share, &mut pass);
     pass
 }
 
 /// Reads whether an owner is alone, whatever that is now, and hands the pass back.
-fn looked(owners: &Owners<8, Open>, share: &Share<Open>, pass: Pass<Open>) -> Pass<Open>
-    requires share { IsOwnerOf (block_of owners.now) share.now }
-    requires pass { IsPassOf (block_of owners.now) pass }
-    ensures { IsSamePass (block_of owners.now) pass result }
-{
+fn looked(owners: &Owners<8, Open>, share: &Share<Open>, pass: Pass<Open>) -> Pass<Open> {
     let mut pass = pass;
     owners.alone_as(share, &mut pass);
     pass
@@ -141,29 +111,11 @@ fn alone_after_end<R: Threads>(
     second: Share<Open>,
     own: Pass<Open>,
     other: Pass<Open>,
-) -> (bool, Pass<Open>, Pass<Open>)
-    requires shares { IsOwnerOf (block_of owners.now) first.now
-        × IsOwnerOf (block_of owners.now) second }
-    requires passes { IsPassOf (block_of owners.now) own × IsPassOf (block_of owners.now) other }
-    ensures same { IsSamePass (block_of owners.now) own result.1
-        × IsSamePass (block_of owners.now) other result.2 }
-    ensures ended { Contains (seen result.2) (Down (owner_of second).number) }
-    ensures asked { (learnt : Pass Open) × IsPrefix (history_of result.2) (history_of learnt)
-        × Asks (owner_of first.now) learnt result.1 result.0 }
-{
+) -> (bool, Pass<Open>, Pass<Open>) {
     let (other, mut own) = join(
         rt,
-        || -> Pass<Open>
-            requires { IsOwnerOf (block_of owners.now) second
-                × IsPassOf (block_of owners.now) other }
-            ensures { IsSamePass (block_of owners.entry.now) other result
-                × Contains (seen result) (Down (owner_of second).number) }
-        { ended(owners, second, other) },
-        || -> Pass<Open>
-            requires { IsOwnerOf (block_of owners.now) first.now
-                × IsPassOf (block_of owners.now) own }
-            ensures { IsSamePass (block_of owners.entry.now) own result }
-        { looked(owners, first, own) },
+        || -> Pass<Open> { ended(owners, second, other) },
+        || -> Pass<Open> { looked(owners, first, own) },
     );
     owners.learn(&mut own, &other);
     let alone = owners.alone_as(first, &mut own);
@@ -171,10 +123,7 @@ fn alone_after_end<R: Threads>(
 }
 
 /// Whether an owner gets the block back, which then ends.
-fn ended_alone<H: Mark>(owners: &Owners<3, H>, share: Share<H>, pass: &mut Pass<H>) -> bool
-    requires share { IsOwnerOf (block_of owners.now) share }
-    requires pass { IsPassOf (block_of owners.now) pass.old }
-{
+fn ended_alone<H: Mark>(owners: &Owners<3, H>, share: Share<H>, pass: &mut Pass<H>) -> bool {
     match owners.claim_as(share, pass) {
         Ok((sole, _term)) => {
             sole.end_as(pass);

@@ -1,7 +1,4 @@
 //! A value in memory of its own: who gets it back, and which memory is taken and kept.
-ghost use Rattle.std.specs.Prelude.{◌≡◌};
-ghost use Rattle.arc_owners.specs.count.Calls.{IsPassFor};
-ghost use Rattle.arc_owners.specs.memory.Boxes.{owner_in, value_of};
 
 use arc_owners::error::AllocError;
 use arc_owners::mark::{Open, Whole};
@@ -101,9 +98,7 @@ fn released_by_two_threads(rt: HostRuntime) -> Result<(), Fail> {
 }
 
 /// Ends an owner with a pass of its own, and hands that back.
-fn ended(piece: CountedBox<u64, Global, 3, Open>) -> Pass<Open>
-    ensures { IsPassFor (owner_in piece) result }
-{
+fn ended(piece: CountedBox<u64, Global, 3, Open>) -> Pass<Open> {
     let mut pass = piece.pass();
     piece.release_as(&mut pass);
     pass
@@ -114,16 +109,11 @@ fn read_by_two<R: Threads>(
     rt: &R,
     first: &CountedBox<u64, Global, 3, Open>,
     second: CountedBox<u64, Global, 3, Open>,
-) -> (u64, u64, Pass<Open>)
-    ensures values { (result.0 ≡ value_of first.now) × (result.1 ≡ value_of first.now) }
-    ensures pass { IsPassFor (owner_in second) result.2 }
-{
+) -> (u64, u64, Pass<Open>) {
     let (one, (two, pass)) = join(
         rt,
         || *first.get(),
-        || -> (u64, Pass<Open>)
-            ensures { (result.0 ≡ value_of first.entry.now) × IsPassFor (owner_in second) result.1 }
-        { (*first.get(), ended(second)) },
+        || -> (u64, Pass<Open>) { (*first.get(), ended(second)) },
     );
     (one, two, pass)
 }

@@ -1,6 +1,4 @@
 //! Three threads that raise a count with room for two more owners.
-ghost use Rattle.std.specs.Prelude.{◌≡◌, []};
-ghost use Rattle.arc_owners.specs.count.Calls.{block_of, HasCountIn, IsOwnerOf};
 
 use arc_owners::mark::Open;
 use arc_owners::owners::{Owners, Share};
@@ -27,15 +25,12 @@ fn wait_for_three(tried: &AtomicU64) -> bool {
 
 /// One raise through one owner; an owner that is made lives until three threads have tried. It
 /// answers whether one was made, and whether all came.
-#[tactic(auto, using(arc_owners::proofs::Wholes::counted_ever))]
 fn raised_once<R: Wait>(
     rt: &R,
     owners: &Owners<3, Open>,
     first: &Share<Open>,
     tried: &AtomicU64,
-) -> (bool, bool)
-    requires { IsOwnerOf (block_of owners.now) first.now × HasCountIn (block_of owners.now) [] }
-{
+) -> (bool, bool) {
     let mut pass = owners.pass(first);
     match owners.up_as(rt, first, &mut pass) {
         Ok(share) => {
@@ -53,19 +48,11 @@ fn raised_twice<R: Threads + Wait + Sync>(
     owners: &Owners<3, Open>,
     first: &Share<Open>,
     tried: &AtomicU64,
-) -> ((bool, bool), (bool, bool))
-    requires { IsOwnerOf (block_of owners.now) first.now × HasCountIn (block_of owners.now) [] }
-{
+) -> ((bool, bool), (bool, bool)) {
     join(
         rt,
-        || -> (bool, bool)
-            requires { IsOwnerOf (block_of owners.now) first.now
-                × HasCountIn (block_of owners.now) [] }
-        { raised_once(rt, owners, first, tried) },
-        || -> (bool, bool)
-            requires { IsOwnerOf (block_of owners.now) first.now
-                × HasCountIn (block_of owners.now) [] }
-        { raised_once(rt, owners, first, tried) },
+        || -> (bool, bool) { raised_once(rt, owners, first, tried) },
+        || -> (bool, bool) { raised_once(rt, owners, first, tried) },
     )
 }
 
@@ -75,12 +62,8 @@ fn raised_by_three<R: Threads + Wait + Sync>(rt: &R) -> ([(bool, bool); 3], bool
     let tried = AtomicU64::new(0);
     let ((one, two), three) = join(
         rt,
-        || -> ((bool, bool), (bool, bool))
-            requires { IsOwnerOf (block_of owners) first × HasCountIn (block_of owners) [] }
-        { raised_twice(rt, &owners, &first, &tried) },
-        || -> (bool, bool)
-            requires { IsOwnerOf (block_of owners) first × HasCountIn (block_of owners) [] }
-        { raised_once(rt, &owners, &first, &tried) },
+        || -> ((bool, bool), (bool, bool)) { raised_twice(rt, &owners, &first, &tried) },
+        || -> (bool, bool) { raised_once(rt, &owners, &first, &tried) },
     );
     ([one, two, three], owners.alone_as(&first, &mut pass))
 }

@@ -1,6 +1,4 @@
 //! Raises through one owner in four threads: one that is overtaken reads the count again.
-ghost use Rattle.std.specs.Prelude.{◌≡◌, []};
-ghost use Rattle.arc_owners.specs.count.Calls.{block_of, HasCountIn, IsOwnerOf};
 
 use arc_owners::mark::Open;
 use arc_owners::owners::{Owners, Share};
@@ -33,15 +31,12 @@ fn wait_for_four(come: &AtomicU64) {
 /// Makes owners through one owner, once four threads have come. It answers how many were made.
 ///
 /// Each is forgotten and so lives on: the number that a raise once found never comes back.
-#[tactic(auto, using(arc_owners::proofs::Wholes::counted_ever))]
 fn raised<R: Wait>(
     rt: &R,
     owners: &Owners<MOST, Open>,
     first: &Share<Open>,
     come: &AtomicU64,
-) -> u32
-    requires { IsOwnerOf (block_of owners.now) first.now × HasCountIn (block_of owners.now) [] }
-{
+) -> u32 {
     wait_for_four(come);
     let mut pass = owners.pass(first);
     let mut made = 0u32;
@@ -59,19 +54,11 @@ fn raised_by_two<R: Threads + Wait + Sync>(
     owners: &Owners<MOST, Open>,
     first: &Share<Open>,
     come: &AtomicU64,
-) -> (u32, u32)
-    requires { IsOwnerOf (block_of owners.now) first.now × HasCountIn (block_of owners.now) [] }
-{
+) -> (u32, u32) {
     join(
         rt,
-        || -> u32
-            requires { IsOwnerOf (block_of owners.now) first.now
-                × HasCountIn (block_of owners.now) [] }
-        { raised(rt, owners, first, come) },
-        || -> u32
-            requires { IsOwnerOf (block_of owners.now) first.now
-                × HasCountIn (block_of owners.now) [] }
-        { raised(rt, owners, first, come) },
+        || -> u32 { raised(rt, owners, first, come) },
+        || -> u32 { raised(rt, owners, first, come) },
     )
 }
 
@@ -82,12 +69,8 @@ fn raised_by_four<R: Threads + Wait + Sync>(rt: &R) -> ((u32, u32), (u32, u32), 
     let come = AtomicU64::new(0);
     let (one, two) = join(
         rt,
-        || -> (u32, u32)
-            requires { IsOwnerOf (block_of owners) first × HasCountIn (block_of owners) [] }
-        { raised_by_two(rt, &owners, &first, &come) },
-        || -> (u32, u32)
-            requires { IsOwnerOf (block_of owners) first × HasCountIn (block_of owners) [] }
-        { raised_by_two(rt, &owners, &first, &come) },
+        || -> (u32, u32) { raised_by_two(rt, &owners, &first, &come) },
+        || -> (u32, u32) { raised_by_two(rt, &owners, &first, &come) },
     );
     let full = owners.up_as(rt, &first, &mut pass).is_err();
     (one, two, full)

@@ -1,5 +1,4 @@
 //! The slice that a lent value shows: asked for once, and read through every owner.
-ghost use Rattle.std.specs.Prelude.{◌≡◌, List, length};
 
 use arc_owners::error::AllocError;
 use arc_owners::lend::LentValue;
@@ -46,9 +45,7 @@ struct Start {
 }
 
 impl Start {
-    fn place(&self) -> *const u8
-        ensures { result ≡ self.now.at }
-    {
+    fn place(&self) -> *const u8 {
         self.at
     }
 }
@@ -63,9 +60,7 @@ fn read_by_two<V: Shows<u8> + Drop, A: Allocator + Copy>(
     rt: &impl Wait,
     alloc: A,
     value: V,
-) -> Result<[u8; 2], Fail>
-    requires { length (V.shown value) ≡ 4 }
-{
+) -> Result<[u8; 2], Fail> {
     let Ok((sole, mut pass)) = SoleBox::<V, A, 3, Open>::new(alloc, value) else {
         return Err(AllocError.into());
     };

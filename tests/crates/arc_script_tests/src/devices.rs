@@ -1,5 +1,4 @@
 //! Devices over memory, which give or take little, or fail at one call, and long lines for them.
-ghost use Rattle.std.specs.Prelude.{◌≡◌, None, Some, []};
 
 use std::alloc::{AllocError, Global};
 use std::io;
@@ -19,10 +18,7 @@ pub struct Pieces<'a> {
 
 impl<'a> Pieces<'a> {
     /// A reader over these bytes, of which no call fails.
-    pub fn new(input: &'a [u8], size: usize) -> Self
-        ensures input { result.input.now ≡ input.now }
-        ensures sound { result.fails_at ≡ None }
-    {
+    pub fn new(input: &'a [u8], size: usize) -> Self {
         Pieces {
             input,
             size,
@@ -32,10 +28,7 @@ impl<'a> Pieces<'a> {
     }
 
     /// The same, of which this call fails.
-    pub fn failing(input: &'a [u8], size: usize, call: usize) -> Self
-        ensures input { result.input.now ≡ input.now }
-        ensures fails { result.fails_at ≡ Some call }
-    {
+    pub fn failing(input: &'a [u8], size: usize, call: usize) -> Self {
         Pieces {
             input,
             size,
@@ -75,10 +68,7 @@ pub struct Taken {
 
 impl Taken {
     /// A writer that has taken nothing, of which no call fails.
-    pub fn new(alloc: Global, size: usize) -> Self
-        ensures bytes { result.bytes.items ≡ [] }
-        ensures sound { result.fails_at ≡ None }
-    {
+    pub fn new(alloc: Global, size: usize) -> Self {
         Taken {
             bytes: Vec::new(alloc),
             size,
@@ -89,10 +79,7 @@ impl Taken {
     }
 
     /// The same, of which this call fails.
-    pub fn failing(alloc: Global, size: usize, call: usize) -> Self
-        ensures bytes { result.bytes.items ≡ [] }
-        ensures fails { result.fails_at ≡ Some call }
-    {
+    pub fn failing(alloc: Global, size: usize, call: usize) -> Self {
         Taken {
             bytes: Vec::new(alloc),
             size,

@@ -1,5 +1,4 @@
 //! Small windows: each call once, and in threads.
-ghost use Rattle.arc_parts.specs.Steps.{IsPassAt};
 
 use arc_slice::error::{OwnerError, RangeError};
 use arc_slice::inlined::{SmallArcBytes, SmallArcSlice, SmallArcStr, SmallSlice};
@@ -41,10 +40,11 @@ fn cut(rt: &impl Wait, alloc: Global, bytes: &[u8]) -> Option<(Option<u8>, usize
 type Whole = SmallArcBytes<DefaultLayout, Vec<u8>, (), Global, WholeMark>;
 
 /// How many bytes a clone has, which is then released.
-fn clone_as(rt: &impl Wait, window: &Whole, pass: &mut Pass<WholeMark>) -> Result<usize, OwnerError>
-    requires { IsPassAt window.now.place pass.old }
-    ensures { IsPassAt window.now.place pass.new }
-{
+fn clone_as(
+    rt: &impl Wait,
+    window: &Whole,
+    pass: &mut Pass<WholeMark>,
+) -> Result<usize, OwnerError> {
     let clone = window.try_clone_as(rt, pass)?;
     let len = clone.len();
     clone.release_as(pass);
@@ -52,10 +52,11 @@ fn clone_as(rt: &impl Wait, window: &Whole, pass: &mut Pass<WholeMark>) -> Resul
 }
 
 /// The same of the part from the second byte to the fourth.
-fn part_as(rt: &impl Wait, window: &Whole, pass: &mut Pass<WholeMark>) -> Result<usize, OwnerError>
-    requires { IsPassAt window.now.place pass.old }
-    ensures { IsPassAt window.now.place pass.new }
-{
+fn part_as(
+    rt: &impl Wait,
+    window: &Whole,
+    pass: &mut Pass<WholeMark>,
+) -> Result<usize, OwnerError> {
     if window.check_range(1, 3).is_err() {
         return Ok(0);
     }

@@ -1,5 +1,4 @@
 //! Lines as calls.
-ghost use Rattle.std.specs.Prelude.{◌<◌};
 
 use std::alloc::{AllocError, Global};
 
@@ -194,9 +193,7 @@ fn operands_of(alloc: Global, has_window: bool, numbers: usize, line: &str) -> O
 }
 
 /// The value of a hexadecimal digit.
-fn digit(byte: u8) -> u8
-    ensures { result < 16 }
-{
+fn digit(byte: u8) -> u8 {
     match byte {
         b'0'..=b'9' => byte - b'0',
         b'a'..=b'f' => byte - b'a' + 10,

@@ -1,6 +1,4 @@
 //! Items that rows write as letters.
-ghost use Rattle.std.specs.Prelude.{◌≤◌};
-ghost use Rattle.std.specs.Mem.{FitsInMemory, type_size};
 ghost use Rattle.std.specs.Fmt.{debug_list};
 
 use arc_buffer::kinds::{DebugItem, ZeroItem};
@@ -9,11 +7,6 @@ use std::hash::Hash;
 
 /// Items that are written as letters, each as a byte.
 pub trait Letter: Ord + Hash + Drop {
-    /// An item's size fits in memory, and is small. Does nothing: its contract is the law.
-    fn fits()
-        ensures memory { FitsInMemory Self.row }
-        ensures small { type_size Self.row ≤ 8 };
-
     /// The item that is written so.
     fn of(byte: u8) -> Self;
 
@@ -40,8 +33,6 @@ pub fn lasting_text(text: &[u8]) -> Option<&'static str> {
 }
 
 impl Letter for u8 {
-    fn fits() {}
-
     fn of(byte: u8) -> u8 {
         byte
     }
@@ -62,8 +53,6 @@ impl Letter for u8 {
 const NUMBERS: &[u32] = &[97, 98, 99, 100];
 
 impl Letter for u32 {
-    fn fits() {}
-
     fn of(byte: u8) -> u32 {
         u32::from(byte)
     }
@@ -88,8 +77,6 @@ pub struct Unit;
 const UNITS: &[Unit] = &[Unit, Unit, Unit, Unit];
 
 impl Letter for Unit {
-    fn fits() {}
-
     fn of(byte: u8) -> Unit {
         let _ = byte;
         Unit
@@ -139,8 +126,6 @@ const NAMES: &[Name] = &[
 ];
 
 impl Letter for Name {
-    fn fits() {}
-
     fn of(byte: u8) -> Name {
         Name { byte }
     }

@@ -1,7 +1,5 @@
 //! Two threads that write at once, each the places of its own window on one block; or of which one
 //! writes and the other reads.
-ghost use Rattle.std.specs.Prelude.{◌≡◌, IfSome};
-ghost use Rattle.arc_parts.specs.Shared.{IsOneBlock};
 
 use arc_block::layout::{DefaultLayout, DefaultLayoutMut};
 use arc_buffer::kinds::Plain;
@@ -87,9 +85,7 @@ fn writers_apart(rt: HostRuntime) -> Result<(), Fail> {
 }
 
 /// A byte more, where there is a place for it. Whether there was.
-fn pushed_within(window: &mut ArcBytesShared, byte: u8) -> bool
-    ensures { window.new.place ≡ window.old.place }
-{
+fn pushed_within(window: &mut ArcBytesShared, byte: u8) -> bool {
     if window.capacity() <= window.len() {
         return false;
     }
@@ -98,9 +94,7 @@ fn pushed_within(window: &mut ArcBytesShared, byte: u8) -> bool
 
 /// Pushes a byte, and another one once the other thread has come as far. Whether both had a place,
 /// and it has.
-fn pushed(window: &mut ArcBytesShared, byte: u8, own: &AtomicU64, other: &AtomicU64) -> [bool; 3]
-    ensures { window.new.place ≡ window.old.place }
-{
+fn pushed(window: &mut ArcBytesShared, byte: u8, own: &AtomicU64, other: &AtomicU64) -> [bool; 3] {
     let first = pushed_within(window, byte);
     own.store(1, SeqCst);
     let has_met = met(other);
@@ -111,9 +105,7 @@ fn pushed(window: &mut ArcBytesShared, byte: u8, own: &AtomicU64, other: &Atomic
 type Written = (ArcBytesShared, [bool; 3]);
 
 /// The same of a window that is handed back.
-fn handed_back(window: ArcBytesShared, byte: u8, own: &AtomicU64, other: &AtomicU64) -> Written
-    ensures { result.0.place ≡ window.place }
-{
+fn handed_back(window: ArcBytesShared, byte: u8, own: &AtomicU64, other: &AtomicU64) -> Written {
     let mut window = window;
     let told = pushed(&mut window, byte, own, other);
     (window, told)
@@ -124,26 +116,22 @@ fn pushed_at_once<R: Threads + Wait + Sync>(
     rt: &R,
     front: ArcBytesShared,
     back: ArcBytesShared,
-) -> (Written, Written)
-    ensures { (result.0.0.place ≡ front.place) × (result.1.0.place ≡ back.place) }
-{
+) -> (Written, Written) {
     let first = AtomicU64::new(0);
     let second = AtomicU64::new(0);
     join(
         rt,
-        || -> Written
-            ensures { result.0.place ≡ front.place }
-        { handed_back(front, 1, &first, &second) },
-        || -> Written
-            ensures { result.0.place ≡ back.place }
-        { handed_back(back, 2, &second, &first) },
+        || -> Written { handed_back(front, 1, &first, &second) },
+        || -> Written { handed_back(back, 2, &second, &first) },
     )
 }
 
 /// Two of several writers, with so many places in front and as many behind.
-fn two_of(rt: &impl Wait, alloc: Global, places: usize) -> Option<(ArcBytesShared, ArcBytesShared)>
-    ensures { IfSome result (λ r. IsOneBlock r.0.place r.1.place) }
-{
+fn two_of(
+    rt: &impl Wait,
+    alloc: Global,
+    places: usize,
+) -> Option<(ArcBytesShared, ArcBytesShared)> {
     let all = places.checked_mul(2)?;
     let window = ArcBytesMut::<DefaultLayoutMut>::try_with_capacity(alloc, all).ok()?;
     let mut front: ArcBytesShared = window.into_shared().ok()?;

@@ -105,7 +105,6 @@ impl BufferMut<u8> for Growing {
     ghost grows = { λ b additional places. (b.may_grow ≡ true)
         × (length (vec_items b.bytes) + additional ≤ places) };
 
-    #[tactic(auto, using(arc_buffer::specs::Buffers::unsupported_names_no_owner, arc_buffer::specs::Buffers::vec_names_no_owner))]
     fn try_reserve(&mut self, additional: usize) -> Result<(), TryReserveError> {
         if !self.may_grow {
             return Err(TryReserveError::Unsupported);

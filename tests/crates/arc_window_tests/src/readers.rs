@@ -1,7 +1,4 @@
 //! Read windows: calls with a pass, threads, and memory that is counted, refused or given back.
-ghost use Rattle.std.specs.Prelude.{◌≡◌, IfOk};
-ghost use Rattle.arc_owners.specs.count.Calls.{IsPassOfNone};
-ghost use Rattle.arc_parts.specs.Steps.{IsPassAt};
 
 use arc_block::layout::DefaultLayout;
 use arc_buffer::kinds::Plain;
@@ -87,10 +84,7 @@ fn called_on_no_block<R: Wait>(
     rt: &R,
     alloc: Global,
     pass: Pass<Open>,
-) -> Result<(Pass<Open>, usize), OwnerError>
-    requires { IsPassOfNone pass }
-    ensures { IfOk result (λ r. r.0 ≡ pass) }
-{
+) -> Result<(Pass<Open>, usize), OwnerError> {
     let mut pass = pass;
     let none: ArcSlice<Plain<u32>> = ArcSlice::new(alloc);
     let clone = none.try_clone_as(rt, &mut pass)?;
@@ -102,10 +96,7 @@ fn called_on_no_block<R: Wait>(
 }
 
 /// The same of calls that make, ask, learn and take back.
-fn asked_on_no_block(alloc: Global, pass: Pass<Open>) -> Result<(Pass<Open>, usize), OwnerError>
-    requires { IsPassOfNone pass }
-    ensures { IfOk result (λ r. r.0 ≡ pass) }
-{
+fn asked_on_no_block(alloc: Global, pass: Pass<Open>) -> Result<(Pass<Open>, usize), OwnerError> {
     let mut pass = pass;
     let none: ArcSlice<Plain<u32>> = ArcSlice::new(alloc);
     let empty: ArcSlice<Plain<u32>> = ArcSlice::try_from_slice_as(alloc, &[], &mut pass)?;
@@ -200,19 +191,18 @@ fn memory_of_forgotten_windows(rt: HostRuntime) -> Result<(), Fail> {
 fn cloned<R: Wait>(
     rt: &R,
     window: &ArcSlice<Plain<u32>>,
-) -> Result<(ArcSlice<Plain<u32>>, Pass<Open>), OwnerError>
-    ensures { IfOk result (λ r. IsPassAt r.0.place r.1 × IsPassAt window.now.place r.1) }
-{
+) -> Result<(ArcSlice<Plain<u32>>, Pass<Open>), OwnerError> {
     let clone = window.try_clone(rt)?;
     let pass = clone.pass();
     Ok((clone, pass))
 }
 
 /// Ends a window that stands where the first one does, and hands the pass back.
-fn ended(first: &ArcSlice<Plain<u32>>, window: ArcSlice<Plain<u32>>, pass: Pass<Open>) -> Pass<Open>
-    requires { IsPassAt first.now.place pass × IsPassAt window.place pass }
-    ensures { IsPassAt first.now.place result }
-{
+fn ended(
+    first: &ArcSlice<Plain<u32>>,
+    window: ArcSlice<Plain<u32>>,
+    pass: Pass<Open>,
+) -> Pass<Open> {
     let _ = first;
     let mut pass = pass;
     window.release_as(&mut pass);
@@ -228,10 +218,7 @@ fn ended_by_another_thread(rt: HostRuntime) -> Result<(), Fail> {
     let mut own = window.pass();
     let (other, len) = thread::join(
         &rt,
-        || -> Pass<Open>
-            requires { IsPassAt window.place other × IsPassAt clone.place other }
-            ensures { IsPassAt window.place result }
-        { ended(&window, clone, other) },
+        || -> Pass<Open> { ended(&window, clone, other) },
         || window.as_slice().len(),
     );
     assert!(rt; len == 3);

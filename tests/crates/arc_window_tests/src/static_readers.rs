@@ -1,8 +1,5 @@
 //! Windows over static slices, and parts that are dropped: memory that is counted, and callers that
 //! are generic in kind and layout.
-ghost use Rattle.std.specs.Prelude.{◌≡◌, IfOk, IfSome};
-ghost use Rattle.arc_block.specs.Place.{nowhere};
-ghost use Rattle.arc_buffer.specs.Slice.{IsRange, sub};
 
 use arc_block::layout::{DefaultLayout, RawLayout, StaticLayout};
 use arc_buffer::kinds::{AnyItems, Owned, Plain, Subsliceable};
@@ -20,10 +17,7 @@ type Counted<'a> = ArcSlice<Plain<u8>, DefaultLayout, Vec<u8>, (), &'a CountingH
 fn empty_cut<S: Subsliceable, L: StaticLayout>(
     rt: &impl Wait,
     window: &ArcSlice<S, L>,
-) -> Result<ArcSlice<S, L>, OwnerError>
-    requires { IsRange S.boundary window.now.items 0 0 }
-    ensures { IfOk result (λ part. part.place ≡ nowhere) }
-{
+) -> Result<ArcSlice<S, L>, OwnerError> {
     window.try_subslice(rt, 0, 0)
 }
 
@@ -57,8 +51,6 @@ fn made_and_taken_back<S: AnyItems + Subsliceable, L: StaticLayout>(
 ) -> Result<Option<&'static [S::Item]>, OwnerError>
 where
     S::Item: 'static,
-    requires { IsRange S.boundary items.now start end }
-    ensures { IfOk result (λ taken. IfSome taken (λ part. part.now ≡ sub items.now start end)) }
 {
     let window: ArcSlice<S, L> = ArcSlice::from_static(alloc, items);
     // The borrow checker doesn't cover a `?` here.

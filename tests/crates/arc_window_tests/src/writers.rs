@@ -1,5 +1,4 @@
-//! Write windows: a caller that is generic in the window, a law, and calls with passes.
-ghost use Rattle.std.specs.Prelude.{◌≡◌, length, IfSome};
+//! Write windows: a caller that is generic in the window, and calls with passes.
 
 use arc_block::layout::{DefaultLayoutMut, VecLayout};
 use arc_buffer::kinds::Text;
@@ -14,7 +13,6 @@ use std::test::Fail;
 fn items_written<W: IntoMut<Alloc = Global> + Drop>(window: W) -> Option<usize>
 where
     W::Mark: Stepping,
-    ensures { IfSome result (λ count. count ≡ length (W.seen window).items) }
 {
     match window.try_into_mut::<DefaultLayoutMut>() {
         Ok(window) => Some(window.len()),

@@ -2,8 +2,6 @@
 //! What an atomic holds is known to no contract, so none says a count.
 #![tactic(auto)]
 
-ghost use Rattle.std.specs.Prelude.{◌≡◌};
-
 use std::alloc::{AllocError, Allocator};
 use std::sync::atomic::{AtomicU64, Ordering};
 
@@ -56,9 +54,7 @@ pub struct CountingHeap<B: Allocator> {
 
 impl<B: Allocator> CountingHeap<B> {
     /// A heap over this one, of which nothing was asked and which refuses nothing. Takes no memory.
-    pub fn new(inner: B) -> CountingHeap<B>
-        ensures { result.inner ≡ inner }
-    {
+    pub fn new(inner: B) -> CountingHeap<B> {
         CountingHeap {
             inner,
             requests: Requests {

@@ -70,13 +70,11 @@ fn truncate_written<S: Spelled, K: LayoutMut>(
 
 /// Makes room.
 fn reserve<S: Spelled, K: LayoutMut>(window: &mut ArcSliceMut<S, K, 1>, more: usize) -> Word {
-    S::Item::fits();
     room_made(window.try_reserve(more))
 }
 
 /// Finds room without memory.
 fn reclaim<S: Spelled, K: LayoutMut>(window: &mut ArcSliceMut<S, K, 1>, more: usize) -> Word {
-    S::Item::fits();
     yes_or_no(window.try_reclaim(more))
 }
 

@@ -1,6 +1,4 @@
 //! Calls that take the window, and may give it back.
-ghost use Rattle.std.specs.Prelude.{◌*◌, ◌<◌, ◌^◌};
-ghost use Rattle.std.specs.Mem.{type_size};
 
 use crate::call::Turn;
 use crate::kinds::Spelled;
@@ -25,9 +23,7 @@ fn spelled<T: Letter>(items: &[T], out: &mut Vec<u8>) -> Reply {
 fn taken<S: Spelled, L: Layout, const N: usize>(
     window: ArcSlice<S, L>,
     out: &mut Vec<u8>,
-) -> (Option<ArcSlice<S, L>>, Reply)
-    requires { N * type_size S.Item.row < 2 ^ 63 }
-{
+) -> (Option<ArcSlice<S, L>>, Reply) {
     match window.try_into_array::<N>() {
         Ok(array) => (None, spelled(array.as_slice(), out)),
         Err(window) => (Some(window), Reply::Word(REFUSED)),
@@ -40,7 +36,6 @@ fn take<S: Spelled, L: Layout>(
     count: usize,
     out: &mut Vec<u8>,
 ) -> (Option<ArcSlice<S, L>>, Reply) {
-    S::Item::fits();
     match count {
         0 => taken::<S, L, 0>(window, out),
         1 => taken::<S, L, 1>(window, out),
@@ -124,9 +119,7 @@ where
 fn taken_written<S: Spelled, K: LayoutMut, const N: usize>(
     window: ArcSliceMut<S, K, 1>,
     out: &mut Vec<u8>,
-) -> (Option<ArcSliceMut<S, K, 1>>, Reply)
-    requires { N * type_size S.Item.row < 2 ^ 63 }
-{
+) -> (Option<ArcSliceMut<S, K, 1>>, Reply) {
     match window.try_into_array::<N>() {
         Ok(array) => (None, spelled(array.as_slice(), out)),
         Err(window) => (Some(window), Reply::Word(REFUSED)),
@@ -139,7 +132,6 @@ fn take_written<S: Spelled, K: LayoutMut>(
     count: usize,
     out: &mut Vec<u8>,
 ) -> (Option<ArcSliceMut<S, K, 1>>, Reply) {
-    S::Item::fits();
     match count {
         0 => taken_written::<S, K, 0>(window, out),
         1 => taken_written::<S, K, 1>(window, out),

@@ -99,7 +99,6 @@ pub fn array_reader<S: AnyItems<Item: Letter>, L: Layout>(
     alloc: Global,
     text: &[u8],
 ) -> Read<S, L> {
-    S::Item::fits();
     of_letters!(array_of, alloc, text)
 }
 
@@ -108,7 +107,6 @@ pub fn array_writer<S: AnyItems<Item: Letter>, K: LayoutMut>(
     alloc: Global,
     text: &[u8],
 ) -> Written<S, K> {
-    S::Item::fits();
     of_letters!(array_written, alloc, text)
 }
 
@@ -118,7 +116,6 @@ pub fn collected<S: Extendable<Item: Letter> + Emptyable, K: LayoutMut>(
     text: &[u8],
 ) -> Written<S, K> {
     let items = items_of::<S::Item>(alloc, text)?;
-    S::Item::fits();
     match ArcSliceMut::try_from_iter(alloc, items) {
         Ok(window) => Ok(window),
         Err((_, e, _)) => Err(room_word(e)),
@@ -179,7 +176,6 @@ pub fn put_back<W: Drop>(place: &mut Option<W>, made: Result<W, Word>) -> Word {
 
 /// An item more.
 fn push<S: Extendable<Item: Letter>, K: LayoutMut>(window: &mut Sole<S, K>, byte: u8) -> Word {
-    S::Item::fits();
     match window.try_push(S::Item::of(byte)) {
         Ok(()) => OK,
         Err((e, _)) => room_word(e),
@@ -191,7 +187,6 @@ fn extend<S: CopySlice<Item: Letter + Copy>, K: LayoutMut>(
     window: &mut Sole<S, K>,
     items: &[S::Item],
 ) -> Word {
-    S::Item::fits();
     room_made(window.try_extend_from_slice(items))
 }
 
@@ -200,7 +195,6 @@ fn extend_each<S: Extendable<Item: Letter>, K: LayoutMut>(
     window: &mut Sole<S, K>,
     items: Vec<S::Item>,
 ) -> Word {
-    S::Item::fits();
     match window.try_extend(items) {
         Ok(()) => OK,
         Err((e, _)) => room_word(e),
