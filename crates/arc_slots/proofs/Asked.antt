@@ -663,3 +663,13 @@ module _ {T M : Type 0} (setting : Setting T) (windows : ℕ) (s : SlotView T M)
             enters-along passes passes' Ended ended ended-comes here (left-so here passes' left),
           );
     }
+
+    -- it can't be had so, and nothing was asked
+    pub untook-sole : have i what ≡ false
+        → Said (takes i what) reply.Refused (Some s) None passes
+    untook-sole unwanted =
+        same setting windows s passes (takes i what) reply.Refused
+        (sole-is (shortage reply.Refused (takes i what))
+        ∙ ap (λ b. outcome b (is_sole row.role)) unwanted)
+        (asks-adds i what passes
+        (subst (AsksIf here here None passes passes) (sym unwanted) (refl, refl, refl)))

@@ -1,73 +1,28 @@
--- What the commands of a part and of writing add: as each of their forms says.
-use Rattle.std.proofs.Common.{◌≡◌, ◌&&◌, ℕ, Bool, false, List, Option, None, refl, sym, ap}
+-- What the commands that write into a window add: as each of their forms says.
+use Rattle.std.proofs.Common.{◌≡◌, ◌&&◌, ℕ, Bool, false, List, None, refl, sym, ap}
 use Rattle.std.proofs.Common.{subst, length}
 use Rattle.arc_owners.specs.declared.mark.Whole.{Whole}
 use Rattle.arc_owners.specs.declared.count.tokens.Pass.{Pass}
-use Rattle.arc_owners.specs.declared.error.OwnerError.TheVariants.{AllocError, CountFull}
 use Rattle.arc_owners.specs.declared.error.TryReserveError.{TryReserveError}
 use Rattle.arc_block.specs.Owned.{Stand}
 use Rattle.arc_block.specs.Table.{Row}
 use Rattle.arc_parts.specs.Shared.{asks_alone}
-use Rattle.arc_commands.specs.Additions.{RowAdds, Joins, Enters, Stays, refused, asks_first}
-use Rattle.arc_commands.specs.Additions.{HasMade, HasRefused, Splits}
+use Rattle.arc_commands.specs.Additions.{RowAdds, Stays, asks_first}
+use Rattle.arc_commands.specs.Additions.{HasMade, HasRefused}
 use Rattle.arc_commands.specs.Blocks.{is_several}
-use Rattle.arc_commands.specs.Several.{is_vector_at}
 use Rattle.arc_owners.specs.declared.error.TryReserveError.TheVariants as reserve
 use Rattle.arc_commands.specs.Changes.{Setting}
 use Rattle.arc_commands.specs.declared.command.Reply.TheVariants as reply
-use Rattle.arc_slots.specs.Parts.{is_itself, part_command}
 use Rattle.arc_slots.specs.Writing.{write_command}
-use Rattle.arc_slots.specs.declared.part.Part.{Part}
-use Rattle.arc_slots.specs.declared.part.Part.TheVariants.{Whole as All, Range, Back, Front}
 use Rattle.arc_slots.specs.declared.slot.Writing.{Writing}
 use Rattle.arc_slots.specs.declared.slot.Writing.TheVariants as writing
 
 -- Of a row that isn't one of several writers'.
 module _ {T M : Type 0} (setting : Setting T) (i : ℕ) (here : Stand) (passes : List (Pass Whole))
     (row : Row T M) (one : is_several row.role ≡ false) where
-  splits-as : (there : Stand) (made : Option Stand) (passes' : List (Pass Whole)) (out : Bool)
-      → Joins here there made passes passes' out
-      → Splits here there made passes passes' (is_several row.role) (is_vector_at row.place) out
-  splits-as there made passes' out joins =
-      subst (λ b. Splits here there made passes passes' b (is_vector_at row.place) out) (sym one)
-      joins
-
   -- it asks nobody first
   asks-none : (k : ℕ) → asks_first row k ≡ false
   asks-none k = ap (λ b. b && asks_alone row k) one
-
-  -- a part that is handed out
-  pub part-adds : (part : Part) (there : Stand) (made : Option Stand) (passes' : List (Pass Whole))
-      → (Joins here there made passes passes' (is_itself row part) → (number : ℕ)
-      → RowAdds here there made passes passes' setting row (part_command i part) (reply.New number))
-      × (Enters here there made passes passes' (refused AllocError)
-      → RowAdds here there made passes passes' setting row (part_command i part)
-      (reply.Owner AllocError))
-      × (Enters here there made passes passes' (refused CountFull)
-      → RowAdds here there made passes passes' setting row (part_command i part)
-      (reply.Owner CountFull))
-  part-adds All there made passes' = (λ joins number. joins, λ enters. enters, λ enters. enters)
-  part-adds (Range start end) there made passes' =
-      (λ joins number. joins, λ enters. enters, λ enters. enters)
-  part-adds (Back at) there made passes' = (
-    λ joins number. splits-as there made passes' (is_itself row (Back at)) joins,
-    λ enters. enters,
-    λ enters. enters,
-  )
-  part-adds (Front at) there made passes' = (
-    λ joins number. splits-as there made passes' (is_itself row (Front at)) joins,
-    λ enters. enters,
-    λ enters. enters,
-  )
-
-  -- memory for it was refused
-  pub part-none : (part : Part) → RowAdds here here None passes passes setting row
-      (part_command i part)
-      reply.Alloc
-  part-none All = (refl, refl, refl)
-  part-none (Range start end) = (refl, refl, refl)
-  part-none (Back at) = (refl, refl, refl)
-  part-none (Front at) = (refl, refl, refl)
 
   -- items that are written
   made-as : (k : ℕ) (there : Stand) (passes' : List (Pass Whole))

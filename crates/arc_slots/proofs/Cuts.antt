@@ -1,7 +1,7 @@
 -- A window that is made by a slot's, as its clone or a part of it: its number, its row, and what it
 -- adds to the passes.
 use Rattle.std.proofs.Common.{◌≡◌, ℕ, ◌==◌, ◌&&◌, Bool, true, if◌then◌else◌, List, Option, Some}
-use Rattle.std.proofs.Common.{None, length, sym, ap, ◌∙◌, subst}
+use Rattle.std.proofs.Common.{None, length, refl, sym, ap, ◌∙◌, subst}
 use Rattle.arc_owners.specs.declared.count.tokens.Pass.{Pass}
 use Rattle.arc_owners.specs.declared.error.OwnerError.{OwnerError}
 use Rattle.arc_buffer.specs.Slice.{sub}
@@ -9,10 +9,13 @@ use Rattle.arc_block.specs.Block.{Sort}
 use Rattle.arc_block.specs.Place.{part_place}
 use Rattle.arc_block.specs.Table.{Role, Row}
 use Rattle.arc_parts.specs.Steps.{Refuses, Shares}
-use Rattle.arc_parts.specs.Window.{Window}
+use Rattle.arc_parts.specs.Window.{PartsView, Window}
 use Rattle.arc_commands.specs.Changes.{part_of}
 use Rattle.arc_slots.specs.Calls.{Beside, RefusesAt}
-use Rattle.arc_slots.specs.Slots.{SlotView, row_of, stand_of}
+use Rattle.arc_slots.specs.Slots.{AnyWindow, SlotView, as_held, may_be_shared, role_fits, row_of}
+use Rattle.arc_slots.specs.Slots.{stand_of, window_in}
+use Rattle.arc_slots.specs.declared.window.ReadOnly.{ReadOnly}
+use Rattle.arc_slots.specs.declared.window.ReadOnly.TheVariants as read_only
 use Rattle.arc_slots.specs.Stands.{is_numbered, numbered, put_back, stand_at}
 use Rattle.arc_slots.proofs.Slots.{SlotCall, part-fits, part-numbered, part_at, refuses}
 use Rattle.arc_slots.proofs.Slots.{refuses-part, same-row, shares, shares-fits, shares-numbered}
@@ -23,6 +26,27 @@ pub record MadeBeside {T M H : Type 0} (s t : SlotView T M) (row : Row T M)
     (passes after : List (Pass H)) : Type 0 where
   pub row_is : row_of t ≡ row
   pub stand : Beside (stand_of (Some s)) passes after (stand_of (Some t))
+
+-- a slot that holds what was made, which isn't written: its number is that of where this stands
+module _ {T M K : Type 0} (small : K → PartsView T M) (shares : Bool) where
+  one-role : (k : ReadOnly (Window T M) K) → role_fits {T = T} {M = M} (as_held k) ≡ true
+  one-role (read_only.Read window) = refl
+  one-role (read_only.Small window) = refl
+
+  one-writer : (k : ReadOnly (Window T M) K)
+      → may_be_shared {T = T} {M = M} shares (as_held k) ≡ true
+  one-writer (read_only.Read window) = refl
+  one-writer (read_only.Small window) = refl
+
+  pub holds-made : (k : ReadOnly (Window T M) K) (block : Option ℕ) (h : AnyWindow T M K)
+      → h ≡ as_held k → is_numbered block (window_in small (as_held k)).place ≡ true
+      → (is_numbered block (window_in small h).place ≡ true) × (role_fits h ≡ true)
+      × (may_be_shared shares h ≡ true)
+  holds-made k block h is fits = (
+    ap (λ x. is_numbered block (window_in small x).place) is ∙ fits,
+    ap role_fits is ∙ one-role k,
+    ap (may_be_shared shares) is ∙ one-writer k,
+  )
 
 module _ {T M H : Type 0} {w : Window T M} {role : Role} {b : Option ℕ} {s : SlotView T M}
     {passes left : List (Pass H)} {p : Pass H} (call : SlotCall w role b s passes left p)

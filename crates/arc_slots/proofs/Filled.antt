@@ -30,13 +30,13 @@ use Rattle.arc_parts.specs.declared.room.Room.TheVariants.{Growth, Own, Refused}
 use Rattle.arc_commands.specs.Blocks.{is_several, is_sole}
 use Rattle.arc_slots.specs.Slots.{AnyWindow, SlotView, held, role_fits, row_of, stand_of}
 use Rattle.arc_slots.specs.Slots.{window_in, writer_slot}
-use Rattle.arc_slots.specs.Stands.{HasNumber, HasPassFor, TakenOut, is_numbered, numbered}
+use Rattle.arc_slots.specs.Stands.{TakenOut, is_numbered, numbered}
 use Rattle.arc_slots.specs.Stands.{put_back, stand_at}
 use Rattle.arc_slots.specs.Writing.{is_fresh, Fills}
 use Rattle.arc_slots.specs.declared.window.Held.TheVariants.{Write}
 use Rattle.arc_commands.proofs.Parts.{sole-with}
 use Rattle.arc_commands.proofs.Roles.{several-with}
-use Rattle.arc_slots.proofs.Slots.{fits-as, held-as, role-as, still-number}
+use Rattle.arc_slots.proofs.Slots.{fits-as, held-as, role-as}
 use Rattle.arc_slots.proofs.Taken.{back-same}
 
 -- where no items are written, there is room and nothing else
@@ -502,13 +502,6 @@ module _ {T M K : Type 0} (small : K → PartsView T M) (h : AnyWindow T M K) (w
 
   writer : is_sole w.role ≡ true
   writer = role-as h (Write w) is fact.1
-
-  -- there is a pass with the block's number, where it was taken out
-  pub written-left : (passes left : List (Pass Whole)) (p : Pass Whole)
-      → HasPassFor passes (stand_of (Some s)) → TakenOut passes b p left → HasNumber left b
-  written-left passes left p has took =
-      still-number passes left p b w.place fit
-      (subst (λ t. HasPassFor passes (stand_of (Some t))) (sym seen) has) took
 
   module _ (drops : Bool) (size k : ℕ) where
     abbrev first : ℕ

@@ -17,7 +17,6 @@ use Rattle.arc_block.specs.Place.{Place, on_block}
 use Rattle.arc_parts.specs.Shared.{AsksAlone, IsSharedPlace, MakesRoomBeside, MakesRoomIf}
 use Rattle.arc_parts.specs.Shared.{MakesSharedRoom, PushesShared, ReclaimsIf, ReclaimsShared}
 use Rattle.arc_parts.specs.Shared.{as_shared, as_unique, asks_alone, extended, is_on_block}
-use Rattle.arc_parts.specs.Steps.{IsPassAt}
 use Rattle.arc_block.specs.Table.{Row, RowOf, one_writer_of_several}
 use Rattle.arc_parts.specs.Window.{PartsView}
 use Rattle.arc_parts.specs.Writers.{capacity_of, new_writer, room, room_for, with_more, with_room}
@@ -32,14 +31,13 @@ use Rattle.arc_commands.proofs.Roles.{several-is}
 use Rattle.arc_slots.specs.Several.{AsksAt, FillsAlone, FillsBeside, FillsIf, RoomBeside, RoomIf}
 use Rattle.arc_slots.specs.Slots.{AnyWindow, SlotView, held, may_be_shared, role_fits, row_of}
 use Rattle.arc_slots.specs.Slots.{stand_of, window_in, writer_slot}
-use Rattle.arc_slots.specs.Stands.{HasNumber, HasPassFor, TakenOut, is_numbered, numbered}
+use Rattle.arc_slots.specs.Stands.{HasPassFor, TakenOut, is_numbered, numbered}
 use Rattle.arc_slots.specs.Stands.{put_back, stand_at}
 use Rattle.arc_slots.specs.Writing.{Fills, IsUnchanged, is_fresh}
 use Rattle.arc_slots.specs.declared.window.Held.TheVariants.{Several}
 use Rattle.arc_slots.proofs.Filled.{fills, keeps-several, none-fresh, numbered_each, reclaims}
 use Rattle.arc_slots.proofs.Filled.{room-same, room_each, unchanged}
-use Rattle.arc_slots.proofs.Slots.{along, fits-as, held-as, role-as, shares-as, still-number}
-use Rattle.arc_slots.proofs.Slots.{window-pass}
+use Rattle.arc_slots.proofs.Slots.{along, fits-as, held-as, role-as, shares-as}
 use Rattle.arc_slots.proofs.Taken.{back-same, set-twice}
 
 -- where a window stands, by its owner
@@ -374,16 +372,6 @@ module _ {T M K : Type 0} (small : K → PartsView T M) (h : AnyWindow T M K) (w
   module _ (passes : List (Pass Whole)) (has : HasPassFor passes (stand_of (Some s))) where
     pub beside-has : HasPassFor passes (stand_at b w.place)
     beside-has = subst (λ t. HasPassFor passes (stand_of (Some t))) (sym beside-seen) has
-
-    -- there is a pass with the block's number, where it was taken out
-    pub beside-left : (left : List (Pass Whole)) (p : Pass Whole) → TakenOut passes b p left
-        → HasNumber left b
-    beside-left left p took = still-number passes left p b w.place fit beside-has took
-
-    -- it is that of the window's block
-    pub beside-pass : (left : List (Pass Whole)) (p : Pass Whole) → TakenOut passes b p left
-        → IsPassAt w.place p
-    beside-pass left p took = window-pass passes left p b w.place fit beside-has took
 
     -- what he asked by it is asked of the table
     pub beside-asked : (left : List (Pass Whole)) (p mid : Pass Whole) → TakenOut passes b p left

@@ -1,10 +1,10 @@
 -- A writer's window that reads from now on: what becomes of its row, of where it stands, and of the
 -- passes of the blocks.
-use Rattle.std.proofs.Common.{◌≡◌, ℕ, ◌&&◌, not, Bool, true, false, ◌<◌}
+use Rattle.std.proofs.Common.{◌≡◌, ℕ, ◌&&◌, not, Bool, true, false}
 use Rattle.std.proofs.Common.{if◌then◌else◌, List, [], ◌∷◌, ◌++◌, length, Option, Some, None}
 use Rattle.std.proofs.Common.{is_some, refl, sym, ap, ◌∙◌, subst}
 use Rattle.std.specs.Prelude.{◌+◌}
-use Rattle.std.proofs.lemmas.Bool.{false≢true, and_parts}
+use Rattle.std.proofs.lemmas.Bool.{false≢true}
 use Rattle.arc_owners.specs.history.Histories.{Counted}
 use Rattle.arc_owners.specs.declared.mark.Whole.{Whole}
 use Rattle.arc_owners.specs.declared.count.tokens.Pass.{Pass}
@@ -258,22 +258,3 @@ module _ {T M : Type 0} (w : PartsView T M) (b : Option ℕ) (s : SlotView T M)
       fits writes frozen
       (begun ∙ ap (λ (t : SlotView T M). is_new (layout_move layout (row_of t).place))
       (sym seen-slot)) same new
-
-  -- there is room for a first block's pass
-  pub room-to-read : IsWriterPlace w.place → (passes left : List (Pass Whole)) (p : Pass Whole)
-      (m : ℕ) → TakenOut passes b p left
-      → (is_new (layout_move layout (row_of s).place) ≡ true → length passes < m)
-      → is_new (layout_move layout (row_of s).place) ≡ true → length left < m
-  room-to-read writes passes left p m took room begins =
-      let told : (not (is_some b) && not layout.has_static) ≡ true =
-      sym (new_is layout b w.place fits writes)
-      ∙ ap (λ (t : SlotView T M). is_new (layout_move layout (row_of t).place)) seen-slot
-      ∙ begins in
-      let none : b ≡ None = none-is b (and_parts (not (is_some b)) (not layout.has_static) told).0
-      in
-      let all : left ≡ passes = (subst (λ c. TakenOut passes c p left) none took).1 in
-      subst (λ (ps : List (Pass Whole)). length ps < m) (sym all) (room begins)
-    where
-      none-is : (x : Option ℕ) → not (is_some x) ≡ true → x ≡ None
-      none-is None is = refl
-      none-is (Some n) is = absurd (false≢true is)

@@ -2,10 +2,10 @@
 use Rattle.std.proofs.Common.{◌≡◌, ℕ, ◌==◌, ◌&&◌, Bool, true, false, if◌then◌else◌, List, length}
 use Rattle.std.proofs.Common.{Option, Some, None, Ok, Err, is_some, refl, sym, ap, ◌∙◌}
 use Rattle.std.proofs.Common.{subst}
-use Rattle.std.proofs.lemmas.Bool.{false≢true}
 use Rattle.arc_owners.specs.declared.mark.Whole.{Whole}
 use Rattle.arc_owners.specs.declared.count.tokens.Pass.{Pass}
 use Rattle.arc_owners.specs.declared.error.OwnerError.{OwnerError}
+use Rattle.arc_owners.specs.declared.error.RangeError.{RangeError}
 use Rattle.arc_owners.specs.declared.error.OwnerError.TheVariants.{AllocError, CountFull}
 use Rattle.arc_block.specs.Owned.{Stand}
 use Rattle.arc_parts.specs.Shared.{is_vector_at, on_native}
@@ -25,12 +25,12 @@ use Rattle.arc_commands.proofs.Roles.{several-is}
 use Rattle.arc_slots.specs.Calls.{AddsNothing, Along, FindsFullAt}
 use Rattle.arc_slots.specs.Parts.{part_command}
 use Rattle.arc_slots.specs.Several.{RefusesBeside, RefusesIf, SplitsBeside, SplitsIf, SplitsMoved}
-use Rattle.arc_slots.specs.Several.{SplitsThere, handed_places, is_split, kept_places}
+use Rattle.arc_slots.specs.Several.{SplitsThere, handed_places, kept_places}
 use Rattle.arc_slots.specs.Several.{places_answer}
 use Rattle.arc_slots.specs.Slots.{SlotView, row_of, stand_of}
 use Rattle.arc_slots.specs.Stands.{HasPassFor}
 use Rattle.arc_slots.specs.declared.part.Part.{Part}
-use Rattle.arc_slots.specs.declared.part.Part.TheVariants.{Whole as All, Range, Back, Front}
+use Rattle.arc_slots.specs.declared.part.Part.TheVariants.{Back, Front}
 use Rattle.arc_slots.proofs.Added.{Ended, ended-comes, enters-along, nothing-comes, raises-beside}
 use Rattle.arc_slots.proofs.Added.{refuses-at}
 use Rattle.arc_slots.proofs.Answered.{for-role, same}
@@ -71,60 +71,64 @@ module _ {T M : Type 0} (setting : Setting T) (windows : ℕ) (s : SlotView T M)
   outcome part short =
       parts_change setting short around (kept_places part) (handed_places part) row
 
-  split-is : (part : Part) (short : Shortage) → is_split part ≡ true
+  split-is : (part : Part) (short : Shortage)
       → answer_any setting short around (part_command i part) row
       ≡ in_range (places_answer setting.boundary row.items (capacity_of row.role) part) row
       (outcome part short)
-  split-is All short is = absurd (false≢true is)
-  split-is (Range start end) short is = absurd (false≢true is)
-  split-is (Back at) short is =
+  split-is (Back at) short =
       for-role setting windows s passes short (command.Off i at)
       (several-for (command.Off i at) true (λ places. refl)) ∙ picked _ several
-  split-is (Front at) short is =
+  split-is (Front at) short =
       for-role setting windows s passes short (command.To i at)
       (several-for (command.To i at) true (λ places. refl)) ∙ picked _ several
 
   -- what is added by one
-  made-adds : (part : Part) → is_split part ≡ true → (there made : Stand)
-      (passes' : List (Pass Whole))
+  made-adds : (part : Part) (there made : Stand) (passes' : List (Pass Whole))
       → ((out : Bool) → Splits here there (Some made) passes passes' (is_several row.role)
       (on_vector row.place) out)
       → RowHas there (Some made) passes' (part_command i part) (reply.New windows)
-  made-adds All is there made passes' splits = absurd (false≢true is)
-  made-adds (Range start end) is there made passes' splits = absurd (false≢true is)
-  made-adds (Back at) is there made passes' splits = splits (at == 0)
-  made-adds (Front at) is there made passes' splits = splits (at == length row.items)
+  made-adds (Back at) there made passes' splits = splits (at == 0)
+  made-adds (Front at) there made passes' splits = splits (at == length row.items)
 
-  refused-adds : (part : Part) → is_split part ≡ true → (e : OwnerError)
-      (passes' : List (Pass Whole)) → Enters here here None passes passes' (refused e)
+  refused-adds : (part : Part) (e : OwnerError) (passes' : List (Pass Whole))
+      → Enters here here None passes passes' (refused e)
       → RowHas here None passes' (part_command i part) (reply.Owner e)
-  refused-adds All is e passes' enters = absurd (false≢true is)
-  refused-adds (Range start end) is e passes' enters = absurd (false≢true is)
-  refused-adds (Back at) is e passes' enters = enters
-  refused-adds (Front at) is e passes' enters = enters
+  refused-adds (Back at) e passes' enters = enters
+  refused-adds (Front at) e passes' enters = enters
 
-  alloc-adds : (part : Part) → is_split part ≡ true
-      → RowHas here None passes (part_command i part) reply.Alloc
-  alloc-adds All is = absurd (false≢true is)
-  alloc-adds (Range start end) is = absurd (false≢true is)
-  alloc-adds (Back at) is = (refl, refl, refl)
-  alloc-adds (Front at) is = (refl, refl, refl)
+  alloc-adds : (part : Part) → RowHas here None passes (part_command i part) reply.Alloc
+  alloc-adds (Back at) = (refl, refl, refl)
+  alloc-adds (Front at) = (refl, refl, refl)
 
-  module _ (part : Part) (is : is_split part ≡ true) where
+  range-adds : (part : Part) (e : RangeError)
+      → RowHas here None passes (part_command i part) (reply.Range e)
+  range-adds (Back at) e = (refl, refl, refl)
+  range-adds (Front at) e = (refl, refl, refl)
+
+  module _ (part : Part) where
     abbrev c : ListCmd T M
     c = part_command i part
+
+    -- there is no such part
+    pub no-places : (e : RangeError)
+        → places_answer setting.boundary s.window.items (capacity_of s.role) part ≡ Err e
+        → Said c (reply.Range e) (Some s) None passes
+    no-places e is =
+        same setting windows s passes c (reply.Range e)
+        (split-is part no_shortage ∙ ap (λ a. in_range a row (outcome part no_shortage)) is)
+        (range-adds part e)
 
     module _ (ok : places_answer setting.boundary s.window.items (capacity_of s.role) part ≡ Ok tt)
       where
         split-ok : (short : Shortage)
             → answer_any setting short around c row ≡ outcome part short
         split-ok short =
-            split-is part short is ∙ ap (λ a. in_range a row (outcome part short)) ok
+            split-is part short ∙ ap (λ a. in_range a row (outcome part short)) ok
 
         -- memory for the window was refused
         pub split-alloc : Said c reply.Alloc (Some s) None passes
         split-alloc =
-            same setting windows s passes c reply.Alloc (split-ok of_table) (alloc-adds part is)
+            same setting windows s passes c reply.Alloc (split-ok of_table) (alloc-adds part)
 
         -- memory for the block was refused to which a window of a vector moves
         pub split-memory : is_vector_at row.place ≡ true → (passes' : List (Pass Whole))
@@ -136,7 +140,7 @@ module _ {T M : Type 0} (setting : Setting T) (windows : ℕ) (s : SlotView T M)
           change = split-ok of_clones ∙ picked _ (vector-both row.place ∙ on);
           blocks = many_along passes passes' here AddsNothing along;
           adds =
-              refused-adds part is AllocError passes' (
+              refused-adds part AllocError passes' (
                 refl,
                 refl,
                 enters-along passes passes' AddsNothing (refused AllocError) nothing-comes here
@@ -156,7 +160,7 @@ module _ {T M : Type 0} (setting : Setting T) (windows : ℕ) (s : SlotView T M)
                 ∙ picked _ (full-beside passes passes' windows row.place here has why);
             blocks = many-refused passes passes' (λ sort. false) row.place here CountFull why;
             adds =
-                refused-adds part is CountFull passes' (
+                refused-adds part CountFull passes' (
                   refl,
                   refl,
                   refuses-at passes passes' (λ sort. false) row.place CountFull here why,
@@ -207,7 +211,7 @@ module _ {T M : Type 0} (setting : Setting T) (windows : ℕ) (s : SlotView T M)
                       ∙ ap (with_made around (row_of kept)) (sym h.made);
                   blocks = many-beside passes passes' here other h.beside;
                   adds =
-                      made-adds part is there other passes' (λ out.
+                      made-adds part there other passes' (λ out.
                       subst (λ b. Splits here there (Some other) passes passes' b
                       (on_vector row.place) out) (sym several)
                       (subst (λ b. Splits here there (Some other) passes passes' true b out)
@@ -264,7 +268,7 @@ module _ {T M : Type 0} (setting : Setting T) (windows : ℕ) (s : SlotView T M)
                       ∙ ap (with_block true)
                       (many_along passes m.moved.between here Ended m.moved.left);
                   adds =
-                      made-adds part is there other passes' (λ out.
+                      made-adds part there other passes' (λ out.
                       subst (λ b. Splits here there (Some other) passes passes' b
                       (on_vector row.place) out) (sym several)
                       (subst (λ b. Splits here there (Some other) passes passes' true b out)

@@ -39,12 +39,12 @@ use Rattle.arc_slots.specs.Slots.{stand_of, window_in, writer_slot}
 use Rattle.arc_slots.specs.Stands.{HasNumber, HasPassFor, IsAttested, TakenOut, is_numbered}
 use Rattle.arc_slots.specs.Stands.{numbered, put_back, stand_at}
 use Rattle.arc_slots.specs.declared.part.Part.{Part}
-use Rattle.arc_slots.specs.declared.part.Part.TheVariants.{Whole as All, Range, Back, Front}
+use Rattle.arc_slots.specs.declared.part.Part.TheVariants.{Back, Front}
 use Rattle.arc_slots.specs.declared.window.Held.TheVariants.{Several}
 use Rattle.arc_slots.proofs.Added.{Ended}
 use Rattle.arc_slots.proofs.Slots.{along, fits-as, held-as, moved-fits, moved-numbered}
 use Rattle.arc_slots.proofs.Slots.{moved-stand, refuses}
-use Rattle.arc_slots.proofs.Slots.{same-row, shares, shares-numbered, still-number}
+use Rattle.arc_slots.proofs.Slots.{same-row, shares, shares-fits, shares-numbered, still-number}
 use Rattle.arc_slots.proofs.Taken.{set-back}
 use Rattle.arc_slots.proofs.Told.{full-at}
 
@@ -88,9 +88,6 @@ module _ {T M : Type 0} (b : Option ℕ) (w : PartsView T M) where
     numbers : is_numbered b w.place ≡ true → is_numbered b v.place ≡ true
     several : is_several w.role ≡ true → is_several v.role ≡ true
 
-  all-of : AreOf w row
-  all-of = record { row_is = refl; stand = refl; numbers = λ fits. fits; several = λ is. is }
-
   shares-with : (places : ℕ) → is_several w.role ≡ true
       → is_several (with_capacity w.role places) ≡ true
   shares-with places is = ap is_several (several-with w.role places is)
@@ -117,14 +114,10 @@ module _ {T M : Type 0} (b : Option ℕ) (w : PartsView T M) where
   }
 
   kept-of : (part : Part) → AreOf (kept_places part w) (kept_places part row)
-  kept-of All = all-of
-  kept-of (Range start end) = all-of
   kept-of (Back at) = front-of at
   kept-of (Front at) = behind at
 
   handed-of : (part : Part) → AreOf (handed_places part w) (handed_places part row)
-  handed-of All = all-of
-  handed-of (Range start end) = all-of
   handed-of (Back at) = behind at
   handed-of (Front at) = front-of at
 
@@ -137,8 +130,6 @@ moved-block at (on_block block offset info) = refl
 
 pub handed-block : {T M : Type 0} (part : Part) (r : Row T M)
     → block_of (handed_places part r).place ≡ block_of r.place
-handed-block All r = refl
-handed-block (Range start end) r = refl
 handed-block (Back at) r = moved-block at r.place
 handed-block (Front at) r = refl
 
@@ -280,6 +271,21 @@ module _ {T M K : Type 0} (small : K → PartsView T M) (h : AnyWindow T M K) (w
 
         other : AreOf b w handed (handed_places part (row_of (writer_slot w b)))
         other = handed-of b w part
+
+        -- both are windows of a slot on the same block, each one of several
+        pub kept-fits : is_several w.role ≡ true
+            → (is_numbered b kept.place ≡ true) × (is_several kept.role ≡ true)
+        kept-fits several = (
+          ap (λ (x : PartsView T M). is_numbered b x.place) kept-is ∙ one.numbers its-number,
+          ap (λ (x : PartsView T M). is_several x.role) kept-is ∙ one.several several,
+        )
+
+        pub made-fits : is_several w.role ≡ true
+            → (is_numbered b made.place ≡ true) × (is_several made.role ≡ true)
+        made-fits several = (
+          shares-fits p q b handed.place made.place (other.numbers its-number) made-shares,
+          ap is_several made-is.1 ∙ other.several several,
+        )
 
         added : Beside (stand_at b w.place) passes after (stand_at b made.place)
         added =

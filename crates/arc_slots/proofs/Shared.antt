@@ -9,7 +9,6 @@ use Rattle.arc_parts.specs.Shared.{as_shared, as_unique}
 use Rattle.arc_parts.specs.Window.{IsOfBuffer, PartsView}
 use Rattle.arc_parts.specs.Writers.{IsWriterPlace}
 use Rattle.arc_commands.specs.Several.{can_share, is_memory}
-use Rattle.arc_commands.specs.declared.command.Reply.TheVariants as reply
 use Rattle.arc_slots.specs.Slots.{SlotView, row_of, writer_slot}
 use Rattle.arc_slots.specs.Stands.{is_numbered, numbered}
 use Rattle.arc_slots.proofs.Filled.{numbered_each}

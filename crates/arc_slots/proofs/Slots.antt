@@ -311,15 +311,11 @@ module _ {M H : Type 0} (passes : List (Pass H)) where
           (refuses wants e b (moved start place) (moved-fits b start place ∙ fits)
           (subst (HasPassFor passes) (sym (moved-stand b start place)) has) took why))
 
--- the pass that was taken out for a slot's window is that of its block, and there is one with its
--- number
+-- the pass that was taken out for a slot's window is that of its block
 module _ {T M H : Type 0} {w : Window T M} {role : Role} {b : Option ℕ} {s : SlotView T M}
     {passes left : List (Pass H)} {p : Pass H} (call : SlotCall w role b s passes left p) where
   pub call-pass : IsPassAt w.place p
   call-pass = window-pass passes left p b w.place call.fits call.has call.took
-
-  pub call-left : HasNumber left b
-  call-left = still-number passes left p b w.place call.fits call.has call.took
 
 -- the new window stands on the block with the same number
 module _ {M H : Type 0} (p new : Pass H) where

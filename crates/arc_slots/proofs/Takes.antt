@@ -13,14 +13,14 @@ use Rattle.arc_parts.specs.Window.{Window, PartsView, parts_of, window_of}
 use Rattle.arc_slots.specs.Calls.{Along, RefusesOut, TakesOut}
 use Rattle.arc_slots.specs.Slots.{AnyWindow, SlotView, held, row_of, stand_of, window_in}
 use Rattle.arc_slots.specs.Slots.{writer_slot}
-use Rattle.arc_slots.specs.Stands.{HasNumber, HasPassFor, TakenOut, is_numbered, put_back}
+use Rattle.arc_slots.specs.Stands.{HasPassFor, TakenOut, is_numbered, put_back}
 use Rattle.arc_slots.specs.Stands.{stand_at}
 use Rattle.arc_slots.specs.Taking.{CanHave, can_have}
 use Rattle.arc_slots.specs.declared.take.Taking.{Taking}
 use Rattle.arc_slots.specs.declared.window.Held.TheVariants.{Read}
 use Rattle.arc_slots.proofs.Have.{have-is, have-numbered, have-says}
 use Rattle.arc_slots.proofs.Native.{refuses-out, takes}
-use Rattle.arc_slots.proofs.Slots.{along, fits-as, held-as, still-number, window-pass}
+use Rattle.arc_slots.proofs.Slots.{along, fits-as, held-as, window-pass}
 use Rattle.arc_slots.proofs.Taken.{back-same}
 
 -- What a call finds that takes apart a slot's window of this role: its parts are those that the slot
@@ -69,9 +69,6 @@ module _ {T M H : Type 0} {b : Option ℕ} {s : SlotView T M} {role : Role} {q :
 
   pub parts-pass : IsPassAt q.place p
   parts-pass = window-pass passes left p b q.place t.fits parts-has t.took
-
-  pub parts-number : HasNumber left b
-  parts-number = still-number passes left p b q.place t.fits parts-has t.took
 
   -- what is wanted of the place, by its block's number and by its owner
   module _ (drops : Bool) (what : Taking) where

@@ -8,3 +8,4 @@ pub mod Writing
 pub mod Several
 pub mod Answers
 pub mod Taking
+pub mod Turning

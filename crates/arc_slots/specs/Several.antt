@@ -22,26 +22,15 @@ use Rattle.arc_slots.specs.Calls.{AddsNothing, Along, Beside, RefusesAt}
 use Rattle.arc_slots.specs.Slots.{SlotView, row_of, stand_of}
 use Rattle.arc_slots.specs.Writing.{IsUnchanged}
 use Rattle.arc_slots.specs.declared.part.Part.{Part}
-use Rattle.arc_slots.specs.declared.part.Part.TheVariants.{Whole, Range, Back, Front}
-
--- whether a part is one at which places are split
-abbrev pub is_split : Part → Bool
-is_split Whole = false
-is_split (Range start end) = false
-is_split (Back at) = true
-is_split (Front at) = true
+use Rattle.arc_slots.specs.declared.part.Part.TheVariants.{Back, Front}
 
 module _ {N T M : Type 0} where
   -- the places that the window keeps where this part is handed out, and those that are handed out
   abbrev pub kept_places : Part → RowOf N T M → RowOf N T M
-  kept_places Whole row = row
-  kept_places (Range start end) row = row
   kept_places (Back at) row = front_of at row
   kept_places (Front at) row = after_advance at row
 
   abbrev pub handed_places : Part → RowOf N T M → RowOf N T M
-  handed_places Whole row = row
-  handed_places (Range start end) row = row
   handed_places (Back at) row = after_advance at row
   handed_places (Front at) row = front_of at row
 
@@ -49,16 +38,12 @@ module _ {N T M : Type 0} where
 -- behind his items
 abbrev pub places_answer : {T : Type 0} → (List T → ℕ → Bool) → List T → (capacity : ℕ) → Part
     → Result (Unit {0}) RangeError
-places_answer boundary items capacity Whole = Ok tt
-places_answer boundary items capacity (Range start end) = Ok tt
 places_answer boundary items capacity (Back at) = split_answer boundary items capacity at
 places_answer boundary items capacity (Front at) = edge_answer boundary items at
 
 -- there is such a part
 abbrev pub HasPlaces : {T : Type 0} → (List T → ℕ → Bool) → List T → (capacity : ℕ) → Part
     → Type 0
-HasPlaces boundary items capacity Whole = ⊥
-HasPlaces boundary items capacity (Range start end) = ⊥
 HasPlaces boundary items capacity (Back at) = CanSplit boundary items capacity at
 HasPlaces boundary items capacity (Front at) = IsEdge boundary items at
 

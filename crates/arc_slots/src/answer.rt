@@ -301,42 +301,42 @@ where
     }
 
     /// Makes the window, which is written, one that is read.
-    pub(crate) fn freeze(self, passes: &mut Passes<A>) -> (TableReply<S, B, M, A>, Self)
+    pub(crate) fn freeze(self, passes: &mut Passes<A>) -> (TableReply<S, B, M, A>, Option<Self>)
         requires { HasPassFor passes.old.of_blocks.items (stand_of (Some self)) }
         ensures { (next i : ℕ) → Answers (setting_of (layout_facts L.Layout) L.Writable.ANY
             L.clone_wants S.DROPS S.boundary
             (type_size S.Item.row) S.Zero.zero S.Calls.calls) next (command.Freeze i)
             self passes.old.of_blocks.items (seen_reply S.items_in S.items_in_box B.list result.0)
-            (Some result.1) None passes.new.of_blocks.items }
+            result.1 None passes.new.of_blocks.items }
     {
         if !self.is_writer() {
-            return (Reply::Kind, self);
+            return (Reply::Kind, Some(self));
         }
         let begins = self.wants_block_to_read();
         if passes.reserve_for(begins).is_err() {
-            return (Reply::Refused, self);
+            return (Reply::Refused, Some(self));
         }
         match self.try_freeze(passes) {
-            Ok(slot) => (Reply::Ok, slot),
-            Err(slot) => (Reply::Refused, slot),
+            Ok(slot) => (Reply::Ok, Some(slot)),
+            Err(slot) => (Reply::Refused, Some(slot)),
         }
     }
 
     /// Makes the window, which is read, one that is written, if it is alone.
-    pub(crate) fn make_mut(self, passes: &mut Passes<A>) -> (TableReply<S, B, M, A>, Self)
+    pub(crate) fn make_mut(self, passes: &mut Passes<A>) -> (TableReply<S, B, M, A>, Option<Self>)
         requires { HasPassFor passes.old.of_blocks.items (stand_of (Some self)) }
         ensures { (next i : ℕ) → Answers (setting_of (layout_facts L.Layout) L.Writable.ANY
             L.clone_wants S.DROPS S.boundary
             (type_size S.Item.row) S.Zero.zero S.Calls.calls) next (command.Mut i)
             self passes.old.of_blocks.items (seen_reply S.items_in S.items_in_box B.list result.0)
-            (Some result.1) None passes.new.of_blocks.items }
+            result.1 None passes.new.of_blocks.items }
     {
         if !self.is_read() {
-            return (Reply::Kind, self);
+            return (Reply::Kind, Some(self));
         }
         match self.try_into_mut(passes) {
-            Ok(slot) => (Reply::Ok, slot),
-            Err(slot) => (Reply::Refused, slot),
+            Ok(slot) => (Reply::Ok, Some(slot)),
+            Err(slot) => (Reply::Refused, Some(slot)),
         }
     }
 }
@@ -358,12 +358,13 @@ where
     ghost use Rattle.arc_commands.specs.declared.command.Reply.TheVariants as reply;
     ghost use Rattle.arc_slots.specs.Answers.{Answers};
     ghost use Rattle.arc_slots.specs.Slots.{stand_of};
-    ghost use Rattle.arc_slots.specs.Stands.{HasPassFor};
+    ghost use Rattle.arc_slots.specs.Stands.{HasBlockPass, LivesOn};
 
     /// Ends the window, whatever the table is run under.
-    #[tactic(auto, using(crate::proofs::Told::many_along))]
+    #[tactic(auto, using(crate::proofs::Told::many_along, crate::proofs::Taken::has_both))]
     pub(crate) fn drop_window(self, passes: &mut Passes<A>)
-        requires { HasPassFor passes.old.of_blocks.items (stand_of (Some self)) }
+        requires pass { HasBlockPass passes.old.of_blocks.items (stand_of (Some self)) }
+        requires lives { LivesOn passes.old.of_blocks.items (stand_of (Some self)) }
         ensures many { length passes.new.of_blocks.items ≡ length passes.old.of_blocks.items }
         ensures answer { (setting : Setting S.Item) (next i : ℕ) → Answers setting next
             (command.Drop i) self passes.old.of_blocks.items reply.Ok

@@ -45,44 +45,47 @@ where
 
     /// Makes the window, which is written alone, one of several on its block, if its kind has such
     /// windows and it stands on no caller's buffer.
-    pub(crate) fn share(self, passes: &Passes<A>) -> (TableReply<S, B, M, A>, Self)
+    pub(crate) fn share(self, passes: &Passes<A>) -> (TableReply<S, B, M, A>, Option<Self>)
         ensures { (next i : ℕ) → Answers (setting_of (layout_facts L.Layout) L.Writable.ANY
             L.clone_wants S.DROPS S.boundary
             (type_size S.Item.row) S.Zero.zero S.Calls.calls) next (command.Share i)
             self passes.now.of_blocks.items (seen_reply S.items_in S.items_in_box B.list result.0)
-            (Some result.1) None passes.now.of_blocks.items }
+            result.1 None passes.now.of_blocks.items }
     {
         let _ = passes;
         self.known_role();
         if !self.is_written() {
-            return (Reply::Kind, self);
+            return (Reply::Kind, Some(self));
         }
         if !S::Calls::shares() {
-            return (Reply::Kind, self);
+            return (Reply::Kind, Some(self));
         }
         match self.try_share() {
-            Ok(slot) => (Reply::Ok, slot),
-            Err(slot) => (Reply::Refused, slot),
+            Ok(slot) => (Reply::Ok, Some(slot)),
+            Err(slot) => (Reply::Refused, Some(slot)),
         }
     }
 
     /// Makes the window, which is one of several, the only one, if it is alone.
-    pub(crate) fn make_unique(self, passes: &mut Passes<A>) -> (TableReply<S, B, M, A>, Self)
+    pub(crate) fn make_unique(
+        self,
+        passes: &mut Passes<A>,
+    ) -> (TableReply<S, B, M, A>, Option<Self>)
         requires { HasPassFor passes.old.of_blocks.items (stand_of (Some self)) }
         ensures { (next i : ℕ) → Answers (setting_of (layout_facts L.Layout) L.Writable.ANY
             L.clone_wants S.DROPS S.boundary
             (type_size S.Item.row) S.Zero.zero S.Calls.calls) next (command.Unique i)
             self passes.old.of_blocks.items (seen_reply S.items_in S.items_in_box B.list result.0)
-            (Some result.1) None passes.new.of_blocks.items }
+            result.1 None passes.new.of_blocks.items }
     {
         self.known_role();
         if !self.is_several() {
-            return (Reply::Kind, self);
+            return (Reply::Kind, Some(self));
         }
         self.known_shared();
         match self.try_into_unique(passes) {
-            Ok(slot) => (Reply::Ok, slot),
-            Err(slot) => (Reply::Refused, slot),
+            Ok(slot) => (Reply::Ok, Some(slot)),
+            Err(slot) => (Reply::Refused, Some(slot)),
         }
     }
 
@@ -163,9 +166,6 @@ where
         ensures room { IsOk result → has_room ≡ true }
     {
         self.known_undropped();
-        if !part.is_split() {
-            return Err(Reply::Kind);
-        }
         if let Err(e) = self.check_places(part) {
             return Err(Reply::Range(e));
         }

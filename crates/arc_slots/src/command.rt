@@ -1,5 +1,5 @@
 //! A command on the window under one number of a table.
-ghost use Rattle.std.specs.Prelude.{◌≡◌, ℕ, None, Some, true, length, IfSome};
+ghost use Rattle.std.specs.Prelude.{◌≡◌, ℕ, None, Some, false, true, length, IfSome};
 ghost use Rattle.std.specs.Prelude.{Err, IfErr, IfOk, IsOk};
 ghost use Rattle.arc_block.specs.LayoutFacts.{layout_facts};
 ghost use Rattle.std.specs.Mem.{FitsInMemory, type_size};
@@ -10,7 +10,7 @@ ghost use Rattle.arc_commands.specs.declared.command.Reply.TheVariants as reply;
 ghost use Rattle.arc_slots.specs.Answers.{Answers};
 ghost use Rattle.arc_slots.specs.Slots.{stand_of};
 ghost use Rattle.arc_slots.specs.Stands.{HasBlockPass, HasPassFor, LivesOn};
-ghost use Rattle.arc_slots.specs.Taking.{take_command};
+ghost use Rattle.arc_slots.specs.Turning.{is_turning};
 
 use crate::part::Part;
 use crate::passes::Passes;
@@ -19,129 +19,32 @@ use crate::take::Taking;
 use arc_block::layout::{Layout, LayoutMut};
 use arc_buffer::buffer::BufferMut;
 use arc_buffer::kinds::Slice;
-use arc_commands::command::{Cmd, Given, Reply};
+use arc_commands::command::{Carried, Cmd, Given, Reply};
 use arc_kinds::kinds::{Commands, SmallOf, TableCmd, TableKind, TableReply, vec_of};
 use arc_kinds::place::set_slot;
 use std::alloc::Allocator;
 use std::mem;
 use std::sync::Wait;
 
-impl<S: Commands<A>, L: Layout, B: BufferMut<S::Item> + Drop, M: Drop, A: Allocator + Copy> Slot<
-    S,
-    L,
-    B,
-    M,
-    A,
->
-where
-    L::Writable: LayoutMut,
-    S::Small: SmallOf<S, L, B, M, A>,
+/// Whether the window on which a command is may be another one afterwards, or have gone: then the
+/// command takes it by value.
+#[inline(always)]
+fn is_turning<C: Carried>(command: &Cmd<C>) -> bool
+    ensures { result ≡ is_turning command.now }
 {
-    /// The window is read from now on, if it was written.
-    fn freeze_at(place: &mut Option<Self>, passes: &mut Passes<A>) -> TableReply<S, B, M, A>
-        requires { HasPassFor passes.old.of_blocks.items (stand_of place.old) }
-        ensures { IfSome place.old (λ s. (next i : ℕ) → Answers (setting_of (layout_facts L.Layout)
-            L.Writable.ANY L.clone_wants S.DROPS S.boundary (type_size S.Item.row)
-            S.Zero.zero S.Calls.calls) next (command.Freeze i)
-            s passes.old.of_blocks.items (seen_reply S.items_in S.items_in_box B.list result)
-            place.new None passes.new.of_blocks.items) }
-    {
-        let Some(slot) = mem::replace(place, None) else {
-            return Reply::NoWindow;
-        };
-        let (reply, slot) = slot.freeze(passes);
-        set_slot(place, Some(slot));
-        reply
-    }
-
-    /// The window is written from now on, if it was read and is alone.
-    fn mut_at(place: &mut Option<Self>, passes: &mut Passes<A>) -> TableReply<S, B, M, A>
-        requires { HasPassFor passes.old.of_blocks.items (stand_of place.old) }
-        ensures { IfSome place.old (λ s. (next i : ℕ) → Answers (setting_of (layout_facts L.Layout)
-            L.Writable.ANY L.clone_wants S.DROPS S.boundary (type_size S.Item.row)
-            S.Zero.zero S.Calls.calls) next (command.Mut i)
-            s passes.old.of_blocks.items (seen_reply S.items_in S.items_in_box B.list result)
-            place.new None passes.new.of_blocks.items) }
-    {
-        let Some(slot) = mem::replace(place, None) else {
-            return Reply::NoWindow;
-        };
-        let (reply, slot) = slot.make_mut(passes);
-        set_slot(place, Some(slot));
-        reply
-    }
-
-    /// The window is one of several from now on, if it was written alone.
-    fn share_at(place: &mut Option<Self>, passes: &Passes<A>) -> TableReply<S, B, M, A>
-        ensures { IfSome place.old (λ s. (next i : ℕ) → Answers (setting_of (layout_facts L.Layout)
-            L.Writable.ANY L.clone_wants S.DROPS S.boundary (type_size S.Item.row)
-            S.Zero.zero S.Calls.calls) next (command.Share i)
-            s passes.now.of_blocks.items (seen_reply S.items_in S.items_in_box B.list result)
-            place.new None passes.now.of_blocks.items) }
-    {
-        let Some(slot) = mem::replace(place, None) else {
-            return Reply::NoWindow;
-        };
-        let (reply, slot) = slot.share(passes);
-        set_slot(place, Some(slot));
-        reply
-    }
-
-    /// The window is the only one that is written from now on, if it was one of several and is
-    /// alone.
-    fn unique_at(place: &mut Option<Self>, passes: &mut Passes<A>) -> TableReply<S, B, M, A>
-        requires { HasPassFor passes.old.of_blocks.items (stand_of place.old) }
-        ensures { IfSome place.old (λ s. (next i : ℕ) → Answers (setting_of (layout_facts L.Layout)
-            L.Writable.ANY L.clone_wants S.DROPS S.boundary (type_size S.Item.row)
-            S.Zero.zero S.Calls.calls) next (command.Unique i)
-            s passes.old.of_blocks.items (seen_reply S.items_in S.items_in_box B.list result)
-            place.new None passes.new.of_blocks.items) }
-    {
-        let Some(slot) = mem::replace(place, None) else {
-            return Reply::NoWindow;
-        };
-        let (reply, slot) = slot.make_unique(passes);
-        set_slot(place, Some(slot));
-        reply
-    }
-
-    /// What the window stands on is taken out, if it can be had; then the window is gone.
-    fn take_at(
-        place: &mut Option<Self>,
-        what: Taking,
-        passes: &mut Passes<A>,
-    ) -> TableReply<S, B, M, A>
-        requires { HasPassFor passes.old.of_blocks.items (stand_of place.old) }
-        ensures { IfSome place.old (λ s. (next i : ℕ) → Answers (setting_of (layout_facts L.Layout)
-            L.Writable.ANY L.clone_wants S.DROPS S.boundary (type_size S.Item.row)
-            S.Zero.zero S.Calls.calls) next (take_command i what)
-            s passes.old.of_blocks.items (seen_reply S.items_in S.items_in_box B.list result)
-            place.new None passes.new.of_blocks.items) }
-    {
-        let Some(slot) = mem::replace(place, None) else {
-            return Reply::NoWindow;
-        };
-        let (reply, slot) = slot.take(what, passes);
-        set_slot(place, slot);
-        reply
-    }
-
-    /// The items of the window for good, if it is read and stands on no block; then the window is
-    /// gone.
-    fn static_at(place: &mut Option<Self>, passes: &Passes<A>) -> TableReply<S, B, M, A>
-        ensures { IfSome place.old (λ s. (next i : ℕ) → Answers (setting_of (layout_facts L.Layout)
-            L.Writable.ANY L.clone_wants S.DROPS S.boundary (type_size S.Item.row)
-            S.Zero.zero S.Calls.calls) next (command.TakeStatic i)
-            s passes.now.of_blocks.items (seen_reply S.items_in S.items_in_box B.list result)
-            place.new None passes.now.of_blocks.items) }
-    {
-        let Some(slot) = mem::replace(place, None) else {
-            return Reply::NoWindow;
-        };
-        let (reply, slot) = slot.take_static(passes);
-        set_slot(place, slot);
-        reply
-    }
+    matches!(
+        command,
+        Cmd::Freeze { .. }
+            | Cmd::Mut { .. }
+            | Cmd::Share { .. }
+            | Cmd::Unique { .. }
+            | Cmd::Drop { .. }
+            | Cmd::Take { .. }
+            | Cmd::TakeBox { .. }
+            | Cmd::TakeBuf { .. }
+            | Cmd::TakeRaw { .. }
+            | Cmd::TakeStatic { .. }
+    )
 }
 
 /// The window ends, if there is one, whatever the table is run under. Takes no memory.
@@ -149,7 +52,6 @@ where
 /// # History
 ///
 /// On a block that counts its owners Down.
-#[tactic(auto, using(crate::proofs::Taken::has_both))]
 pub fn drop_at<
     S: TableKind,
     L: Layout,
@@ -179,6 +81,125 @@ where
     Reply::Ok
 }
 
+/// Carries out a command that turns the window, or ends it: the reply, and the window that there is
+/// then.
+///
+/// # History
+///
+/// What `RowAdds` says of the command and its reply.
+#[inline(always)]
+#[tactic(auto, using(crate::proofs::Taken::has_block, crate::proofs::Taken::has_life))]
+fn turn<
+    S: Commands<A>,
+    L: Layout,
+    B: BufferMut<S::Item> + Drop,
+    M: Copy + Drop,
+    A: Allocator + Copy,
+>(
+    slot: Slot<S, L, B, M, A>,
+    command: TableCmd<S, B, M, A>,
+    passes: &mut Passes<A>,
+) -> (TableReply<S, B, M, A>, Option<Slot<S, L, B, M, A>>)
+where
+    L::Writable: LayoutMut,
+    S::Small: SmallOf<S, L, B, M, A>,
+    requires turns { is_turning command ≡ true }
+    requires pass { HasPassFor passes.old.of_blocks.items (stand_of (Some slot)) }
+    ensures { (next : ℕ) → Answers (setting_of (layout_facts L.Layout) L.Writable.ANY
+        L.clone_wants S.DROPS S.boundary (type_size S.Item.row) S.Zero.zero S.Calls.calls) next
+        (map_command S.items_in S.static_in B.list command) slot passes.old.of_blocks.items
+        (seen_reply S.items_in S.items_in_box B.list result.0) result.1 None
+        passes.new.of_blocks.items }
+{
+    match command {
+        Cmd::Freeze { .. } => slot.freeze(passes),
+        Cmd::Mut { .. } => slot.make_mut(passes),
+        Cmd::Share { .. } => slot.share(passes),
+        Cmd::Unique { .. } => slot.make_unique(passes),
+        Cmd::Take { .. } => slot.take(Taking::Vector, passes),
+        Cmd::TakeBox { .. } => slot.take(Taking::Boxed, passes),
+        Cmd::TakeBuf { .. } => slot.take(Taking::Buffer, passes),
+        Cmd::TakeRaw { .. } => slot.take(Taking::Raw, passes),
+        Cmd::TakeStatic { .. } => slot.take_static(passes),
+        Cmd::Drop { .. } => {
+            slot.drop_window(passes);
+            (Reply::Ok, None)
+        }
+        // The others turn no window.
+        _ => unreachable!(),
+    }
+}
+
+/// Carries out a command on the window where it stands: the window that was made beside it, where
+/// there is room for it.
+///
+/// # Errors
+///
+/// The reply, where no window was made.
+///
+/// # Allocates
+///
+/// As the command's call of the window, and for the pass of a first block.
+///
+/// # History
+///
+/// What `RowAdds` says of the command and its reply.
+#[inline(always)]
+fn answer_there<
+    S: Commands<A>,
+    L: Layout,
+    B: BufferMut<S::Item> + Drop,
+    M: Copy + Drop,
+    A: Allocator + Copy,
+>(
+    slot: &mut Slot<S, L, B, M, A>,
+    rt: &impl Wait,
+    alloc: A,
+    command: TableCmd<S, B, M, A>,
+    has_room: bool,
+    passes: &mut Passes<A>,
+) -> Result<Slot<S, L, B, M, A>, TableReply<S, B, M, A>>
+where
+    L::Writable: LayoutMut,
+    S::Small: SmallOf<S, L, B, M, A>,
+    requires stays { is_turning command ≡ false }
+    requires item { FitsInMemory S.Item.row }
+    requires pass { HasPassFor passes.old.of_blocks.items (stand_of (Some slot.old)) }
+    ensures made { IfOk result (λ made. (next : ℕ) → Answers
+        (setting_of (layout_facts L.Layout) L.Writable.ANY L.clone_wants S.DROPS S.boundary
+        (type_size S.Item.row) S.Zero.zero S.Calls.calls) next
+        (map_command S.items_in S.static_in B.list command) slot.old passes.old.of_blocks.items
+        (reply.New next) (Some slot.new) (Some made) passes.new.of_blocks.items) }
+    ensures told { IfErr result (λ r. (next : ℕ) → Answers
+        (setting_of (layout_facts L.Layout) L.Writable.ANY L.clone_wants S.DROPS S.boundary
+        (type_size S.Item.row) S.Zero.zero S.Calls.calls) next
+        (map_command S.items_in S.static_in B.list command) slot.old passes.old.of_blocks.items
+        (seen_reply S.items_in S.items_in_box B.list r) (Some slot.new) None
+        passes.new.of_blocks.items) }
+    ensures room { IsOk result → has_room ≡ true }
+{
+    match command {
+        Cmd::Clone { .. } => slot.hand_out_clone(rt, has_room, passes),
+        Cmd::Sub { start, end, .. } => slot.hand_out_range(rt, start, end, has_room, passes),
+        Cmd::Off { at, .. } => slot.hand_out_split(rt, Part::Back(at), has_room, passes),
+        Cmd::To { at, .. } => slot.hand_out_split(rt, Part::Front(at), has_room, passes),
+        Cmd::Uniq { .. } => Err(slot.uniq(passes)),
+        Cmd::Show { .. } => Err(slot.show(alloc, passes)),
+        Cmd::Meta { .. } => Err(slot.meta(passes)),
+        Cmd::Len { .. } => Err(slot.count(passes)),
+        Cmd::Room { .. } => Err(slot.room(passes)),
+        Cmd::Res { additional, .. } => Err(slot.reserve(additional, passes)),
+        Cmd::Push { item, .. } => Err(slot.push(item, passes)),
+        Cmd::Ext { items, .. } => Err(slot.extend(vec_of::<S, A>(items), passes)),
+        Cmd::Rec { additional, .. } => Err(slot.reclaim(additional, passes)),
+        Cmd::Adv { by, .. } => Err(slot.skip(by, passes)),
+        Cmd::Trunc { len, .. } => Err(slot.cut(len, passes)),
+        Cmd::Join { .. } => Err(slot.join(passes)),
+        // The others are on no window.
+        _ => Err(Reply::Kind),
+    }
+}
+
 /// Carries out a command on the window that is here, if there is one: the window that was made
 /// beside it, where there is room for it. That is to go under the next number, which is the reply.
 ///
@@ -194,7 +215,6 @@ where
 ///
 /// What `RowAdds` says of the command and its reply.
 #[inline(always)]
-#[tactic(auto, using(crate::proofs::Taken::has_block, crate::proofs::Taken::has_life))]
 pub fn answer<
     S: Commands<A>,
     L: Layout,
@@ -229,47 +249,16 @@ where
         × (passes.new.of_blocks.items ≡ passes.old.of_blocks.items) }
     ensures room { IsOk result → has_room ≡ true }
 {
+    if is_turning(&command) {
+        let Some(slot) = mem::replace(place, None) else {
+            return Err(Reply::NoWindow);
+        };
+        let (reply, slot) = turn(slot, command, passes);
+        set_slot(place, slot);
+        return Err(reply);
+    }
     let Some(slot) = place else {
         return Err(Reply::NoWindow);
     };
-    match command {
-        Cmd::Clone { .. } => slot.hand_out_clone(rt, has_room, passes),
-        Cmd::Sub { start, end, .. } => slot.hand_out_range(rt, start, end, has_room, passes),
-        Cmd::Off { at, .. } => slot.hand_out_split(rt, Part::Back(at), has_room, passes),
-        Cmd::To { at, .. } => slot.hand_out_split(rt, Part::Front(at), has_room, passes),
-        Cmd::Uniq { .. } => Err(slot.uniq(passes)),
-        Cmd::Show { .. } => Err(slot.show(alloc, passes)),
-        Cmd::Meta { .. } => Err(slot.meta(passes)),
-        Cmd::Len { .. } => Err(slot.count(passes)),
-        Cmd::Room { .. } => Err(slot.room(passes)),
-        Cmd::Res { additional, .. } => Err(slot.reserve(additional, passes)),
-        Cmd::Push { item, .. } => Err(slot.push(item, passes)),
-        Cmd::Ext { items, .. } => Err(slot.extend(vec_of::<S, A>(items), passes)),
-        Cmd::Rec { additional, .. } => Err(slot.reclaim(additional, passes)),
-        Cmd::Adv { by, .. } => Err(slot.skip(by, passes)),
-        Cmd::Trunc { len, .. } => Err(slot.cut(len, passes)),
-        Cmd::Freeze { .. } => Err(Slot::freeze_at(place, passes)),
-        Cmd::Mut { .. } => Err(Slot::mut_at(place, passes)),
-        Cmd::Share { .. } => Err(Slot::share_at(place, passes)),
-        Cmd::Unique { .. } => Err(Slot::unique_at(place, passes)),
-        Cmd::Join { .. } => Err(slot.join(passes)),
-        Cmd::Drop { .. } => Err(drop_at(place, passes)),
-        Cmd::Take { .. } => Err(Slot::take_at(place, Taking::Vector, passes)),
-        Cmd::TakeBox { .. } => Err(Slot::take_at(place, Taking::Boxed, passes)),
-        Cmd::TakeBuf { .. } => Err(Slot::take_at(place, Taking::Buffer, passes)),
-        Cmd::TakeRaw { .. } => Err(Slot::take_at(place, Taking::Raw, passes)),
-        Cmd::TakeStatic { .. } => Err(Slot::static_at(place, passes)),
-        // These are on no window.
-        Cmd::Slice(_) => Err(Reply::Kind),
-        Cmd::Small(_) => Err(Reply::Kind),
-        Cmd::Vec(_) => Err(Reply::Kind),
-        Cmd::Static(_) => Err(Reply::Kind),
-        Cmd::Raw(_) => Err(Reply::Kind),
-        Cmd::Buf { .. } => Err(Reply::Kind),
-        Cmd::MBuf { .. } => Err(Reply::Kind),
-        Cmd::New => Err(Reply::Kind),
-        Cmd::Cap { .. } => Err(Reply::Kind),
-        Cmd::Zero { .. } => Err(Reply::Kind),
-        Cmd::MSlice(_) => Err(Reply::Kind),
-    }
+    answer_there(slot, rt, alloc, command, has_room, passes)
 }

@@ -118,8 +118,8 @@ where
         }
     }
 
-    /// Hands out any part of the window, if it has that and there is room: the places of one of
-    /// several writers are split.
+    /// Splits the window, if it is read or the places of one of several writers, and hands out the
+    /// part, if it has that and there is room.
     ///
     /// # Errors
     ///
@@ -149,10 +149,10 @@ where
         if self.is_several() {
             return self.hand_out_places(rt, part, has_room, passes);
         }
-        if !self.has_part(part) {
+        if !self.is_read() {
             return Err(Reply::Kind);
         }
-        if let Err(e) = self.check_part(part) {
+        if let Err(e) = self.check_at(part.at()) {
             return Err(Reply::Range(e));
         }
         if !has_room {

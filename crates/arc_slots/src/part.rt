@@ -1,25 +1,20 @@
-//! Windows that are made beside others.
-ghost use Rattle.std.specs.Prelude.{◌≡◌, Bool, true, IsOk};
-ghost use Rattle.arc_slots.specs.Several.{is_split};
+//! The two sides of a split window.
+ghost use Rattle.std.specs.Prelude.{◌≡◌};
+ghost use Rattle.arc_slots.specs.Parts.{split_at};
 
 use crate::passes::Passes;
 use crate::slot::Slot;
-use crate::window::Held;
 use arc_block::layout::{Layout, LayoutMut};
 use arc_buffer::buffer::BufferMut;
 use arc_buffer::kinds::Slice;
 use arc_kinds::kinds::{SmallOf, TableKind};
-use arc_owners::error::{OwnerError, RangeError};
+use arc_owners::error::OwnerError;
 use std::alloc::Allocator;
 use std::sync::Wait;
 
-/// What of a window is handed out as another one.
+/// What of a window that is split is handed out as another one.
 #[derive(Clone, Copy)]
 pub enum Part {
-    /// All of it.
-    Whole,
-    /// The items from `start` to `end`.
-    Range { start: usize, end: usize },
     /// The items from this place on, which the window then has no more.
     Back(usize),
     /// The items up to this place, which the window then has no more.
@@ -27,13 +22,12 @@ pub enum Part {
 }
 
 impl Part {
-    /// Whether places are split at the part.
-    pub fn is_split(self) -> bool
-        ensures { result ≡ is_split self }
+    /// The place at which the window is split.
+    pub fn at(self) -> usize
+        ensures { result ≡ split_at self }
     {
         match self {
-            Part::Whole | Part::Range { .. } => false,
-            Part::Back(_) | Part::Front(_) => true,
+            Part::Back(at) | Part::Front(at) => at,
         }
     }
 }
@@ -49,47 +43,17 @@ where
     L::Writable: LayoutMut,
     S::Small: SmallOf<S, L, B, M, A>,
 {
-    ghost use Rattle.std.specs.Prelude.{false, None, Some, IfErr, IfOk};
+    ghost use Rattle.std.specs.Prelude.{true, false, Some, IfErr, IfOk};
+    ghost use Rattle.arc_buffer.specs.Slice.{IsEdge};
+    ghost use Rattle.arc_block.specs.Table.{reader};
     ghost use Rattle.arc_slots.specs.Calls.{RefusesAt};
-    ghost use Rattle.arc_slots.specs.Parts.{IsPart, is_itself, is_part_of, part_answer, part_row};
-    ghost use Rattle.arc_slots.specs.Parts.{rest_of};
+    ghost use Rattle.arc_slots.specs.Parts.{is_itself, part_row, rest_of};
     ghost use Rattle.arc_slots.specs.Slots.{row_of, stand_of};
     ghost use Rattle.arc_slots.specs.Splits.{IsSplit};
     ghost use Rattle.arc_slots.specs.Stands.{HasPassFor};
 
-    /// Whether such a part is handed out of a window of this role.
-    pub fn has_part(&self, part: Part) -> bool
-        ensures { result ≡ is_part_of self.now.role part }
-    {
-        match &self.window {
-            Held::Read(_) => true,
-            Held::Write(_) | Held::Several(_) => false,
-            Held::Small(_) => match part {
-                Part::Whole | Part::Range { .. } => true,
-                Part::Back(_) | Part::Front(_) => false,
-            },
-        }
-    }
-
-    /// Whether the window, of whose role such a part is handed out, has it.
-    ///
-    /// # Errors
-    ///
-    /// Those of `check_range`, and of `check_at` for a back or a front.
-    pub fn check_part(&self, part: Part) -> Result<(), RangeError>
-        requires { is_part_of self.now.role part ≡ true }
-        ensures answer { result ≡ part_answer S.boundary self.now.window.items part }
-        ensures ok { IsOk result → IsPart S.boundary self.now.window.items part }
-    {
-        match part {
-            Part::Whole => Ok(()),
-            Part::Range { start, end } => self.check_range(start, end),
-            Part::Back(at) | Part::Front(at) => self.check_at(at),
-        }
-    }
-
-    /// Hands out a part of the window, of whose role that is done, as another one: by `try_clone`,
-    /// `try_subslice`, `try_split_off` or `try_split_to`. Refused, the window is as before.
+    /// Splits the window, which is read, and hands out the part: by `try_split_off` or
+    /// `try_split_to`. Refused, the window is as before.
     ///
     /// # Errors
     ///
@@ -108,8 +72,8 @@ where
         part: Part,
         passes: &mut Passes<A>,
     ) -> Result<Self, OwnerError>
-        requires role { is_part_of self.old.role part ≡ true }
-        requires within { IsPart S.boundary self.old.window.items part }
+        requires reads { self.old.role ≡ reader }
+        requires at { IsEdge S.boundary self.old.window.items (split_at part) }
         requires pass { HasPassFor passes.old.of_blocks.items (stand_of (Some self.old)) }
         ensures itself { IfOk result (λ handed. is_itself (row_of self.old) part ≡ true
             → IsSplit self.old handed self.new (row_of self.old)
@@ -125,8 +89,6 @@ where
             passes.old.of_blocks.items passes.new.of_blocks.items) }
     {
         match part {
-            Part::Whole => self.try_clone(rt, passes),
-            Part::Range { start, end } => self.try_subslice(rt, start, end, passes),
             Part::Back(at) => self.try_split_off(rt, at, passes),
             Part::Front(at) => self.try_split_to(rt, at, passes),
         }

@@ -25,6 +25,8 @@ impl<A: Allocator> Passes<A> {
     pub fn lend(&mut self, block: Option<usize>) -> Pass<Whole>
         requires { HasNumber self.old.of_blocks.items block }
         ensures taken { TakenOut self.old.of_blocks.items block result self.new.of_blocks.items }
+        ensures number { HasNumber self.new.of_blocks.items block }
+        ensures many { length self.new.of_blocks.items ≡ length self.old.of_blocks.items }
         ensures room { vec_capacity self.new.of_blocks ≡ vec_capacity self.old.of_blocks }
     {
         match block {

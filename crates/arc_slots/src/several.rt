@@ -15,7 +15,7 @@ ghost use Rattle.arc_commands.specs.Several.{can_share};
 ghost use Rattle.arc_slots.specs.Calls.{AddsNothing, Along};
 ghost use Rattle.arc_slots.specs.Several.{AsksAt, FillsBeside, HasPlaces, MovesTo, RefusesPlaces};
 ghost use Rattle.arc_kinds.specs.Passes.{is_any};
-ghost use Rattle.arc_slots.specs.Several.{RoomBeside, SplitsThere, handed_places, is_split};
+ghost use Rattle.arc_slots.specs.Several.{RoomBeside, SplitsThere, handed_places};
 ghost use Rattle.arc_slots.specs.Several.{kept_places, places_answer};
 ghost use Rattle.arc_slots.specs.Slots.{row_of, stand_of};
 ghost use Rattle.arc_slots.specs.Stands.{HasPassFor};
@@ -137,7 +137,6 @@ fn split_as<
                 None => unreachable!(),
             }
         }
-        Part::Whole | Part::Range { .. } => unreachable!(),
     }
 }
 
@@ -184,7 +183,6 @@ where
     /// items; `NotBoundary` where the items may not be cut there.
     pub fn check_places(&self, part: Part) -> Result<(), RangeError>
         requires role { is_several self.now.role ≡ true }
-        requires part { is_split part ≡ true }
         ensures answer { result ≡ places_answer S.boundary self.now.window.items
             (capacity_of self.now.role) part }
         ensures ok { OnOk result (HasPlaces S.boundary self.now.window.items
@@ -196,7 +194,6 @@ where
         match part {
             Part::Back(at) => window.check_split_off(at),
             Part::Front(at) => window.check_at(at),
-            Part::Whole | Part::Range { .. } => unreachable!(),
         }
     }
 

@@ -8,9 +8,7 @@ ghost use Rattle.arc_slots.specs.Writing.{IsLegal, can_write, seen_writing, item
 ghost use Rattle.arc_slots.specs.Writing.{additional_of};
 
 use crate::passes::Passes;
-use crate::window::{
-    AnyWindow, Held, ReadOnly, ReadOnlyWindow, clone_window, cut_window, end_window,
-};
+use crate::window::{AnyWindow, Held, clone_window, cut_window, end_window, hold_window};
 use arc_block::layout::{Layout, LayoutMut, stands_on_nothing};
 use arc_block::static_slice::StaticSlice;
 use arc_buffer::buffer::BufferMut;
@@ -162,7 +160,7 @@ where
     ghost use Rattle.arc_slots.specs.Splits.{IsSplit};
     ghost use Rattle.arc_commands.specs.Blocks.{is_reader, is_several, is_small, is_sole};
     ghost use Rattle.arc_commands.specs.Blocks.{is_writer};
-    ghost use Rattle.arc_slots.specs.Slots.{IsSlotRole, as_held, held, row_of, stand_of, window_in};
+    ghost use Rattle.arc_slots.specs.Slots.{IsSlotRole, held, row_of, stand_of, window_in};
     ghost use Rattle.arc_slots.specs.Writing.{Fills, is_fresh};
     ghost use Rattle.arc_parts.specs.Writers.{Reclaims};
     ghost use Rattle.std.specs.Vec.{vec_capacity};
@@ -199,24 +197,6 @@ where
         Slot {
             window: Held::Write(window),
             block,
-        }
-    }
-
-    /// A window that isn't written, on the block with this number.
-    #[inline(always)]
-    pub fn read_only(window: ReadOnlyWindow<S, L, B, M, A>, block: Option<usize>) -> Self
-        requires { is_numbered block (window_in S.Small.seen (as_held window)).place ≡ true }
-        ensures { result ≡ held S.Small.seen (as_held window) block }
-    {
-        match window {
-            ReadOnly::Read(window) => Slot {
-                window: Held::Read(window),
-                block,
-            },
-            ReadOnly::Small(window) => Slot {
-                window: Held::Small(window),
-                block,
-            },
         }
     }
 
@@ -450,7 +430,10 @@ where
         let made = clone_window(&self.window, rt, &mut pass);
         passes.give_back(self.block, pass);
         match made {
-            Ok(window) => Ok(Slot::read_only(window, self.block)),
+            Ok(window) => Ok(Slot {
+                window: hold_window(window),
+                block: self.block,
+            }),
             Err(e) => Err(e),
         }
     }
@@ -494,7 +477,10 @@ where
         let made = cut_window(&self.window, rt, start, end, &mut pass);
         passes.give_back(self.block, pass);
         match made {
-            Ok(window) => Ok(Slot::read_only(window, part_block::<L>(self.block, end - start))),
+            Ok(window) => Ok(Slot {
+                window: hold_window(window),
+                block: part_block::<L>(self.block, end - start),
+            }),
             Err(e) => Err(e),
         }
     }

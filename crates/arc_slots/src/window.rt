@@ -58,6 +58,26 @@ pub type ReadOnlyWindow<S, L, B, M, A> = ReadOnly<
     SmallWindow<S, L, B, M, A>,
 >;
 
+/// The window that a clone or a cut is, as a slot holds it.
+#[inline(always)]
+pub(crate) fn hold_window<
+    S: TableKind,
+    L: Layout,
+    K: LayoutMut,
+    B: BufferMut<S::Item> + Drop,
+    M: Drop,
+    A: Allocator + Copy,
+>(window: ReadOnlyWindow<S, L, B, M, A>) -> AnyWindow<S, L, K, B, M, A>
+where
+    S::Small: SmallOf<S, L, B, M, A>,
+    ensures { result ≡ as_held window }
+{
+    match window {
+        ReadOnly::Read(window) => Held::Read(window),
+        ReadOnly::Small(window) => Held::Small(window),
+    }
+}
+
 /// Another window with the same items, by `try_clone_as` of a reader's or of a small one.
 #[inline(always)]
 pub(crate) fn clone_window<

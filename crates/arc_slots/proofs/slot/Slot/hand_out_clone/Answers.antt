@@ -1,11 +1,9 @@
--- The clone is a part that is handed out beside the window.
+-- The clone is handed out beside the window.
 use Rattle.std.proofs.Common.{refl, sym, ◌∙◌}
 use Rattle.std.specs.Mem.{type_size}
 use Rattle.arc_block.specs.LayoutFacts.{layout_facts}
 use Rattle.arc_commands.specs.Changes.{Setting, setting_of}
-use Rattle.arc_slots.specs.declared.part.Part.TheVariants as part
-use Rattle.arc_slots.proofs.HandedOut.{beside, part-alloc, part-refused, unwritten-has}
-use Rattle.arc_slots.proofs.HandedOut.{written-kind}
+use Rattle.arc_slots.proofs.HandedOut.{clone-kind, clones, hand-alloc, hand-beside, hand-refused}
 use Rattle.arc_slots.proofs.slot.Slot.hand_out_clone.Given.{Over}
 use Rattle.arc_slots.proofs.slot.Slot.hand_out_clone.Goals as goal
 
@@ -17,16 +15,17 @@ setting g =
 
 pub returns-then-is_writer-clause-refused : goal.returns-then-is_writer-clause-refused
 returns-then-is_writer-clause-refused g c next i =
-    written-kind (setting g) next c.args.self.now c.args.passes.now.of_blocks.items i
-    part.Whole (sym c.is_writer.ensures ∙ c.if-is_writer.true) refl
+    clone-kind (setting g) next c.args.self.now c.args.passes.now.of_blocks.items i
+    (sym c.is_writer.ensures ∙ c.if-is_writer.true)
 
 pub returns-in-Ok-clause-made : goal.returns-in-Ok-clause-made
 returns-in-Ok-clause-made g c next i =
     let s = c.args.self.now in
-    let for = unwritten-has s.role part.Whole c.known_role.ensures
-    (sym c.is_writer.ensures ∙ c.if-is_writer.false) refl in
-    beside (setting g) next s c.args.passes.now.of_blocks.items i c.requires
-    c.try_clone.new.passes.of_blocks.items part.Whole for refl c.in-Ok.slot s refl
+    let passes = c.args.passes.now.of_blocks.items in
+    hand-beside (setting g) next s passes
+    (clones (setting g) next s passes c.known_role.ensures
+    (sym c.is_writer.ensures ∙ c.if-is_writer.false) i) c.requires
+    c.try_clone.new.passes.of_blocks.items c.in-Ok.slot s refl
     record {
       same_is = refl;
       made_is = c.in-Ok.ensures.row;
@@ -37,15 +36,16 @@ returns-in-Ok-clause-made g c next i =
 pub returns-in-Err-clause-refused : goal.returns-in-Err-clause-refused
 returns-in-Err-clause-refused g c next i =
     let s = c.args.self.now in
-    let for = unwritten-has s.role part.Whole c.known_role.ensures
-    (sym c.is_writer.ensures ∙ c.if-is_writer.false) refl in
-    part-refused (setting g) next s c.args.passes.now.of_blocks.items i c.requires
-    c.try_clone.new.passes.of_blocks.items part.Whole for refl c.in-Err.e
-    c.in-Err.ensures.refused
+    let passes = c.args.passes.now.of_blocks.items in
+    hand-refused (setting g) next s passes
+    (clones (setting g) next s passes c.known_role.ensures
+    (sym c.is_writer.ensures ∙ c.if-is_writer.false) i) c.requires
+    c.try_clone.new.passes.of_blocks.items c.in-Err.e c.in-Err.ensures.refused
 
 pub returns-then-not-has_room-clause-refused : goal.returns-then-not-has_room-clause-refused
 returns-then-not-has_room-clause-refused g c next i =
     let s = c.args.self.now in
-    let for = unwritten-has s.role part.Whole c.known_role.ensures
-    (sym c.is_writer.ensures ∙ c.if-is_writer.false) refl in
-    part-alloc (setting g) next s c.args.passes.now.of_blocks.items i part.Whole for refl
+    let passes = c.args.passes.now.of_blocks.items in
+    hand-alloc (setting g) next s passes
+    (clones (setting g) next s passes c.known_role.ensures
+    (sym c.is_writer.ensures ∙ c.if-is_writer.false) i)

@@ -1,11 +1,10 @@
--- The range is a part that is handed out beside the window.
+-- The range is handed out beside the window.
 use Rattle.std.proofs.Common.{refl, sym, ◌∙◌}
 use Rattle.std.specs.Mem.{type_size}
 use Rattle.arc_block.specs.LayoutFacts.{layout_facts}
 use Rattle.arc_commands.specs.Changes.{Setting, setting_of}
-use Rattle.arc_slots.specs.declared.part.Part.TheVariants as part
-use Rattle.arc_slots.proofs.HandedOut.{beside, part-alloc, part-range, part-refused, unwritten-has}
-use Rattle.arc_slots.proofs.HandedOut.{written-kind}
+use Rattle.arc_slots.proofs.HandedOut.{hand-alloc, hand-beside, hand-refused, no-range}
+use Rattle.arc_slots.proofs.HandedOut.{range-kind, ranges}
 use Rattle.arc_slots.proofs.slot.Slot.hand_out_range.Given.{Over}
 use Rattle.arc_slots.proofs.slot.Slot.hand_out_range.Goals as goal
 
@@ -17,17 +16,18 @@ setting g =
 
 pub returns-then-is_writer-clause-refused : goal.returns-then-is_writer-clause-refused
 returns-then-is_writer-clause-refused g c next i =
-    written-kind (setting g) next c.args.self.now c.args.passes.now.of_blocks.items i
-    (part.Range c.args.start c.args.end) (sym c.is_writer.ensures ∙ c.if-is_writer.true) refl
+    range-kind (setting g) next c.args.self.now c.args.passes.now.of_blocks.items i c.args.start
+    c.args.end (sym c.is_writer.ensures ∙ c.if-is_writer.true)
 
 pub returns-in-Ok-clause-made : goal.returns-in-Ok-clause-made
 returns-in-Ok-clause-made g c next i =
     let s = c.args.self.now in
-    let for = unwritten-has s.role (part.Range c.args.start c.args.end) c.known_role.ensures
-    (sym c.is_writer.ensures ∙ c.if-is_writer.false) refl in
-    beside (setting g) next s c.args.passes.now.of_blocks.items i c.requires
-    c.try_subslice.new.passes.of_blocks.items (part.Range c.args.start c.args.end) for
-    (sym c.check_range.ensures.answer ∙ c.in_default.is) c.in-Ok.slot s refl
+    let passes = c.args.passes.now.of_blocks.items in
+    hand-beside (setting g) next s passes
+    (ranges (setting g) next s passes c.known_role.ensures
+    (sym c.is_writer.ensures ∙ c.if-is_writer.false) i c.args.start c.args.end
+    (sym c.check_range.ensures.answer ∙ c.in_default.is)) c.requires
+    c.try_subslice.new.passes.of_blocks.items c.in-Ok.slot s refl
     record {
       same_is = refl;
       made_is = c.in-Ok.ensures.row;
@@ -38,27 +38,25 @@ returns-in-Ok-clause-made g c next i =
 pub returns-in-Err-try_subslice-clause-refused : goal.returns-in-Err-try_subslice-clause-refused
 returns-in-Err-try_subslice-clause-refused g c next i =
     let s = c.args.self.now in
-    let for = unwritten-has s.role (part.Range c.args.start c.args.end) c.known_role.ensures
-    (sym c.is_writer.ensures ∙ c.if-is_writer.false) refl in
-    part-refused (setting g) next s c.args.passes.now.of_blocks.items i c.requires
-    c.try_subslice.new.passes.of_blocks.items (part.Range c.args.start c.args.end) for
-    (sym c.check_range.ensures.answer ∙ c.in_default.is) c.in-Err-try_subslice.e
+    let passes = c.args.passes.now.of_blocks.items in
+    hand-refused (setting g) next s passes
+    (ranges (setting g) next s passes c.known_role.ensures
+    (sym c.is_writer.ensures ∙ c.if-is_writer.false) i c.args.start c.args.end
+    (sym c.check_range.ensures.answer ∙ c.in_default.is)) c.requires
+    c.try_subslice.new.passes.of_blocks.items c.in-Err-try_subslice.e
     c.in-Err-try_subslice.ensures.refused
 
 pub returns-then-not-has_room-clause-refused : goal.returns-then-not-has_room-clause-refused
 returns-then-not-has_room-clause-refused g c next i =
     let s = c.args.self.now in
-    let for = unwritten-has s.role (part.Range c.args.start c.args.end) c.known_role.ensures
-    (sym c.is_writer.ensures ∙ c.if-is_writer.false) refl in
-    part-alloc (setting g) next s c.args.passes.now.of_blocks.items i
-    (part.Range c.args.start c.args.end) for
-    (sym c.check_range.ensures.answer ∙ c.in_default.is)
+    let passes = c.args.passes.now.of_blocks.items in
+    hand-alloc (setting g) next s passes
+    (ranges (setting g) next s passes c.known_role.ensures
+    (sym c.is_writer.ensures ∙ c.if-is_writer.false) i c.args.start c.args.end
+    (sym c.check_range.ensures.answer ∙ c.in_default.is))
 
 pub returns-in-Err-clause-refused : goal.returns-in-Err-clause-refused
 returns-in-Err-clause-refused g c next i =
-    let s = c.args.self.now in
-    let for = unwritten-has s.role (part.Range c.args.start c.args.end) c.known_role.ensures
-    (sym c.is_writer.ensures ∙ c.if-is_writer.false) refl in
-    part-range (setting g) next s c.args.passes.now.of_blocks.items i
-    (part.Range c.args.start c.args.end) c.in-Err.e for
-    (sym c.check_range.ensures.answer ∙ c.in-Err.is)
+    no-range (setting g) next c.args.self.now c.args.passes.now.of_blocks.items
+    c.known_role.ensures (sym c.is_writer.ensures ∙ c.if-is_writer.false) i c.args.start c.args.end
+    c.in-Err.e (sym c.check_range.ensures.answer ∙ c.in-Err.is)

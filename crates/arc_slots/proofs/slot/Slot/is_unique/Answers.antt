@@ -1,12 +1,7 @@
 -- What asking adds to the pass that was lent for it, it adds to the passes.
 use Rattle.arc_slots.proofs.Native.{read-asks}
-use Rattle.arc_slots.proofs.Slots.{call-left, read-call}
+use Rattle.arc_slots.proofs.Slots.{read-call}
 use Rattle.arc_slots.proofs.slot.Slot.is_unique.Goals as goal
-
-pub give_back-requires : goal.give_back-requires
-give_back-requires g c =
-    call-left (read-call g.S.Small.SmallOf.seen c.self.inside.window c.in-Read.window c.in-Read.is
-    c.self.view_is c.self.invariant.0 c.requires.pass c.lend-pass.ensures.taken)
 
 pub returns : goal.returns
 returns g c =

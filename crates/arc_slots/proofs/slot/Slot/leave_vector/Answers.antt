@@ -1,17 +1,15 @@
 -- The pass of the vector comes back to its place, and that of the new block behind the others.
-use Rattle.std.proofs.Common.{◌≡◌, ◌∙◌, ◌<◌, length, refl, sym, subst, Some}
-use Rattle.std.specs.Vec.{vec_capacity}
+use Rattle.std.proofs.Common.{◌≡◌, ◌∙◌, refl, sym, subst, Some}
 use Rattle.arc_slots.specs.Slots.{SlotView, stand_of, window_in}
 use Rattle.arc_slots.specs.Stands.{HasNumber, HasPassFor, IsAttested}
 use Rattle.arc_slots.specs.declared.window.Held.TheVariants.{Several}
-use Rattle.arc_slots.proofs.Parted.{LeftVector, left-many, left-vector}
-use Rattle.arc_slots.proofs.Parted.{shared-still, shared-vector}
+use Rattle.arc_slots.proofs.Parted.{LeftVector, left-vector}
+use Rattle.arc_slots.proofs.Parted.{shared-vector}
 use Rattle.arc_slots.proofs.Parted.{slot-nothing, still-more}
 use Rattle.arc_slots.proofs.Slots.{has-number, role-as, shares-as}
 use Rattle.arc_slots.proofs.Taken.{back-same}
 use Rattle.arc_slots.proofs.slot.Slot.leave_vector.Given.{Over}
 use Rattle.arc_slots.proofs.slot.Slot.leave_vector.Goals.{After-give_back, After-give_back-in-Err}
-use Rattle.arc_slots.proofs.slot.Slot.leave_vector.Goals.{After-lend-pass}
 use Rattle.arc_slots.proofs.slot.Slot.leave_vector.Goals as goal
 
 pub try_leave_vector_as-requires-clause-vector : goal.try_leave_vector_as-requires-clause-vector
@@ -20,28 +18,12 @@ try_leave_vector_as-requires-clause-vector g c =
     c.self.inside.block c.in-Several.is c.args.self.now c.self.view_is c.self.invariant.0
     ∙ c.requires.vector
 
-pub keep-self-inside-requires-clause-room : goal.keep-self-inside-requires-clause-room
-keep-self-inside-requires-clause-room g c begins =
-    subst (λ m. length c.lend-pass.new.self.of_blocks.items < m) (sym c.lend-pass.ensures.room)
-    (subst (λ n. n < vec_capacity c.args.passes.now.of_blocks)
-    (sym (left-many c.args.passes.now.of_blocks.items c.lend-pass.new.self.of_blocks.items
-    c.lend-pass.result c.self.inside.block c.lend-pass.ensures.taken)) c.requires.room)
-
--- the pass comes back to its place
-left : (g : Over) (c : After-lend-pass g)
-    → HasNumber c.lend-pass.new.self.of_blocks.items c.self.inside.block
-left g c =
-    shared-still g.S.Small.SmallOf.seen c.self.inside.window c.in-Several.window
-    c.self.inside.block c.in-Several.is c.args.self.now c.self.view_is c.self.invariant.0
-    c.args.passes.now.of_blocks.items c.lend-pass.new.self.of_blocks.items c.lend-pass.result
-    c.requires.pass c.lend-pass.ensures.taken
-
 pub give_back-requires : goal.give_back-requires
 give_back-requires g c =
     subst (λ ps. HasNumber ps c.self.inside.block)
     (sym (c.keep-self-inside.ensures.new refl).1)
     (still-more c.lend-pass.new.self.of_blocks.items c.in-Ok.first c.self.inside.block
-    (left g (goal.at.give_back-requires g c).After-lend-pass))
+    c.lend-pass.ensures.number)
 
 did : (g : Over) (c : After-give_back g)
     → LeftVector c.args.self.now c.try_leave_vector_as.new.window c.keep-self-inside.result
@@ -73,10 +55,6 @@ returns-in-Ok-clause-row g c = (did g (goal.at.returns-in-Ok-clause-row g c).Aft
 pub returns-in-Ok-clause-moved : goal.returns-in-Ok-clause-moved
 returns-in-Ok-clause-moved g c =
     (did g (goal.at.returns-in-Ok-clause-moved g c).After-give_back).moved
-
-pub give_back-requires-in-Err : goal.give_back-requires-in-Err
-give_back-requires-in-Err g c =
-    left g (goal.at.give_back-requires-in-Err g c).After-lend-pass
 
 -- the passes are then as before
 same-passes : (g : Over) (c : After-give_back-in-Err g)

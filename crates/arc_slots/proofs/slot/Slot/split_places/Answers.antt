@@ -1,13 +1,8 @@
 -- What a split adds to the pass that was lent for the window, it adds to the passes.
-use Rattle.arc_slots.proofs.Parted.{places-refused, shared-still, splits-there}
+use Rattle.arc_slots.specs.declared.window.Held.TheVariants.{Several}
+use Rattle.arc_slots.proofs.Parted.{kept-fits, made-fits, places-refused, splits-there}
+use Rattle.arc_slots.proofs.Slots.{role-as, shares-as}
 use Rattle.arc_slots.proofs.slot.Slot.split_places.Goals as goal
-
-pub give_back-requires : goal.give_back-requires
-give_back-requires g c =
-    shared-still g.S.Small.SmallOf.seen c.self.inside.window c.in-Several.window
-    c.self.inside.block c.in-Several.is c.args.self.now c.self.view_is c.self.invariant.0
-    c.args.passes.now.of_blocks.items c.lend-pass.new.self.of_blocks.items c.lend-pass.result
-    c.requires.pass c.lend-pass.ensures.taken
 
 pub returns-in-Err-clause-refused : goal.returns-in-Err-clause-refused
 returns-in-Err-clause-refused g c =
@@ -26,3 +21,37 @@ returns-clause-made g c =
     c.requires.pass c.lend-pass.ensures.taken c.requires.there c.args.part
     c.split_as-made.new.pass c.give_back.new.self.of_blocks.items c.give_back.ensures
     c.split_as-made.new.window c.in-Ok.window c.in-Ok.ensures.made
+
+pub invariant_of-self-2 : goal.invariant_of-self-2
+invariant_of-self-2 g c =
+    let fits =
+    kept-fits g.S.Small.SmallOf.seen c.self.inside.window c.in-Several.window c.self.inside.block
+    c.in-Several.is c.args.self.now c.self.view_is c.self.invariant.0
+    c.args.passes.now.of_blocks.items c.lend-pass.new.self.of_blocks.items c.lend-pass.result
+    c.requires.pass c.lend-pass.ensures.taken c.requires.there c.args.part
+    c.split_as-made.new.pass c.give_back.new.self.of_blocks.items c.give_back.ensures
+    c.split_as-made.new.window c.in-Ok.window c.in-Ok.ensures.made
+    (role-as c.self.inside.window (Several c.in-Several.window) c.in-Several.is
+    c.self.invariant.1) in (
+      fits.0,
+      fits.1,
+      shares-as c.self.inside.window (Several c.in-Several.window) c.in-Several.is
+          g.S.TableKind.SHARES c.self.invariant.2,
+    )
+
+pub invariant_of-result : goal.invariant_of-result
+invariant_of-result g c =
+    let fits =
+    made-fits g.S.Small.SmallOf.seen c.self.inside.window c.in-Several.window c.self.inside.block
+    c.in-Several.is c.args.self.now c.self.view_is c.self.invariant.0
+    c.args.passes.now.of_blocks.items c.lend-pass.new.self.of_blocks.items c.lend-pass.result
+    c.requires.pass c.lend-pass.ensures.taken c.requires.there c.args.part
+    c.split_as-made.new.pass c.give_back.new.self.of_blocks.items c.give_back.ensures
+    c.split_as-made.new.window c.in-Ok.window c.in-Ok.ensures.made
+    (role-as c.self.inside.window (Several c.in-Several.window) c.in-Several.is
+    c.self.invariant.1) in (
+      fits.0,
+      fits.1,
+      shares-as c.self.inside.window (Several c.in-Several.window) c.in-Several.is
+          g.S.TableKind.SHARES c.self.invariant.2,
+    )

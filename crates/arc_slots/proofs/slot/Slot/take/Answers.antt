@@ -1,6 +1,6 @@
 use Rattle.std.proofs.Common.{sym, ◌∙◌}
-use Rattle.arc_slots.proofs.Asked.{took, took-sole, untook}
-use Rattle.arc_slots.proofs.Same.{reply-same, window-same}
+use Rattle.arc_slots.proofs.Asked.{took, took-sole, untook, untook-sole}
+use Rattle.arc_slots.proofs.Same.{after-same, reply-same, window-same}
 use Rattle.arc_slots.proofs.slot.Slot.take.Goals as goal
 
 pub returns-in-Ok : goal.returns-in-Ok
@@ -21,3 +21,11 @@ returns-in-Ok-try_take_written g c next i =
     (took-sole _ next _ _ (sym c.is_written.ensures.answer ∙ c.if-not-is_written.false) i
     c.args.what (sym c.for_writers.ensures ∙ c.if-not-for_writers.false) _
     c.in-Ok-try_take_written.ensures.taken c.in-Ok-try_take_written.ensures.left)
+
+pub returns-in-Err-try_take_written : goal.returns-in-Err-try_take_written
+returns-in-Err-try_take_written g c next i =
+    window-same c.in-Err-try_take_written.ensures.back.0
+    (after-same c.in-Err-try_take_written.ensures.back.1
+    (untook-sole _ next _ _ (sym c.is_written.ensures.answer ∙ c.if-not-is_written.false) i
+    c.args.what (sym c.for_writers.ensures ∙ c.if-not-for_writers.false)
+    c.in-Err-try_take_written.ensures.refused))

@@ -1,41 +1,16 @@
 -- The window stands where it stood, or is what is made of its items, on a block more or on none.
 use Rattle.arc_block.specs.LayoutFacts.{layout_facts}
-use Rattle.std.proofs.Common.{◌<◌, length, refl, sym, ap, ◌∙◌, subst}
-use Rattle.std.specs.Vec.{vec_capacity}
+use Rattle.std.proofs.Common.{refl, ap, ◌∙◌}
 use Rattle.arc_slots.specs.Slots.{held, parts_in}
-use Rattle.arc_slots.specs.Stands.{HasNumber}
-use Rattle.arc_slots.proofs.Freezing.{slot-frozen, slot-numbered, room-to-read}
-use Rattle.arc_slots.proofs.Slots.{call-left, call-pass, held-call}
+use Rattle.arc_slots.proofs.Freezing.{slot-frozen, slot-numbered}
+use Rattle.arc_slots.proofs.Slots.{call-pass, held-call}
 use Rattle.arc_slots.proofs.Taken.{back-same}
-use Rattle.arc_slots.proofs.slot.Slot.try_freeze.Given.{Over}
-use Rattle.arc_slots.proofs.slot.Slot.try_freeze.Goals.{After-lend-pass}
 use Rattle.arc_slots.proofs.slot.Slot.try_freeze.Goals as goal
 
 pub freeze_window-requires-clause-pass : goal.freeze_window-requires-clause-pass
 freeze_window-requires-clause-pass g c =
     call-pass (held-call g.S.Small.SmallOf.seen c.self.inside.window c.self.view_is
     c.self.invariant.0 c.requires.pass c.lend-pass.ensures.taken)
-
-left : (g : Over) (c : After-lend-pass g)
-    → HasNumber c.lend-pass.new.self.of_blocks.items c.self.inside.block
-left g c =
-    call-left (held-call g.S.Small.SmallOf.seen c.self.inside.window c.self.view_is
-    c.self.invariant.0 c.requires.pass c.lend-pass.ensures.taken)
-
-pub keep-block-requires-clause-number : goal.keep-block-requires-clause-number
-keep-block-requires-clause-number g c =
-    left g (goal.at.keep-block-requires-clause-number g c).After-lend-pass
-
-pub keep-block-requires-clause-room : goal.keep-block-requires-clause-room
-keep-block-requires-clause-room g c begins =
-    room-to-read (parts_in g.S.Small.SmallOf.seen c.self.inside.window) c.self.inside.block
-    c.args.self c.self.view_is c.self.invariant.0 (layout_facts g.L.Layout)
-    c.in-Ok.ensures.writer c.args.passes.now.of_blocks.items
-    c.lend-pass.new.self.of_blocks.items c.lend-pass.result
-    (vec_capacity c.lend-pass.new.self.of_blocks) c.lend-pass.ensures.taken (λ new.
-    subst (λ n. length c.args.passes.now.of_blocks.items < n) (sym c.lend-pass.ensures.room)
-    (c.requires.room new))
-    (sym c.wants_block_to_read-begins.ensures ∙ begins)
 
 pub returns-in-Ok-clause-frozen : goal.returns-in-Ok-clause-frozen
 returns-in-Ok-clause-frozen g c =
@@ -47,9 +22,6 @@ returns-in-Ok-clause-frozen g c =
     c.keep-block.new.self.of_blocks.items c.wants_block_to_read-begins.result
     c.lend-pass.ensures.taken c.in-Ok.ensures.frozen c.wants_block_to_read-begins.ensures
     c.keep-block.ensures.same c.keep-block.ensures.new
-
-pub give_back-requires : goal.give_back-requires
-give_back-requires g c = left g (goal.at.give_back-requires g c).After-lend-pass
 
 pub returns-in-Err-clause-back : goal.returns-in-Err-clause-back
 returns-in-Err-clause-back g c = (

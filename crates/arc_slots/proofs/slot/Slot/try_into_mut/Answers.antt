@@ -5,15 +5,10 @@ use Rattle.arc_parts.specs.Window.{parts_of}
 use Rattle.arc_slots.specs.Slots.{SlotView, row_of, stand_of}
 use Rattle.arc_write.proofs.Moves.{writer_is_sole}
 use Rattle.arc_slots.proofs.Native.{BecomesWritten, StaysRead, read-becomes, read-stays}
-use Rattle.arc_slots.proofs.Slots.{call-left, read-call}
+use Rattle.arc_slots.proofs.Slots.{read-call}
 use Rattle.arc_slots.proofs.slot.Slot.try_into_mut.Given.{Over}
 use Rattle.arc_slots.proofs.slot.Slot.try_into_mut.Goals.{In-Err, In-Ok}
 use Rattle.arc_slots.proofs.slot.Slot.try_into_mut.Goals as goal
-
-pub give_back-requires : goal.give_back-requires
-give_back-requires g c =
-    call-left (read-call g.S.Small.SmallOf.seen c.self.inside.window c.in-Read.window c.in-Read.is
-    c.self.view_is c.self.invariant.0 c.requires.pass c.lend-pass.ensures.taken)
 
 did : (g : Over) (c : In-Ok g)
     → BecomesWritten g.L.Writable.Layout.ANY g.S.Slice.DROPS c.self.inside.block c.args.self

@@ -4,30 +4,13 @@ use Rattle.std.proofs.Common.{Bool, Some, true, false, ap, ◌∙◌}
 use Rattle.arc_slots.specs.Several.{AsksAt}
 use Rattle.arc_slots.specs.Slots.{row_of, stand_of}
 use Rattle.arc_slots.specs.declared.window.Held.TheVariants.{Several}
-use Rattle.arc_slots.proofs.FilledBeside.{beside-asked, beside-left}
-use Rattle.arc_slots.proofs.FilledBeside.{beside-pass, beside-seen}
+use Rattle.arc_slots.proofs.FilledBeside.{beside-asked}
+use Rattle.arc_slots.proofs.FilledBeside.{beside-seen}
 use Rattle.arc_slots.proofs.Shared.{unique-row}
 use Rattle.arc_slots.proofs.Slots.{fits-as}
 use Rattle.arc_slots.proofs.slot.Slot.try_into_unique.Given.{Over}
 use Rattle.arc_slots.proofs.slot.Slot.try_into_unique.Goals.{After-give_back}
 use Rattle.arc_slots.proofs.slot.Slot.try_into_unique.Goals as goal
-
-pub try_into_unique_as-made-requires : goal.try_into_unique_as-made-requires
-try_into_unique_as-made-requires g c =
-    record {
-      pass =
-          beside-pass g.S.Small.SmallOf.seen c.self.inside.window c.in-Several.window
-          c.self.inside.block c.in-Several.is c.args.self c.self.view_is g.S.TableKind.SHARES
-          c.self.invariant c.args.passes.now.of_blocks.items c.requires.pass
-          c.lend-pass.new.self.of_blocks.items c.lend-pass.result c.lend-pass.ensures.taken;
-    }
-
-pub give_back-requires : goal.give_back-requires
-give_back-requires g c =
-    beside-left g.S.Small.SmallOf.seen c.self.inside.window c.in-Several.window
-    c.self.inside.block c.in-Several.is c.args.self c.self.view_is g.S.TableKind.SHARES
-    c.self.invariant c.args.passes.now.of_blocks.items c.requires.pass
-    c.lend-pass.new.self.of_blocks.items c.lend-pass.result c.lend-pass.ensures.taken
 
 pub returns-in-Ok-clause-row : goal.returns-in-Ok-clause-row
 returns-in-Ok-clause-row g c =

@@ -2,17 +2,10 @@
 -- lent for it, it adds to the passes.
 use Rattle.std.proofs.Common.{false, refl}
 use Rattle.std.specs.Mem.{type_size}
-use Rattle.arc_slots.proofs.FilledBeside.{SlotReclaimsBeside, beside-left, slot-reclaims-beside}
+use Rattle.arc_slots.proofs.FilledBeside.{SlotReclaimsBeside, slot-reclaims-beside}
 use Rattle.arc_slots.proofs.slot.Slot.try_reclaim_beside.Given.{Over}
 use Rattle.arc_slots.proofs.slot.Slot.try_reclaim_beside.Goals.{After-give_back}
 use Rattle.arc_slots.proofs.slot.Slot.try_reclaim_beside.Goals as goal
-
-pub give_back-requires : goal.give_back-requires
-give_back-requires g c =
-    beside-left g.S.Small.SmallOf.seen c.self.inside.window c.in-Several.window
-    c.self.inside.block c.in-Several.is c.args.self.now c.self.view_is g.S.TableKind.SHARES
-    c.self.invariant c.args.passes.now.of_blocks.items c.requires.pass
-    c.lend-pass.new.self.of_blocks.items c.lend-pass.result c.lend-pass.ensures.taken
 
 did : (g : Over) (c : After-give_back g)
     → SlotReclaimsBeside g.S.TableKind.SHARES false (type_size g.row.S-Item) c.args.additional

@@ -1,13 +1,8 @@
 -- Of the two parts one has the owner, and what the other adds to the pass that was lent for it, it
 -- adds to the passes.
-use Rattle.arc_slots.proofs.Slots.{call-left, read-call}
+use Rattle.arc_slots.proofs.Slots.{read-call}
 use Rattle.arc_slots.proofs.Splits.{to-end, to-earlier}
 use Rattle.arc_slots.proofs.slot.Slot.try_split_to.Goals as goal
-
-pub give_back-requires : goal.give_back-requires
-give_back-requires g c =
-    call-left (read-call g.S.Small.SmallOf.seen c.self.inside.window c.in-Read.back c.in-Read.is
-    c.self.view_is c.self.invariant.0 c.requires.pass c.lend-pass.ensures.taken)
 
 pub returns-then-len-at-clause-end : goal.returns-then-len-at-clause-end
 returns-then-len-at-clause-end g c =

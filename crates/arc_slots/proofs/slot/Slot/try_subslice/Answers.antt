@@ -3,11 +3,11 @@ use Rattle.std.proofs.Common.{◌≡◌, ◌==◌, ◌&&◌, if◌then◌else◌
 use Rattle.arc_buffer.specs.Slice.{sub}
 use Rattle.arc_buffer.proofs.Sub.{length-sub}
 use Rattle.arc_commands.specs.Changes.{part_of}
-use Rattle.arc_slots.specs.Slots.{SlotView, as_held, role_in, row_of, window_in}
-use Rattle.arc_slots.proofs.Cuts.{MadeBeside, sub-fits, sub-made, sub-refused}
-use Rattle.arc_slots.proofs.Slots.{call-left, held-call}
+use Rattle.arc_slots.specs.Slots.{SlotView, as_held, held, role_in, row_of, window_in}
+use Rattle.arc_slots.proofs.Cuts.{MadeBeside, holds-made, sub-fits, sub-made, sub-refused}
+use Rattle.arc_slots.proofs.Slots.{held-call}
 use Rattle.arc_slots.proofs.slot.Slot.try_subslice.Given.{Over}
-use Rattle.arc_slots.proofs.slot.Slot.try_subslice.Goals.{After-part_block, After-read_only}
+use Rattle.arc_slots.proofs.slot.Slot.try_subslice.Goals.{After-part_block}
 use Rattle.arc_slots.proofs.slot.Slot.try_subslice.Goals as goal
 
 -- the block of the part
@@ -24,18 +24,15 @@ part-block g c =
     c.part_block.ensures
     ∙ ap (λ n. if g.L.Layout.STATIC && (n == 0) then None else c.self.inside.block) (sym long)
 
-pub give_back-requires : goal.give_back-requires
-give_back-requires g c =
-    call-left (held-call g.S.Small.SmallOf.seen c.self.inside.window c.self.view_is
-    c.self.invariant.0 c.requires.pass c.lend-pass.ensures.taken)
-
-pub read_only-requires : goal.read_only-requires
-read_only-requires g c =
-    sub-fits (held-call g.S.Small.SmallOf.seen c.self.inside.window c.self.view_is
-    c.self.invariant.0 c.requires.pass c.lend-pass.ensures.taken) c.cut_window-made.new.pass
-    g.L.Layout.STATIC c.args.start c.args.end
-    (window_in g.S.Small.SmallOf.seen (as_held c.in-Ok.window)) c.in-Ok.ensures.place
-    c.part_block.result (part-block g (goal.at.read_only-requires g c).After-part_block)
+pub invariant_of-result : goal.invariant_of-result
+invariant_of-result g c =
+    let small = g.S.Small.SmallOf.seen in
+    holds-made small g.S.TableKind.SHARES c.in-Ok.window c.part_block.result c.hold_window.result
+    c.hold_window.ensures
+    (sub-fits (held-call small c.self.inside.window c.self.view_is c.self.invariant.0
+    c.requires.pass c.lend-pass.ensures.taken) c.cut_window-made.new.pass g.L.Layout.STATIC
+    c.args.start c.args.end (window_in small (as_held c.in-Ok.window)) c.in-Ok.ensures.place
+    c.part_block.result (part-block g (goal.at.invariant_of-result g c).After-part_block))
 
 pub returns-in-Err-clause-refused : goal.returns-in-Err-clause-refused
 returns-in-Err-clause-refused g c =
@@ -44,24 +41,24 @@ returns-in-Err-clause-refused g c =
     g.L.Layout.STATIC c.args.start c.args.end g.L.Layout.clone_wants c.in-Err.e
     c.in-Err.ensures.refused c.give_back.new.self.of_blocks.items c.give_back.ensures
 
-made : (g : Over) (c : After-read_only g)
-    → MadeBeside c.args.self.now c.read_only.result
-    (part_of g.L.Layout.STATIC (row_of c.args.self.now) c.args.start c.args.end)
-    c.args.passes.now.of_blocks.items c.give_back.new.self.of_blocks.items
+made : (g : Over) (c : After-part_block g)
+    → MadeBeside c.args.self.now (held g.S.Small.SmallOf.seen c.hold_window.result
+    c.part_block.result) (part_of g.L.Layout.STATIC (row_of c.args.self.now) c.args.start
+    c.args.end) c.args.passes.now.of_blocks.items c.give_back.new.self.of_blocks.items
 made g c =
-    sub-made (held-call g.S.Small.SmallOf.seen c.self.inside.window c.self.view_is
-    c.self.invariant.0 c.requires.pass c.lend-pass.ensures.taken) c.cut_window-made.new.pass
-    g.L.Layout.STATIC c.args.start c.args.end
-    (window_in g.S.Small.SmallOf.seen (as_held c.in-Ok.window)) c.in-Ok.ensures.place
-    c.part_block.result (part-block g (goal.at.returns-in-Ok-clause-row g c).After-part_block)
-    (role_in (as_held c.in-Ok.window)) c.read_only.result c.read_only.ensures
-    c.in-Ok.ensures.items c.in-Ok.ensures.role c.give_back.new.self.of_blocks.items
-    c.give_back.ensures
+    let small = g.S.Small.SmallOf.seen in
+    sub-made (held-call small c.self.inside.window c.self.view_is c.self.invariant.0
+    c.requires.pass c.lend-pass.ensures.taken) c.cut_window-made.new.pass g.L.Layout.STATIC
+    c.args.start c.args.end (window_in small (as_held c.in-Ok.window)) c.in-Ok.ensures.place
+    c.part_block.result (part-block g c) (role_in (as_held c.in-Ok.window))
+    (held small c.hold_window.result c.part_block.result)
+    (ap (λ h. held small h c.part_block.result) c.hold_window.ensures) c.in-Ok.ensures.items
+    c.in-Ok.ensures.role c.give_back.new.self.of_blocks.items c.give_back.ensures
 
 pub returns-in-Ok-clause-stand : goal.returns-in-Ok-clause-stand
 returns-in-Ok-clause-stand g c =
-    (made g (goal.at.returns-in-Ok-clause-stand g c).After-read_only).stand
+    (made g (goal.at.returns-in-Ok-clause-stand g c).After-part_block).stand
 
 pub returns-in-Ok-clause-row : goal.returns-in-Ok-clause-row
 returns-in-Ok-clause-row g c =
-    (made g (goal.at.returns-in-Ok-clause-row g c).After-read_only).row_is
+    (made g (goal.at.returns-in-Ok-clause-row g c).After-part_block).row_is

@@ -1,6 +1,6 @@
 -- What is taken out by the pass that was lent for it is taken out of the table.
 use Rattle.arc_block.specs.Table.{reader}
-use Rattle.arc_slots.proofs.Takes.{TakenApart, apart-reader, parts-number, parts-pass}
+use Rattle.arc_slots.proofs.Takes.{TakenApart, apart-reader, parts-pass}
 use Rattle.arc_slots.proofs.Takes.{slot-refuses, slot-takes}
 use Rattle.arc_slots.proofs.slot.Slot.try_take.Given.{Over}
 use Rattle.arc_slots.proofs.slot.Slot.try_take.Goals.{After-into_parts}
@@ -18,10 +18,6 @@ pub try_into_reply-taken-requires-clause-pass : goal.try_into_reply-taken-requir
 try_into_reply-taken-requires-clause-pass g c =
     parts-pass
     (apart g (goal.at.try_into_reply-taken-requires-clause-pass g c).After-into_parts)
-
-pub give_back-requires : goal.give_back-requires
-give_back-requires g c =
-    parts-number (apart g (goal.at.give_back-requires g c).After-into_parts)
 
 pub returns-in-Ok-clause-taken : goal.returns-in-Ok-clause-taken
 returns-in-Ok-clause-taken g c =

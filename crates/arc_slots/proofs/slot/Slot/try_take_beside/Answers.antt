@@ -3,7 +3,7 @@ use Rattle.arc_slots.specs.declared.take.Taking.TheVariants.{Vector}
 use Rattle.arc_slots.specs.declared.window.Held.TheVariants.{Several}
 use Rattle.arc_slots.proofs.FilledBeside.{beside-seen}
 use Rattle.arc_slots.proofs.Slots.{fits-as}
-use Rattle.arc_slots.proofs.Takes.{TakenApart, apart-writer, parts-number, parts-pass}
+use Rattle.arc_slots.proofs.Takes.{TakenApart, apart-writer}
 use Rattle.arc_slots.proofs.Takes.{slot-refuses, slot-takes}
 use Rattle.arc_slots.proofs.slot.Slot.try_take_beside.Given.{Over}
 use Rattle.arc_slots.proofs.slot.Slot.try_take_beside.Goals.{After-into_shared_parts}
@@ -22,15 +22,6 @@ apart g c =
     (beside-seen small h w b c.in-Several.is c.args.self c.self.view_is g.S.TableKind.SHARES
     c.self.invariant) (fits-as h (Several w) c.in-Several.is small b c.self.invariant.0)
     c.into_shared_parts.ensures.parts c.requires.pass c.lend-pass.ensures.taken
-
-pub try_into_vec_as-taken-requires : goal.try_into_vec_as-taken-requires
-try_into_vec_as-taken-requires g c =
-    let a = (goal.at.try_into_vec_as-taken-requires g c).After-into_shared_parts in
-    record { pass = parts-pass (apart g a) }
-
-pub give_back-requires : goal.give_back-requires
-give_back-requires g c =
-    parts-number (apart g (goal.at.give_back-requires g c).After-into_shared_parts)
 
 pub returns-in-Ok-clause-taken : goal.returns-in-Ok-clause-taken
 returns-in-Ok-clause-taken g c =

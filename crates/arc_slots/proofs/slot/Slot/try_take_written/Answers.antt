@@ -4,7 +4,7 @@ use Rattle.arc_parts.specs.Window.{PartsView}
 use Rattle.arc_slots.specs.Slots.{writer_slot}
 use Rattle.arc_slots.specs.declared.window.Held.TheVariants.{Write}
 use Rattle.arc_slots.proofs.Slots.{fits-as, held-as}
-use Rattle.arc_slots.proofs.Takes.{TakenApart, apart-writer, parts-number, parts-pass, sole-back}
+use Rattle.arc_slots.proofs.Takes.{TakenApart, apart-writer, parts-pass, sole-back}
 use Rattle.arc_slots.proofs.Takes.{sole-leaves, sole-unwanted, sole-wanted}
 use Rattle.arc_slots.proofs.slot.Slot.try_take_written.Given.{Over}
 use Rattle.arc_slots.proofs.slot.Slot.try_take_written.Goals.{After-into_parts}
@@ -27,10 +27,6 @@ pub try_sole_into_reply-taken-requires-clause-pass :
 try_sole_into_reply-taken-requires-clause-pass g c =
     parts-pass
     (apart g (goal.at.try_sole_into_reply-taken-requires-clause-pass g c).After-into_parts)
-
-pub give_back-requires : goal.give_back-requires
-give_back-requires g c =
-    parts-number (apart g (goal.at.give_back-requires g c).After-into_parts)
 
 pub returns-in-Ok-clause-taken : goal.returns-in-Ok-clause-taken
 returns-in-Ok-clause-taken g c =

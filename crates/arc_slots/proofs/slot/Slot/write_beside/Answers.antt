@@ -3,30 +3,13 @@ use Rattle.std.proofs.Common.{◌<◌, length, Ok, Err, sym, ◌∙◌, subst}
 use Rattle.std.specs.Mem.{type_size}
 use Rattle.std.specs.Vec.{vec_capacity}
 use Rattle.arc_slots.specs.Slots.{row_of}
-use Rattle.arc_slots.specs.Stands.{HasNumber}
 use Rattle.arc_slots.specs.Writing.{additional_of, items_of, seen_writing}
 use Rattle.arc_slots.proofs.Filled.{fresh-by}
-use Rattle.arc_slots.proofs.FilledBeside.{SlotFillsBeside, beside-left, beside-room}
+use Rattle.arc_slots.proofs.FilledBeside.{SlotFillsBeside, beside-room}
 use Rattle.arc_slots.proofs.FilledBeside.{slot-fills-beside, slot-unfills-beside}
 use Rattle.arc_slots.proofs.slot.Slot.write_beside.Given.{Over}
 use Rattle.arc_slots.proofs.slot.Slot.write_beside.Goals.{After-give_back, After-keep-self-inside}
-use Rattle.arc_slots.proofs.slot.Slot.write_beside.Goals.{After-lend-pass}
 use Rattle.arc_slots.proofs.slot.Slot.write_beside.Goals as goal
-
-left : (g : Over) (c : After-lend-pass g)
-    → HasNumber c.lend-pass.new.self.of_blocks.items c.self.inside.block
-left g c =
-    beside-left g.S.Small.SmallOf.seen c.self.inside.window c.in-Several.window
-    c.self.inside.block c.in-Several.is c.args.self.now c.self.view_is g.S.TableKind.SHARES
-    c.self.invariant c.args.passes.now.of_blocks.items c.requires.pass
-    c.lend-pass.new.self.of_blocks.items c.lend-pass.result c.lend-pass.ensures.taken
-
-pub keep-self-inside-requires-clause-number : goal.keep-self-inside-requires-clause-number
-keep-self-inside-requires-clause-number g c =
-    left g (goal.at.keep-self-inside-requires-clause-number g c).After-lend-pass
-
-pub give_back-requires : goal.give_back-requires
-give_back-requires g c = left g (goal.at.give_back-requires g c).After-lend-pass
 
 pub keep-self-inside-requires-clause-room : goal.keep-self-inside-requires-clause-room
 keep-self-inside-requires-clause-room g c begins =
