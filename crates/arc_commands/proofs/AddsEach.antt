@@ -10,15 +10,15 @@ use Rattle.arc_block.specs.Block.{Sort, native, vector, buffer, raw}
 use Rattle.arc_block.specs.Owned.{Stand}
 use Rattle.arc_block.specs.Place.{Place, nowhere, static_data, on_block}
 use Rattle.arc_block.specs.Table.{Row}
+use Rattle.arc_parts.specs.Shared.{is_on_block, is_vector_at}
 use Rattle.arc_commands.specs.Additions.{AddsNone, AsksFirst, AsksIf, AsksInVain, AsksInVainAt}
 use Rattle.arc_commands.specs.Additions.{Enters, Goes, HasMade, HasRefused, Joins, MovesAndJoins}
 use Rattle.arc_commands.specs.Additions.{RowAdds, Splits, Stays, Takes, TakesAs, asked, asks_first}
 use Rattle.arc_commands.specs.Additions.{ended, refused}
 use Rattle.arc_commands.specs.Blocks.{is_several, is_sole}
-use Rattle.arc_commands.specs.Changes.{Setting, is_box_whole, is_buffer_whole, is_on_block}
-use Rattle.arc_commands.specs.Changes.{is_raw_whole, is_vector_part, is_writable_at}
+use Rattle.arc_commands.specs.Changes.{Setting, is_box_whole, is_buffer_whole, is_raw_whole}
+use Rattle.arc_commands.specs.Changes.{is_vector_part, is_writable_at}
 use Rattle.arc_commands.specs.Commands.{ListCmd, ListReply}
-use Rattle.arc_commands.specs.Several.{is_vector_at}
 use Rattle.arc_commands.specs.declared.command.Cmd.TheVariants as command
 use Rattle.arc_commands.specs.declared.command.Reply.TheVariants as reply
 

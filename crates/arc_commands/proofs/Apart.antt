@@ -331,7 +331,6 @@ module _ {T M : Type 0} where
         apart i j block one.row other.row (there (slice_get t.rows i) one.row one.alive)
         (there (slice_get t.rows j) other.row other.alive) differ writes one.stands other.stands;
     within = λ i row at. ends-fit drops row (fit i row at);
-    alone = λ i j block one sole other. agree.alone i j block one sole other;
   }
 
   rows-apart : (t : Table T M) → WritersApart t → Apart t.rows

@@ -20,7 +20,7 @@ use Rattle.arc_block.specs.declared.layout.Move.{Move}
 use Rattle.arc_block.specs.declared.layout.Move.TheVariants as to
 use Rattle.arc_block.specs.Place.{Place, nowhere, static_data, on_block, metadata_at}
 use Rattle.arc_parts.specs.Shared.{as_shared, as_unique, asks_alone, extended, front_of, on_native}
-use Rattle.arc_parts.specs.Shared.{split_answer}
+use Rattle.arc_parts.specs.Shared.{is_on_block, is_vector_at, split_answer}
 use Rattle.arc_block.specs.Table.{Row, Role, block_of}
 use Rattle.arc_block.specs.Table.{reader, sole_writer, one_writer_of_several, inline, forgotten}
 use Rattle.arc_parts.specs.Writers.{with_capacity, capacity_of, as_sole, after_advance}
@@ -31,7 +31,7 @@ use Rattle.arc_parts.specs.declared.room.Room.TheVariants as from
 use Rattle.arc_commands.specs.Blocks.{is_several, is_sole, is_writer}
 use Rattle.arc_commands.specs.Changes.{Setting, Shortage, no_shortage, of_table, of_clones}
 use Rattle.arc_commands.specs.Changes.{of_blocks}
-use Rattle.arc_commands.specs.Changes.{of_buffer, of_growth, is_unique_at, is_on_block, is_free}
+use Rattle.arc_commands.specs.Changes.{of_buffer, of_growth, is_unique_at, is_free}
 use Rattle.arc_commands.specs.Changes.{taken_as, after_move, room_made, asking_block, filled}
 use Rattle.arc_commands.specs.Changes.{reclaimed, begun, room_of, Around, Change, is_now, with_made}
 use Rattle.arc_commands.specs.Changes.{gone, parted, split, may_write, truncated, asking}
@@ -40,7 +40,7 @@ use Rattle.arc_commands.specs.Changes.{with_owner, part_of, cut_row, off_part, t
 use Rattle.arc_commands.specs.Commands.{ListCmd, ListReply}
 use Rattle.arc_commands.specs.Fits.{RowFits}
 use Rattle.arc_commands.specs.Several.{can_share, filled_alone, filled_shared, is_beside}
-use Rattle.arc_commands.specs.Several.{is_vector_at, moved_parts, parts_change}
+use Rattle.arc_commands.specs.Several.{moved_parts, parts_change}
 use Rattle.arc_commands.specs.Several.{reclaimed_shared, shared_change, split_off_change}
 use Rattle.arc_commands.specs.Several.{split_to_change, unique_change}
 use Rattle.arc_commands.specs.Step.{answer_any, answer_row, has_call, is_allowed, is_for, shortage}

@@ -18,12 +18,11 @@ use Rattle.arc_block.specs.declared.block.TheConstants.{MAX_OWNERS}
 use Rattle.arc_block.specs.Block.{Sort, native, vector, buffer, raw}
 use Rattle.arc_block.specs.Owned.{Stand}
 use Rattle.arc_block.specs.Place.{Place, nowhere, static_data, on_block}
-use Rattle.arc_parts.specs.Shared.{asks_alone}
+use Rattle.arc_parts.specs.Shared.{asks_alone, is_on_block, is_vector_at}
 use Rattle.arc_block.specs.Table.{Row, Table, row_at}
 use Rattle.arc_commands.specs.Blocks.{is_several, is_sole}
-use Rattle.arc_commands.specs.Changes.{Setting, is_box_whole, is_buffer_whole, is_on_block}
-use Rattle.arc_commands.specs.Changes.{is_raw_whole, is_vector_part, is_writable_at}
-use Rattle.arc_commands.specs.Several.{is_vector_at}
+use Rattle.arc_commands.specs.Changes.{Setting, is_box_whole, is_buffer_whole, is_raw_whole}
+use Rattle.arc_commands.specs.Changes.{is_vector_part, is_writable_at}
 use Rattle.arc_commands.specs.Step.{other_of, window_of}
 use Rattle.arc_commands.specs.Commands.{ListCmd, ListReply}
 use Rattle.arc_commands.specs.declared.command.Cmd.TheVariants.{Clone, Sub, Off, To, Uniq}

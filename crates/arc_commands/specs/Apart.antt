@@ -3,7 +3,7 @@ use Rattle.std.specs.Prelude.{◌≡◌, ℕ, ◌+◌, ◌≤◌, ◌<◌, ◌�
 use Rattle.arc_block.specs.Place.{Place, nowhere, static_data, on_block}
 use Rattle.arc_block.specs.Table.{Row, Table, Role, StandsOn, row_at}
 use Rattle.arc_block.specs.Table.{reader, sole_writer, one_writer_of_several, inline, forgotten}
-use Rattle.arc_commands.specs.Blocks.{RowsAgree, is_sole, is_writer}
+use Rattle.arc_commands.specs.Blocks.{RowsAgree, is_writer}
 use Rattle.arc_commands.specs.Fits.{RowsFit}
 
 -- how many places a window of this role with so many items has: a writer those that he may write,
@@ -46,15 +46,13 @@ module _ {T M : Type 0} where
   abbrev pub EndsWithin : Row T M → Type 0
   EndsWithin row = EndsWithinAt row.place (role_places row.role (length row.items))
 
-  -- Of two rows on one block, of which one is a writer's, no place is both's; each row ends within
-  -- its block; and where a sole writer stands no other row does.
+  -- Of two rows on one block, of which one is a writer's, no place is both's; and each row ends
+  -- within its block.
   pub record WritersApart (t : Table T M) : Type 0 where
     pub apart : (i j block : ℕ) → ¬ (i ≡ j) → (one : StandsOn t i block)
         → is_writer one.row.role ≡ true → (other : StandsOn t j block)
         → ShareNone one.row other.row
     pub within : (i : ℕ) (row : Row T M) → row_at t i ≡ Some row → EndsWithin row
-    pub alone : (i j block : ℕ) (one : StandsOn t i block) → is_sole one.row.role ≡ true
-        → StandsOn t j block → j ≡ i
 
   -- what holds of the rows of each table of a run
   pub record IsLawful (drops : Bool) (t : Table T M) : Type 0 where

@@ -21,6 +21,7 @@ use Rattle.arc_block.specs.Place.{Place, nowhere, static_data, on_block, made_pl
 use Rattle.arc_block.specs.Place.{moved}
 use Rattle.arc_block.specs.Table.{Row, RowOf, Table, block_of, owners}
 use Rattle.arc_block.specs.Table.{reader, sole_writer, inline}
+use Rattle.arc_parts.specs.Shared.{is_vector}
 use Rattle.arc_parts.specs.Writers.{with_capacity, as_reader, new_writer, room_for}
 use Rattle.arc_block.specs.Place.{offset_at}
 use Rattle.arc_parts.specs.Writers.{with_more, with_room}
@@ -244,12 +245,6 @@ may_write_sort has_any vector = has_any
 may_write_sort has_any (buffer writable) = writable && has_any
 may_write_sort has_any raw = false
 
--- whether a place lies on a block
-abbrev pub is_on_block : {N M : Type 0} → Place N M → Bool
-is_on_block nowhere = false
-is_on_block static_data = false
-is_on_block (on_block block offset info) = true
-
 -- whether a place lies on such a block
 abbrev pub is_writable_at : {N M : Type 0} → (has_any : Bool) → Place N M → Bool
 is_writable_at has_any nowhere = false
@@ -283,13 +278,6 @@ abbrev pub is_unique_at : {N M : Type 0} → Shortage → (alone : Bool) → Pla
 is_unique_at short alone nowhere = false
 is_unique_at short alone static_data = false
 is_unique_at short alone (on_block block offset info) = is_unique short alone info.sort
-
--- whether a block is of this sort
-abbrev pub is_vector : Sort → Bool
-is_vector native = false
-is_vector vector = true
-is_vector (buffer writable) = false
-is_vector raw = false
 
 -- whether so many items from there on are all of the block's full places
 abbrev pub is_all_full : {M : Type 0} → (offset len : ℕ) → BlockInfo M → Bool

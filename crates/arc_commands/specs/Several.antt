@@ -11,12 +11,12 @@ use Rattle.arc_parts.specs.declared.room.Room.TheVariants as from
 use Rattle.arc_block.specs.Block.{Sort, native, vector, buffer, raw}
 use Rattle.arc_block.specs.Place.{Place, nowhere, static_data, on_block}
 use Rattle.arc_parts.specs.Shared.{as_shared, as_unique, asks_alone, can_join, extended, front_of}
-use Rattle.arc_parts.specs.Shared.{joined_row, on_native, split_answer}
+use Rattle.arc_parts.specs.Shared.{is_vector_at, joined_row, on_native, split_answer}
 use Rattle.arc_block.specs.Table.{Row, block_of}
 use Rattle.arc_parts.specs.Writers.{after_advance, capacity_of, new_writer, with_room}
 use Rattle.arc_commands.specs.Changes.{Around, Change, Setting, Shortage, asking, asking_block}
-use Rattle.arc_commands.specs.Changes.{begun, in_range, is_now, is_vector, of_clones, reclaimed}
-use Rattle.arc_commands.specs.Changes.{room_of, with_made}
+use Rattle.arc_commands.specs.Changes.{begun, in_range, is_now, of_clones, reclaimed, room_of}
+use Rattle.arc_commands.specs.Changes.{with_made}
 use Rattle.arc_commands.specs.Commands.{ListReply}
 use Rattle.arc_commands.specs.declared.command.Reply.TheVariants as reply
 
@@ -40,12 +40,6 @@ module _ {N M : Type 0} where
   can_share drops static_data = false
   can_share drops (on_block None offset info) = false
   can_share drops (on_block (Some block) offset info) = not drops && is_memory info.sort
-
-  -- whether a place lies on a vector
-  abbrev pub is_vector_at : Place N M → Bool
-  is_vector_at nowhere = false
-  is_vector_at static_data = false
-  is_vector_at (on_block block offset info) = is_vector info.sort
 
 module _ {T M : Type 0} where
   -- ---- roles

@@ -11,11 +11,12 @@ use Rattle.arc_block.specs.Place.{metadata_at}
 use Rattle.arc_block.specs.Table.{Row, Table, row_at, block_of, is_alone}
 use Rattle.arc_block.specs.Table.{Role, reader, sole_writer, one_writer_of_several, inline}
 use Rattle.arc_block.specs.Table.{forgotten}
+use Rattle.arc_parts.specs.Shared.{is_on_block}
 use Rattle.arc_parts.specs.Writers.{capacity_of, as_sole, after_advance}
 use Rattle.arc_commands.specs.Blocks.{is_several}
 use Rattle.arc_commands.specs.Changes.{Around, Calls, Change, Setting, Shortage, asking}
 use Rattle.arc_commands.specs.Changes.{buffer_row, cut_row, filled, frozen, gone, in_range}
-use Rattle.arc_commands.specs.Changes.{is_box_whole, is_buffer_whole, is_full, is_now, is_on_block}
+use Rattle.arc_commands.specs.Changes.{is_box_whole, is_buffer_whole, is_full, is_now}
 use Rattle.arc_commands.specs.Changes.{is_raw_whole, is_unique_at, is_vector_part, made_row}
 use Rattle.arc_commands.specs.Changes.{may_write, no_shortage, of_blocks, of_buffer, of_clones}
 use Rattle.arc_commands.specs.Changes.{of_growth, of_table, off_part, part_of, parted, raw_row}
