@@ -25,7 +25,7 @@ use Rattle.arc_commands.specs.Changes.{Around, Change, begun}
 use Rattle.arc_commands.specs.Step.{answer_any, answer_row}
 use Rattle.arc_commands.specs.Changes.{filled, is_now}
 use Rattle.arc_commands.specs.Step.{is_allowed}
-use Rattle.arc_commands.specs.Changes.{is_on_block}
+use Rattle.arc_parts.specs.Shared.{is_on_block}
 use Rattle.arc_commands.specs.Changes.{room_of}
 use Rattle.arc_commands.specs.Step.{shortage}
 use Rattle.arc_commands.specs.Changes.{gone}

@@ -12,7 +12,7 @@ use Rattle.arc_owners.specs.count.Calls.{Owner, Asks, Leaves, TakesBlock}
 use Rattle.arc_block.specs.Block.{Sort, BlockInfo, native, vector, buffer, raw}
 use Rattle.arc_block.specs.Owned.{Stand}
 use Rattle.arc_block.specs.Place.{Place, nowhere, static_data, on_block}
-use Rattle.arc_parts.specs.Shared.{as_unique}
+use Rattle.arc_parts.specs.Shared.{as_unique, is_on_block}
 use Rattle.arc_block.specs.Table.{reader, sole_writer}
 use Rattle.arc_parts.specs.Writers.{as_sole}
 use Rattle.arc_commands.specs.Additions.{RowAdds, AddsAt, Enters}
@@ -24,7 +24,7 @@ use Rattle.arc_commands.specs.Changes.{Change}
 use Rattle.arc_commands.specs.Step.{answer_any}
 use Rattle.arc_commands.specs.Changes.{is_now}
 use Rattle.arc_commands.specs.Step.{is_allowed}
-use Rattle.arc_commands.specs.Changes.{is_free, is_on_block, is_unique}
+use Rattle.arc_commands.specs.Changes.{is_free, is_unique}
 use Rattle.arc_commands.specs.Changes.{is_unique_at, is_writable_at, may_write}
 use Rattle.arc_commands.specs.Changes.{may_write_at, may_write_sort, of_buffer, taken_as}
 use Rattle.arc_commands.specs.Step.{shortage}

@@ -17,7 +17,7 @@ use Rattle.arc_commands.specs.Blocks.{is_several}
 use Rattle.arc_commands.specs.Changes.{Change, Setting, Shortage, in_range}
 use Rattle.arc_commands.specs.Changes.{no_shortage, of_clones, of_table, with_made}
 use Rattle.arc_commands.specs.Commands.{ListCmd, ListReply}
-use Rattle.arc_commands.specs.Several.{is_vector_at as on_vector, parts_change}
+use Rattle.arc_commands.specs.Several.{parts_change}
 use Rattle.arc_commands.specs.Step.{answer_any, is_allowed, with_block}
 use Rattle.arc_commands.specs.declared.command.Cmd.TheVariants as command
 use Rattle.arc_commands.specs.declared.command.Reply.TheVariants as reply
@@ -34,7 +34,7 @@ use Rattle.arc_slots.specs.declared.part.Part.TheVariants.{Back, Front}
 use Rattle.arc_slots.proofs.Added.{Ended, ended-comes, enters-along, nothing-comes, raises-beside}
 use Rattle.arc_slots.proofs.Added.{refuses-at}
 use Rattle.arc_slots.proofs.Answered.{for-role, same}
-use Rattle.arc_slots.proofs.Parted.{handed-block, vector-both}
+use Rattle.arc_slots.proofs.Parted.{handed-block}
 use Rattle.arc_slots.proofs.Told.{full-at, full-beside, many-beside, many-founded, many-refused}
 use Rattle.arc_slots.proofs.Told.{many_along, room-beside, row-block, stand_block}
 use Rattle.arc_slots.proofs.Before.{before_of}
@@ -85,7 +85,7 @@ module _ {T M : Type 0} (setting : Setting T) (windows : ℕ) (s : SlotView T M)
   -- what is added by one
   made-adds : (part : Part) (there made : Stand) (passes' : List (Pass Whole))
       → ((out : Bool) → Splits here there (Some made) passes passes' (is_several row.role)
-      (on_vector row.place) out)
+      (is_vector_at row.place) out)
       → RowHas there (Some made) passes' (part_command i part) (reply.New windows)
   made-adds (Back at) there made passes' splits = splits (at == 0)
   made-adds (Front at) there made passes' splits = splits (at == length row.items)
@@ -137,7 +137,7 @@ module _ {T M : Type 0} (setting : Setting T) (windows : ℕ) (s : SlotView T M)
         split-memory on passes' along = record {
           begins = false;
           places = 0;
-          change = split-ok of_clones ∙ picked _ (vector-both row.place ∙ on);
+          change = split-ok of_clones ∙ picked _ on;
           blocks = many_along passes passes' here AddsNothing along;
           adds =
               refused-adds part AllocError passes' (
@@ -156,7 +156,7 @@ module _ {T M : Type 0} (setting : Setting T) (windows : ℕ) (s : SlotView T M)
             begins = false;
             places = 0;
             change =
-                split-ok no_shortage ∙ unpicked _ (vector-both row.place ∙ off)
+                split-ok no_shortage ∙ unpicked _ off
                 ∙ picked _ (full-beside passes passes' windows row.place here has why);
             blocks = many-refused passes passes' (λ sort. false) row.place here CountFull why;
             adds =
@@ -205,7 +205,7 @@ module _ {T M : Type 0} (setting : Setting T) (windows : ℕ) (s : SlotView T M)
                   begins = false;
                   places = 0;
                   change =
-                      split-ok no_shortage ∙ unpicked _ (vector-both row.place ∙ off)
+                      split-ok no_shortage ∙ unpicked _ off
                       ∙ unpicked _ room
                       ∙ ap (λ x. with_made around x (handed_places part row)) (sym h.stays)
                       ∙ ap (with_made around (row_of kept)) (sym h.made);
@@ -213,9 +213,9 @@ module _ {T M : Type 0} (setting : Setting T) (windows : ℕ) (s : SlotView T M)
                   adds =
                       made-adds part there other passes' (λ out.
                       subst (λ b. Splits here there (Some other) passes passes' b
-                      (on_vector row.place) out) (sym several)
+                      (is_vector_at row.place) out) (sym several)
                       (subst (λ b. Splits here there (Some other) passes passes' true b out)
-                      (sym (vector-both row.place ∙ off)) joins));
+                      (sym off) joins));
                 }
 
             -- it moved from a vector first
@@ -253,7 +253,7 @@ module _ {T M : Type 0} (setting : Setting T) (windows : ℕ) (s : SlotView T M)
                   begins = true;
                   places = 0;
                   change =
-                      split-ok no_shortage ∙ picked _ (vector-both row.place ∙ on)
+                      split-ok no_shortage ∙ picked _ on
                       ∙ ap (λ d. let r = on_native d (Some (length passes)) row in
                       change (kept_places part r) (handed_places part r)) none
                       ∙ ap (λ r. change (kept_places part r) (handed_places part r)) (sym m.row)
@@ -270,9 +270,9 @@ module _ {T M : Type 0} (setting : Setting T) (windows : ℕ) (s : SlotView T M)
                   adds =
                       made-adds part there other passes' (λ out.
                       subst (λ b. Splits here there (Some other) passes passes' b
-                      (on_vector row.place) out) (sym several)
+                      (is_vector_at row.place) out) (sym several)
                       (subst (λ b. Splits here there (Some other) passes passes' true b out)
-                      (sym (vector-both row.place ∙ on))
+                      (sym on)
                       (subst (λ st. MovesAndJoins here st (Some other) passes passes')
                       (sym m.splits.stand) moves)));
                 }

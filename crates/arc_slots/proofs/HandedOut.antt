@@ -12,13 +12,14 @@ use Rattle.arc_buffer.specs.Slice.{edge_answer, range_answer}
 use Rattle.arc_block.specs.Owned.{Stand}
 use Rattle.arc_block.specs.Table.{Row, Role, reader, sole_writer, one_writer_of_several, inline}
 use Rattle.arc_block.specs.Table.{forgotten, block_of}
+use Rattle.arc_parts.specs.Shared.{is_vector_at}
 use Rattle.arc_commands.specs.Additions.{Enters, Joins, RowAdds, Splits, refused}
 use Rattle.arc_commands.specs.Changes.{Change, Setting, Shortage, in_range, is_now}
 use Rattle.arc_commands.specs.Changes.{no_shortage, of_table, part_of, parted, split}
 use Rattle.arc_commands.specs.Changes.{with_made}
 use Rattle.arc_commands.specs.Step.{answer_any, is_allowed, shortage}
 use Rattle.arc_commands.specs.Blocks.{is_reader, is_several, is_writer}
-use Rattle.arc_commands.specs.Several.{is_vector_at, split_off_change, split_to_change}
+use Rattle.arc_commands.specs.Several.{split_off_change, split_to_change}
 use Rattle.arc_commands.specs.Commands.{ListCmd}
 use Rattle.arc_commands.specs.declared.command.Cmd.TheVariants as command
 use Rattle.arc_commands.specs.declared.command.Reply.TheVariants as reply

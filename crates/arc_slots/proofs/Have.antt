@@ -9,7 +9,7 @@ use Rattle.arc_block.specs.Place.{Place, nowhere, static_data, on_block}
 use Rattle.arc_parts.specs.Window.{IsBufferWhole, IsRawWhole}
 use Rattle.arc_commands.specs.Changes.{is_all_full, is_buffer, is_buffer_whole, is_raw}
 use Rattle.arc_commands.specs.Changes.{is_raw_whole}
-use Rattle.arc_commands.specs.Changes.{is_on_block}
+use Rattle.arc_parts.specs.Shared.{is_on_block}
 use Rattle.arc_slots.specs.Stands.{numbered}
 use Rattle.arc_slots.specs.Taking.{can_have, CanHave}
 use Rattle.arc_slots.specs.declared.take.Taking.{Taking}

@@ -13,7 +13,8 @@ use Rattle.arc_block.specs.Unique.{AsksUnique, AsksUniqueAt}
 use Rattle.arc_parts.specs.Window.{IsBoxWhole, IsVecPart, PartsView, Window, parts_of}
 use Rattle.arc_parts.specs.Writers.{BecomesSoleAt, RefusesSoleAt, as_sole}
 use Rattle.arc_block.specs.Layouts.{MayWrite}
-use Rattle.arc_commands.specs.Changes.{is_all_full, is_box_whole, is_on_block, is_vector}
+use Rattle.arc_parts.specs.Shared.{is_on_block, is_vector}
+use Rattle.arc_commands.specs.Changes.{is_all_full, is_box_whole}
 use Rattle.arc_commands.specs.Changes.{is_vector_part}
 use Rattle.arc_commands.specs.Changes.{is_writable_at, may_write_at, may_write_sort}
 use Rattle.arc_slots.specs.Calls.{Along, AsksPlace, AsksSort, MayAsk, RefusesOut, TakesOut}

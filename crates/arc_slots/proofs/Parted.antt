@@ -27,8 +27,6 @@ use Rattle.arc_parts.specs.Writers.{after_advance, capacity_of, with_capacity}
 use Rattle.arc_block.proofs.Lists.{get-push}
 use Rattle.arc_commands.specs.Additions.{Founds}
 use Rattle.arc_commands.specs.Blocks.{is_several}
-use Rattle.arc_commands.specs.Several.{is_vector_at as on_vector}
-use Rattle.arc_commands.specs.Changes.{is_vector as is_vector_sort}
 use Rattle.arc_commands.proofs.Roles.{several-with}
 use Rattle.arc_slots.specs.Calls.{AddsNothing, Along, Beside, FindsFullAt, Through}
 use Rattle.arc_kinds.specs.Passes.{is_any}
@@ -54,19 +52,7 @@ At M = Place (Option Owner) M
 
 -- ---- a place on a vector
 
-sort-both : (sort : Sort) → is_vector_sort sort ≡ is_vector sort
-sort-both native = refl
-sort-both vector = refl
-sort-both (buffer writable) = refl
-sort-both raw = refl
-
--- both words say the same of it
-pub vector-both : {N M : Type 0} (place : Place N M) → on_vector place ≡ is_vector_at place
-vector-both nowhere = refl
-vector-both static_data = refl
-vector-both (on_block block offset info) = sort-both info.sort
-
--- and it lies on one whatever the block goes by
+-- it lies on one whatever the block goes by
 pub vector-numbered : {M : Type 0} (b : Option ℕ) (place : At M)
     → is_vector_at (numbered b place) ≡ is_vector_at place
 vector-numbered b nowhere = refl

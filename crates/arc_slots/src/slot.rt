@@ -148,6 +148,7 @@ where
     ghost use Rattle.arc_block.specs.Place.{metadata_at, part_place};
     ghost use Rattle.std.specs.Prelude.{IfSome};
     ghost use Rattle.arc_block.specs.Table.{reader};
+    ghost use Rattle.arc_parts.specs.Shared.{is_on_block};
     ghost use Rattle.arc_parts.specs.Window.{window_of};
     ghost use Rattle.arc_parts.specs.Writers.{after_advance, as_sole, capacity_of};
     ghost use Rattle.arc_block.specs.Place.{static_data};
@@ -155,7 +156,7 @@ where
     ghost use Rattle.arc_slots.specs.Stands.{HasPassFor, is_numbered};
     ghost use Rattle.arc_slots.specs.Calls.{Along, AsksPlace, Beside, MayAsk, RefusesAt};
     ghost use Rattle.arc_commands.specs.Changes.{cut_row, off_part, part_of, to_part};
-    ghost use Rattle.arc_commands.specs.Changes.{is_on_block, is_writable_at, may_write_at};
+    ghost use Rattle.arc_commands.specs.Changes.{is_writable_at, may_write_at};
     ghost use Rattle.arc_commands.specs.Changes.{truncated};
     ghost use Rattle.arc_slots.specs.Splits.{IsSplit};
     ghost use Rattle.arc_commands.specs.Blocks.{is_reader, is_several, is_small, is_sole};

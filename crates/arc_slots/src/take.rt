@@ -148,8 +148,8 @@ where
     S::Small: SmallOf<S, L, B, M, A>,
 {
     ghost use Rattle.std.specs.Prelude.{false, Some, length};
+    ghost use Rattle.arc_parts.specs.Shared.{is_on_block};
     ghost use Rattle.arc_commands.specs.Blocks.{is_several, is_sole};
-    ghost use Rattle.arc_commands.specs.Changes.{is_on_block};
     ghost use Rattle.arc_slots.specs.Calls.{Along, RefusesOut, TakesOut};
     ghost use Rattle.arc_slots.specs.Slots.{row_of, stand_of};
     ghost use Rattle.arc_slots.specs.Stands.{HasPassFor};
