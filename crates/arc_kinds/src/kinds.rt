@@ -26,6 +26,7 @@ use arc_owners::mark::Whole;
 use arc_owners::owners::Pass;
 use arc_write::slice_mut::ArcSliceMut;
 pub use calls::{AllCalls, CallsOf, OwnedCalls, TextCalls};
+pub use setting::TableUnder;
 pub use smalls::{HasSmall, NoSmall, NoWindow, SmallKind, SmallOf, Smalls};
 use std::alloc::Allocator;
 use std::boxed::{BoxedSlice, BoxedStr};
@@ -527,4 +528,5 @@ impl<T: TableItem, const N: usize> TableItem for [T; N] {
 
 mod calls;
 mod numbers;
+mod setting;
 mod smalls;
