@@ -1,7 +1,6 @@
 //! What the window of a slot is answered to a command: each call of its window, with the tests that
 //! come before it.
-ghost use Rattle.std.specs.Mem.{FitsInMemory, type_size};
-ghost use Rattle.arc_block.specs.LayoutFacts.{layout_facts};
+ghost use Rattle.std.specs.Mem.{FitsInMemory};
 
 use crate::passes::Passes;
 use crate::slot::{Slot, Writing};
@@ -9,7 +8,7 @@ use arc_block::layout::{Layout, LayoutMut};
 use arc_buffer::buffer::BufferMut;
 use arc_buffer::kinds::Slice;
 use arc_commands::command::Reply;
-use arc_kinds::kinds::{CallsOf, Commands, SmallOf, TableKind, TableReply};
+use arc_kinds::kinds::{CallsOf, Commands, SmallOf, TableKind, TableReply, TableUnder};
 use arc_owners::error::TryReserveError;
 use std::alloc::Allocator;
 
@@ -25,7 +24,6 @@ where
     S::Small: SmallOf<S, L, B, M, A>,
 {
     ghost use Rattle.std.specs.Prelude.{◌≡◌, ℕ, None, Some, true, is_some, length, IfOk};
-    ghost use Rattle.arc_commands.specs.Changes.{setting_of};
     ghost use Rattle.arc_commands.specs.Seen.{seen_reply};
     ghost use Rattle.arc_commands.specs.declared.command.Cmd.TheVariants as command;
     ghost use Rattle.arc_slots.specs.Answers.{Answers};
@@ -36,9 +34,7 @@ where
     /// Whether the window is the only owner of its block.
     pub(crate) fn uniq(&self, passes: &mut Passes<A>) -> TableReply<S, B, M, A>
         requires { HasPassFor passes.old.of_blocks.items (stand_of (Some self.now)) }
-        ensures { (next i : ℕ) → Answers (setting_of (layout_facts L.Layout) L.Writable.ANY
-            L.clone_wants S.DROPS S.boundary
-            (type_size S.Item.row) S.Zero.zero S.Calls.calls) next (command.Uniq i)
+        ensures { (next i : ℕ) → Answers ⟦<S as TableUnder<L, A>>⟧.setting next (command.Uniq i)
             self.now passes.old.of_blocks.items (seen_reply S.items_in S.items_in_box B.list result)
             (Some self.now) None passes.new.of_blocks.items }
     {
@@ -53,9 +49,7 @@ where
 
     /// The items of the window, in a vector, if its kind has items that are copied.
     pub(crate) fn show(&self, alloc: A, passes: &Passes<A>) -> TableReply<S, B, M, A>
-        ensures { (next i : ℕ) → Answers (setting_of (layout_facts L.Layout) L.Writable.ANY
-            L.clone_wants S.DROPS S.boundary
-            (type_size S.Item.row) S.Zero.zero S.Calls.calls) next (command.Show i)
+        ensures { (next i : ℕ) → Answers ⟦<S as TableUnder<L, A>>⟧.setting next (command.Show i)
             self.now passes.now.of_blocks.items (seen_reply S.items_in S.items_in_box B.list result)
             (Some self.now) None passes.now.of_blocks.items }
     {
@@ -77,9 +71,7 @@ where
     pub(crate) fn meta(&self, passes: &Passes<A>) -> TableReply<S, B, M, A>
     where
         M: Copy,
-        ensures { (next i : ℕ) → Answers (setting_of (layout_facts L.Layout) L.Writable.ANY
-            L.clone_wants S.DROPS S.boundary
-            (type_size S.Item.row) S.Zero.zero S.Calls.calls) next (command.Meta i)
+        ensures { (next i : ℕ) → Answers ⟦<S as TableUnder<L, A>>⟧.setting next (command.Meta i)
             self.now passes.now.of_blocks.items (seen_reply S.items_in S.items_in_box B.list result)
             (Some self.now) None passes.now.of_blocks.items }
     {
@@ -96,9 +88,7 @@ where
 
     /// How many items the window has.
     pub(crate) fn count(&self, passes: &Passes<A>) -> TableReply<S, B, M, A>
-        ensures { (next i : ℕ) → Answers (setting_of (layout_facts L.Layout) L.Writable.ANY
-            L.clone_wants S.DROPS S.boundary
-            (type_size S.Item.row) S.Zero.zero S.Calls.calls) next (command.Len i)
+        ensures { (next i : ℕ) → Answers ⟦<S as TableUnder<L, A>>⟧.setting next (command.Len i)
             self.now passes.now.of_blocks.items (seen_reply S.items_in S.items_in_box B.list result)
             (Some self.now) None passes.now.of_blocks.items }
     {
@@ -109,9 +99,7 @@ where
 
     /// How many places the window has, if it is one that is written.
     pub(crate) fn room(&self, passes: &Passes<A>) -> TableReply<S, B, M, A>
-        ensures { (next i : ℕ) → Answers (setting_of (layout_facts L.Layout) L.Writable.ANY
-            L.clone_wants S.DROPS S.boundary
-            (type_size S.Item.row) S.Zero.zero S.Calls.calls) next (command.Room i)
+        ensures { (next i : ℕ) → Answers ⟦<S as TableUnder<L, A>>⟧.setting next (command.Room i)
             self.now passes.now.of_blocks.items (seen_reply S.items_in S.items_in_box B.list result)
             (Some self.now) None passes.now.of_blocks.items }
     {
@@ -143,11 +131,10 @@ where
     ) -> TableReply<S, B, M, A>
         requires item { FitsInMemory S.Item.row }
         requires pass { HasPassFor passes.old.of_blocks.items (stand_of (Some self.old)) }
-        ensures { (next i : ℕ) → Answers (setting_of (layout_facts L.Layout) L.Writable.ANY
-            L.clone_wants S.DROPS S.boundary
-            (type_size S.Item.row) S.Zero.zero S.Calls.calls) next (command.Res i additional)
-            self.old passes.old.of_blocks.items (seen_reply S.items_in S.items_in_box B.list result)
-            (Some self.new) None passes.new.of_blocks.items }
+        ensures { (next i : ℕ) → Answers ⟦<S as TableUnder<L, A>>⟧.setting next
+            (command.Res i additional) self.old passes.old.of_blocks.items
+            (seen_reply S.items_in S.items_in_box B.list result) (Some self.new) None
+            passes.new.of_blocks.items }
     {
         self.fill(Writing::Nothing(additional), passes)
     }
@@ -157,11 +144,10 @@ where
     pub(crate) fn push(&mut self, item: S::Item, passes: &mut Passes<A>) -> TableReply<S, B, M, A>
         requires item { FitsInMemory S.Item.row }
         requires pass { HasPassFor passes.old.of_blocks.items (stand_of (Some self.old)) }
-        ensures { (next i : ℕ) → Answers (setting_of (layout_facts L.Layout) L.Writable.ANY
-            L.clone_wants S.DROPS S.boundary
-            (type_size S.Item.row) S.Zero.zero S.Calls.calls) next (command.Push i item)
-            self.old passes.old.of_blocks.items (seen_reply S.items_in S.items_in_box B.list result)
-            (Some self.new) None passes.new.of_blocks.items }
+        ensures { (next i : ℕ) → Answers ⟦<S as TableUnder<L, A>>⟧.setting next
+            (command.Push i item) self.old passes.old.of_blocks.items
+            (seen_reply S.items_in S.items_in_box B.list result) (Some self.new) None
+            passes.new.of_blocks.items }
     {
         self.fill(Writing::Item(item), passes)
     }
@@ -176,11 +162,10 @@ where
         requires item { FitsInMemory S.Item.row }
         requires legal { ∥ S.is_legal items.items ∥₁ }
         requires pass { HasPassFor passes.old.of_blocks.items (stand_of (Some self.old)) }
-        ensures { (next i : ℕ) → Answers (setting_of (layout_facts L.Layout) L.Writable.ANY
-            L.clone_wants S.DROPS S.boundary
-            (type_size S.Item.row) S.Zero.zero S.Calls.calls) next (command.Ext i items.items)
-            self.old passes.old.of_blocks.items (seen_reply S.items_in S.items_in_box B.list result)
-            (Some self.new) None passes.new.of_blocks.items }
+        ensures { (next i : ℕ) → Answers ⟦<S as TableUnder<L, A>>⟧.setting next
+            (command.Ext i items.items) self.old passes.old.of_blocks.items
+            (seen_reply S.items_in S.items_in_box B.list result) (Some self.new) None
+            passes.new.of_blocks.items }
     {
         self.fill(Writing::Items(items), passes)
     }
@@ -196,12 +181,10 @@ where
         requires item { FitsInMemory S.Item.row }
         requires legal { IsLegal S.is_legal (seen_writing what) }
         requires pass { HasPassFor passes.old.of_blocks.items (stand_of (Some self.old)) }
-        ensures { (next i : ℕ) → Answers (setting_of (layout_facts L.Layout) L.Writable.ANY
-            L.clone_wants S.DROPS S.boundary
-            (type_size S.Item.row) S.Zero.zero S.Calls.calls) next
-            (write_command i (seen_writing what))
-            self.old passes.old.of_blocks.items (seen_reply S.items_in S.items_in_box B.list result)
-            (Some self.new) None passes.new.of_blocks.items }
+        ensures { (next i : ℕ) → Answers ⟦<S as TableUnder<L, A>>⟧.setting next
+            (write_command i (seen_writing what)) self.old passes.old.of_blocks.items
+            (seen_reply S.items_in S.items_in_box B.list result) (Some self.new) None
+            passes.new.of_blocks.items }
     {
         if self.is_several() {
             return self.fill_beside(what, passes);
@@ -230,11 +213,10 @@ where
     ) -> TableReply<S, B, M, A>
         requires item { FitsInMemory S.Item.row }
         requires pass { HasPassFor passes.old.of_blocks.items (stand_of (Some self.old)) }
-        ensures { (next i : ℕ) → Answers (setting_of (layout_facts L.Layout) L.Writable.ANY
-            L.clone_wants S.DROPS S.boundary
-            (type_size S.Item.row) S.Zero.zero S.Calls.calls) next (command.Rec i additional)
-            self.old passes.old.of_blocks.items (seen_reply S.items_in S.items_in_box B.list result)
-            (Some self.new) None passes.new.of_blocks.items }
+        ensures { (next i : ℕ) → Answers ⟦<S as TableUnder<L, A>>⟧.setting next
+            (command.Rec i additional) self.old passes.old.of_blocks.items
+            (seen_reply S.items_in S.items_in_box B.list result) (Some self.new) None
+            passes.new.of_blocks.items }
     {
         if self.is_several() {
             return self.reclaim_beside(additional, passes);
@@ -250,9 +232,7 @@ where
 
     /// A join is on two windows (`join_at`), and of one alone there is none.
     pub(crate) fn join(&self, passes: &Passes<A>) -> TableReply<S, B, M, A>
-        ensures { (next i j : ℕ) → Answers (setting_of (layout_facts L.Layout) L.Writable.ANY
-            L.clone_wants S.DROPS S.boundary
-            (type_size S.Item.row) S.Zero.zero S.Calls.calls) next (command.Join i j)
+        ensures { (next i j : ℕ) → Answers ⟦<S as TableUnder<L, A>>⟧.setting next (command.Join i j)
             self.now passes.now.of_blocks.items (seen_reply S.items_in S.items_in_box B.list result)
             (Some self.now) None passes.now.of_blocks.items }
     {
@@ -262,9 +242,7 @@ where
 
     /// Takes the first `by` items off the window.
     pub(crate) fn skip(&mut self, by: usize, passes: &Passes<A>) -> TableReply<S, B, M, A>
-        ensures { (next i : ℕ) → Answers (setting_of (layout_facts L.Layout) L.Writable.ANY
-            L.clone_wants S.DROPS S.boundary
-            (type_size S.Item.row) S.Zero.zero S.Calls.calls) next (command.Adv i by)
+        ensures { (next i : ℕ) → Answers ⟦<S as TableUnder<L, A>>⟧.setting next (command.Adv i by)
             self.old passes.now.of_blocks.items (seen_reply S.items_in S.items_in_box B.list result)
             (Some self.new) None passes.now.of_blocks.items }
     {
@@ -279,11 +257,10 @@ where
 
     /// Leaves the window's first `len` items, or all where it has no more.
     pub(crate) fn cut(&mut self, len: usize, passes: &Passes<A>) -> TableReply<S, B, M, A>
-        ensures { (next i : ℕ) → Answers (setting_of (layout_facts L.Layout) L.Writable.ANY
-            L.clone_wants S.DROPS S.boundary
-            (type_size S.Item.row) S.Zero.zero S.Calls.calls) next (command.Trunc i len)
-            self.old passes.now.of_blocks.items (seen_reply S.items_in S.items_in_box B.list result)
-            (Some self.new) None passes.now.of_blocks.items }
+        ensures { (next i : ℕ) → Answers ⟦<S as TableUnder<L, A>>⟧.setting next
+            (command.Trunc i len) self.old passes.now.of_blocks.items
+            (seen_reply S.items_in S.items_in_box B.list result) (Some self.new) None
+            passes.now.of_blocks.items }
     {
         let _ = passes;
         self.known_role();
@@ -303,9 +280,7 @@ where
     /// Makes the window, which is written, one that is read.
     pub(crate) fn freeze(self, passes: &mut Passes<A>) -> (TableReply<S, B, M, A>, Option<Self>)
         requires { HasPassFor passes.old.of_blocks.items (stand_of (Some self)) }
-        ensures { (next i : ℕ) → Answers (setting_of (layout_facts L.Layout) L.Writable.ANY
-            L.clone_wants S.DROPS S.boundary
-            (type_size S.Item.row) S.Zero.zero S.Calls.calls) next (command.Freeze i)
+        ensures { (next i : ℕ) → Answers ⟦<S as TableUnder<L, A>>⟧.setting next (command.Freeze i)
             self passes.old.of_blocks.items (seen_reply S.items_in S.items_in_box B.list result.0)
             result.1 None passes.new.of_blocks.items }
     {
@@ -325,10 +300,8 @@ where
     /// Makes the window, which is read, one that is written, if it is alone.
     pub(crate) fn make_mut(self, passes: &mut Passes<A>) -> (TableReply<S, B, M, A>, Option<Self>)
         requires { HasPassFor passes.old.of_blocks.items (stand_of (Some self)) }
-        ensures { (next i : ℕ) → Answers (setting_of (layout_facts L.Layout) L.Writable.ANY
-            L.clone_wants S.DROPS S.boundary
-            (type_size S.Item.row) S.Zero.zero S.Calls.calls) next (command.Mut i)
-            self passes.old.of_blocks.items (seen_reply S.items_in S.items_in_box B.list result.0)
+        ensures { (next i : ℕ) → Answers ⟦<S as TableUnder<L, A>>⟧.setting next (command.Mut i) self
+            passes.old.of_blocks.items (seen_reply S.items_in S.items_in_box B.list result.0)
             result.1 None passes.new.of_blocks.items }
     {
         if !self.is_read() {

@@ -1,6 +1,5 @@
 //! What the window of one of several writers is answered to a command, or who is to be one.
-ghost use Rattle.std.specs.Mem.{FitsInMemory, type_size};
-ghost use Rattle.arc_block.specs.LayoutFacts.{layout_facts};
+ghost use Rattle.std.specs.Mem.{FitsInMemory};
 
 use crate::part::Part;
 use crate::passes::Passes;
@@ -9,7 +8,7 @@ use arc_block::layout::{Layout, LayoutMut};
 use arc_buffer::buffer::BufferMut;
 use arc_buffer::kinds::Slice;
 use arc_commands::command::Reply;
-use arc_kinds::kinds::{CallsOf, Commands, SmallOf, TableReply};
+use arc_kinds::kinds::{CallsOf, Commands, SmallOf, TableReply, TableUnder};
 use arc_owners::error::{OwnerError, TryReserveError};
 use std::alloc::Allocator;
 use std::sync::Wait;
@@ -31,7 +30,6 @@ where
     ghost use Rattle.arc_parts.specs.Shared.{is_vector_at};
     ghost use Rattle.arc_parts.specs.Writers.{capacity_of};
     ghost use Rattle.arc_commands.specs.Blocks.{is_several};
-    ghost use Rattle.arc_commands.specs.Changes.{setting_of};
     ghost use Rattle.arc_commands.specs.Seen.{seen_reply};
     ghost use Rattle.arc_commands.specs.declared.command.Cmd.TheVariants as command;
     ghost use Rattle.arc_commands.specs.declared.command.Reply.TheVariants as reply;
@@ -46,9 +44,7 @@ where
     /// Makes the window, which is written alone, one of several on its block, if its kind has such
     /// windows and it stands on no caller's buffer.
     pub(crate) fn share(self, passes: &Passes<A>) -> (TableReply<S, B, M, A>, Option<Self>)
-        ensures { (next i : ℕ) → Answers (setting_of (layout_facts L.Layout) L.Writable.ANY
-            L.clone_wants S.DROPS S.boundary
-            (type_size S.Item.row) S.Zero.zero S.Calls.calls) next (command.Share i)
+        ensures { (next i : ℕ) → Answers ⟦<S as TableUnder<L, A>>⟧.setting next (command.Share i)
             self passes.now.of_blocks.items (seen_reply S.items_in S.items_in_box B.list result.0)
             result.1 None passes.now.of_blocks.items }
     {
@@ -72,9 +68,7 @@ where
         passes: &mut Passes<A>,
     ) -> (TableReply<S, B, M, A>, Option<Self>)
         requires { HasPassFor passes.old.of_blocks.items (stand_of (Some self)) }
-        ensures { (next i : ℕ) → Answers (setting_of (layout_facts L.Layout) L.Writable.ANY
-            L.clone_wants S.DROPS S.boundary
-            (type_size S.Item.row) S.Zero.zero S.Calls.calls) next (command.Unique i)
+        ensures { (next i : ℕ) → Answers ⟦<S as TableUnder<L, A>>⟧.setting next (command.Unique i)
             self passes.old.of_blocks.items (seen_reply S.items_in S.items_in_box B.list result.0)
             result.1 None passes.new.of_blocks.items }
     {
@@ -153,15 +147,12 @@ where
     ) -> Result<Self, TableReply<S, B, M, A>>
         requires role { is_several self.old.role ≡ true }
         requires pass { HasPassFor passes.old.of_blocks.items (stand_of (Some self.old)) }
-        ensures made { IfOk result (λ made. (next i : ℕ) → Answers
-            (setting_of (layout_facts L.Layout) L.Writable.ANY L.clone_wants S.DROPS S.boundary
-            (type_size S.Item.row) S.Zero.zero S.Calls.calls) next (part_command i part)
-            self.old passes.old.of_blocks.items (reply.New next)
+        ensures made { IfOk result (λ made. (next i : ℕ) → Answers ⟦<S as TableUnder<L, A>>⟧.setting
+            next (part_command i part) self.old passes.old.of_blocks.items (reply.New next)
             (Some self.new) (Some made) passes.new.of_blocks.items) }
         ensures refused { IfErr result (λ r. (next i : ℕ) → Answers
-            (setting_of (layout_facts L.Layout) L.Writable.ANY L.clone_wants S.DROPS S.boundary
-            (type_size S.Item.row) S.Zero.zero S.Calls.calls) next (part_command i part)
-            self.old passes.old.of_blocks.items (seen_reply S.items_in S.items_in_box B.list r)
+            ⟦<S as TableUnder<L, A>>⟧.setting next (part_command i part) self.old
+            passes.old.of_blocks.items (seen_reply S.items_in S.items_in_box B.list r)
             (Some self.new) None passes.new.of_blocks.items) }
         ensures room { IsOk result → has_room ≡ true }
     {
@@ -194,12 +185,10 @@ where
         requires legal { IsLegal S.is_legal (seen_writing what) }
         requires role { is_several self.old.role ≡ true }
         requires pass { HasPassFor passes.old.of_blocks.items (stand_of (Some self.old)) }
-        ensures { (next i : ℕ) → Answers (setting_of (layout_facts L.Layout) L.Writable.ANY
-            L.clone_wants S.DROPS S.boundary
-            (type_size S.Item.row) S.Zero.zero S.Calls.calls) next
-            (write_command i (seen_writing what))
-            self.old passes.old.of_blocks.items (seen_reply S.items_in S.items_in_box B.list result)
-            (Some self.new) None passes.new.of_blocks.items }
+        ensures { (next i : ℕ) → Answers ⟦<S as TableUnder<L, A>>⟧.setting next
+            (write_command i (seen_writing what)) self.old passes.old.of_blocks.items
+            (seen_reply S.items_in S.items_in_box B.list result) (Some self.new) None
+            passes.new.of_blocks.items }
     {
         self.known_undropped();
         if !Self::may_write(&what) {
@@ -225,11 +214,10 @@ where
         requires item { FitsInMemory S.Item.row }
         requires role { is_several self.old.role ≡ true }
         requires pass { HasPassFor passes.old.of_blocks.items (stand_of (Some self.old)) }
-        ensures { (next i : ℕ) → Answers (setting_of (layout_facts L.Layout) L.Writable.ANY
-            L.clone_wants S.DROPS S.boundary
-            (type_size S.Item.row) S.Zero.zero S.Calls.calls) next (command.Rec i additional)
-            self.old passes.old.of_blocks.items (seen_reply S.items_in S.items_in_box B.list result)
-            (Some self.new) None passes.new.of_blocks.items }
+        ensures { (next i : ℕ) → Answers ⟦<S as TableUnder<L, A>>⟧.setting next
+            (command.Rec i additional) self.old passes.old.of_blocks.items
+            (seen_reply S.items_in S.items_in_box B.list result) (Some self.new) None
+            passes.new.of_blocks.items }
     {
         self.known_undropped();
         if self.try_reclaim_beside(additional, passes) {

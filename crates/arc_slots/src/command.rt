@@ -1,10 +1,9 @@
 //! A command on the window under one number of a table.
 ghost use Rattle.std.specs.Prelude.{◌≡◌, ℕ, None, Some, false, true, length, IfSome};
 ghost use Rattle.std.specs.Prelude.{Err, IfErr, IfOk, IsOk};
-ghost use Rattle.arc_block.specs.LayoutFacts.{layout_facts};
-ghost use Rattle.std.specs.Mem.{FitsInMemory, type_size};
+ghost use Rattle.std.specs.Mem.{FitsInMemory};
 ghost use Rattle.arc_commands.specs.Seen.{map_command, seen_reply};
-ghost use Rattle.arc_commands.specs.Changes.{Setting, setting_of};
+ghost use Rattle.arc_commands.specs.Changes.{Setting};
 ghost use Rattle.arc_commands.specs.declared.command.Cmd.TheVariants as command;
 ghost use Rattle.arc_commands.specs.declared.command.Reply.TheVariants as reply;
 ghost use Rattle.arc_slots.specs.Answers.{Answers};
@@ -20,7 +19,7 @@ use arc_block::layout::{Layout, LayoutMut};
 use arc_buffer::buffer::BufferMut;
 use arc_buffer::kinds::Slice;
 use arc_commands::command::{Carried, Cmd, Given, Reply};
-use arc_kinds::kinds::{Commands, SmallOf, TableCmd, TableKind, TableReply, vec_of};
+use arc_kinds::kinds::{Commands, SmallOf, TableCmd, TableKind, TableReply, TableUnder, vec_of};
 use arc_kinds::place::set_slot;
 use std::alloc::Allocator;
 use std::mem;
@@ -105,8 +104,7 @@ where
     S::Small: SmallOf<S, L, B, M, A>,
     requires turns { is_turning command ≡ true }
     requires pass { HasPassFor passes.old.of_blocks.items (stand_of (Some slot)) }
-    ensures { (next : ℕ) → Answers (setting_of (layout_facts L.Layout) L.Writable.ANY
-        L.clone_wants S.DROPS S.boundary (type_size S.Item.row) S.Zero.zero S.Calls.calls) next
+    ensures { (next : ℕ) → Answers ⟦<S as TableUnder<L, A>>⟧.setting next
         (map_command S.items_in S.static_in B.list command) slot passes.old.of_blocks.items
         (seen_reply S.items_in S.items_in_box B.list result.0) result.1 None
         passes.new.of_blocks.items }
@@ -165,14 +163,10 @@ where
     requires stays { is_turning command ≡ false }
     requires item { FitsInMemory S.Item.row }
     requires pass { HasPassFor passes.old.of_blocks.items (stand_of (Some slot.old)) }
-    ensures made { IfOk result (λ made. (next : ℕ) → Answers
-        (setting_of (layout_facts L.Layout) L.Writable.ANY L.clone_wants S.DROPS S.boundary
-        (type_size S.Item.row) S.Zero.zero S.Calls.calls) next
+    ensures made { IfOk result (λ made. (next : ℕ) → Answers ⟦<S as TableUnder<L, A>>⟧.setting next
         (map_command S.items_in S.static_in B.list command) slot.old passes.old.of_blocks.items
         (reply.New next) (Some slot.new) (Some made) passes.new.of_blocks.items) }
-    ensures told { IfErr result (λ r. (next : ℕ) → Answers
-        (setting_of (layout_facts L.Layout) L.Writable.ANY L.clone_wants S.DROPS S.boundary
-        (type_size S.Item.row) S.Zero.zero S.Calls.calls) next
+    ensures told { IfErr result (λ r. (next : ℕ) → Answers ⟦<S as TableUnder<L, A>>⟧.setting next
         (map_command S.items_in S.static_in B.list command) slot.old passes.old.of_blocks.items
         (seen_reply S.items_in S.items_in_box B.list r) (Some slot.new) None
         passes.new.of_blocks.items) }
@@ -235,15 +229,12 @@ where
     requires item { FitsInMemory S.Item.row }
     requires pass { HasPassFor passes.old.of_blocks.items (stand_of place.old) }
     ensures made { IfOk result (λ made. IfSome place.old (λ s. (next : ℕ) → Answers
-        (setting_of (layout_facts L.Layout) L.Writable.ANY L.clone_wants S.DROPS S.boundary
-        (type_size S.Item.row) S.Zero.zero S.Calls.calls) next
-        (map_command S.items_in S.static_in B.list command) s passes.old.of_blocks.items
-        (reply.New next) place.new (Some made) passes.new.of_blocks.items)) }
+        ⟦<S as TableUnder<L, A>>⟧.setting next (map_command S.items_in S.static_in B.list command) s
+        passes.old.of_blocks.items (reply.New next) place.new (Some made)
+        passes.new.of_blocks.items)) }
     ensures told { IfErr result (λ r. IfSome place.old (λ s. (next : ℕ) → Answers
-        (setting_of (layout_facts L.Layout) L.Writable.ANY L.clone_wants S.DROPS S.boundary
-        (type_size S.Item.row) S.Zero.zero S.Calls.calls) next
-        (map_command S.items_in S.static_in B.list command) s passes.old.of_blocks.items
-        (seen_reply S.items_in S.items_in_box B.list r) place.new None
+        ⟦<S as TableUnder<L, A>>⟧.setting next (map_command S.items_in S.static_in B.list command) s
+        passes.old.of_blocks.items (seen_reply S.items_in S.items_in_box B.list r) place.new None
         passes.new.of_blocks.items)) }
     ensures none { place.old ≡ None → (result ≡ Err reply.NoWindow) × (place.new ≡ None)
         × (passes.new.of_blocks.items ≡ passes.old.of_blocks.items) }

@@ -1,6 +1,4 @@
 //! Clones, ranges and parts of a slot's window, as they are handed out.
-ghost use Rattle.std.specs.Mem.{type_size};
-ghost use Rattle.arc_block.specs.LayoutFacts.{layout_facts};
 
 use crate::part::Part;
 use crate::passes::Passes;
@@ -9,7 +7,7 @@ use arc_block::layout::{Layout, LayoutMut};
 use arc_buffer::buffer::BufferMut;
 use arc_buffer::kinds::Slice;
 use arc_commands::command::Reply;
-use arc_kinds::kinds::{CallsOf, Commands, SmallOf, TableKind, TableReply};
+use arc_kinds::kinds::{CallsOf, Commands, SmallOf, TableKind, TableReply, TableUnder};
 use std::alloc::Allocator;
 use std::sync::Wait;
 
@@ -25,7 +23,6 @@ where
     S::Small: SmallOf<S, L, B, M, A>,
 {
     ghost use Rattle.std.specs.Prelude.{◌≡◌, ℕ, None, Some, true, IfErr, IfOk, IsOk};
-    ghost use Rattle.arc_commands.specs.Changes.{setting_of};
     ghost use Rattle.arc_commands.specs.Seen.{seen_reply};
     ghost use Rattle.arc_commands.specs.declared.command.Cmd.TheVariants as command;
     ghost use Rattle.arc_commands.specs.declared.command.Reply.TheVariants as reply;
@@ -49,15 +46,12 @@ where
         passes: &mut Passes<A>,
     ) -> Result<Self, TableReply<S, B, M, A>>
         requires { HasPassFor passes.old.of_blocks.items (stand_of (Some self.now)) }
-        ensures made { IfOk result (λ made. (next i : ℕ) → Answers
-            (setting_of (layout_facts L.Layout) L.Writable.ANY L.clone_wants S.DROPS S.boundary
-            (type_size S.Item.row) S.Zero.zero S.Calls.calls) next (command.Clone i)
-            self.now passes.old.of_blocks.items (reply.New next)
+        ensures made { IfOk result (λ made. (next i : ℕ) → Answers ⟦<S as TableUnder<L, A>>⟧.setting
+            next (command.Clone i) self.now passes.old.of_blocks.items (reply.New next)
             (Some self.now) (Some made) passes.new.of_blocks.items) }
         ensures refused { IfErr result (λ r. (next i : ℕ) → Answers
-            (setting_of (layout_facts L.Layout) L.Writable.ANY L.clone_wants S.DROPS S.boundary
-            (type_size S.Item.row) S.Zero.zero S.Calls.calls) next (command.Clone i)
-            self.now passes.old.of_blocks.items (seen_reply S.items_in S.items_in_box B.list r)
+            ⟦<S as TableUnder<L, A>>⟧.setting next (command.Clone i) self.now
+            passes.old.of_blocks.items (seen_reply S.items_in S.items_in_box B.list r)
             (Some self.now) None passes.new.of_blocks.items) }
         ensures room { IsOk result → has_room ≡ true }
     {
@@ -90,15 +84,12 @@ where
         passes: &mut Passes<A>,
     ) -> Result<Self, TableReply<S, B, M, A>>
         requires { HasPassFor passes.old.of_blocks.items (stand_of (Some self.now)) }
-        ensures made { IfOk result (λ made. (next i : ℕ) → Answers
-            (setting_of (layout_facts L.Layout) L.Writable.ANY L.clone_wants S.DROPS S.boundary
-            (type_size S.Item.row) S.Zero.zero S.Calls.calls) next (command.Sub i start end)
-            self.now passes.old.of_blocks.items (reply.New next)
+        ensures made { IfOk result (λ made. (next i : ℕ) → Answers ⟦<S as TableUnder<L, A>>⟧.setting
+            next (command.Sub i start end) self.now passes.old.of_blocks.items (reply.New next)
             (Some self.now) (Some made) passes.new.of_blocks.items) }
         ensures refused { IfErr result (λ r. (next i : ℕ) → Answers
-            (setting_of (layout_facts L.Layout) L.Writable.ANY L.clone_wants S.DROPS S.boundary
-            (type_size S.Item.row) S.Zero.zero S.Calls.calls) next (command.Sub i start end)
-            self.now passes.old.of_blocks.items (seen_reply S.items_in S.items_in_box B.list r)
+            ⟦<S as TableUnder<L, A>>⟧.setting next (command.Sub i start end) self.now
+            passes.old.of_blocks.items (seen_reply S.items_in S.items_in_box B.list r)
             (Some self.now) None passes.new.of_blocks.items) }
         ensures room { IsOk result → has_room ≡ true }
     {
@@ -133,15 +124,12 @@ where
         passes: &mut Passes<A>,
     ) -> Result<Self, TableReply<S, B, M, A>>
         requires { HasPassFor passes.old.of_blocks.items (stand_of (Some self.old)) }
-        ensures made { IfOk result (λ made. (next i : ℕ) → Answers
-            (setting_of (layout_facts L.Layout) L.Writable.ANY L.clone_wants S.DROPS S.boundary
-            (type_size S.Item.row) S.Zero.zero S.Calls.calls) next (part_command i part)
-            self.old passes.old.of_blocks.items (reply.New next)
+        ensures made { IfOk result (λ made. (next i : ℕ) → Answers ⟦<S as TableUnder<L, A>>⟧.setting
+            next (part_command i part) self.old passes.old.of_blocks.items (reply.New next)
             (Some self.new) (Some made) passes.new.of_blocks.items) }
         ensures refused { IfErr result (λ r. (next i : ℕ) → Answers
-            (setting_of (layout_facts L.Layout) L.Writable.ANY L.clone_wants S.DROPS S.boundary
-            (type_size S.Item.row) S.Zero.zero S.Calls.calls) next (part_command i part)
-            self.old passes.old.of_blocks.items (seen_reply S.items_in S.items_in_box B.list r)
+            ⟦<S as TableUnder<L, A>>⟧.setting next (part_command i part) self.old
+            passes.old.of_blocks.items (seen_reply S.items_in S.items_in_box B.list r)
             (Some self.new) None passes.new.of_blocks.items) }
         ensures room { IsOk result → has_room ≡ true }
     {

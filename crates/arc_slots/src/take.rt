@@ -1,8 +1,6 @@
 //! What a window stands on, taken out of a table.
 ghost use Rattle.std.specs.Prelude.{◌≡◌, true, IfOk, IfErr};
-ghost use Rattle.std.specs.Mem.{type_size};
 ghost use Rattle.arc_owners.specs.count.Calls.{Leaves};
-ghost use Rattle.arc_block.specs.LayoutFacts.{layout_facts};
 ghost use Rattle.arc_block.specs.Place.{at_owner};
 ghost use Rattle.arc_parts.specs.Steps.{IsPassAt, RefusesTaking, TakesAt};
 ghost use Rattle.arc_block.specs.Table.{reader};
@@ -17,7 +15,7 @@ use arc_block::static_slice::StaticSlice;
 use arc_buffer::buffer::BufferMut;
 use arc_buffer::kinds::Slice;
 use arc_commands::command::Reply;
-use arc_kinds::kinds::{Commands, SmallOf, TableKind, TableReply, box_of, items_of};
+use arc_kinds::kinds::{Commands, SmallOf, TableKind, TableReply, TableUnder, box_of, items_of};
 use arc_owners::mark::Whole;
 use arc_owners::owners::Pass;
 use arc_parts::parts::Parts;
@@ -326,7 +324,6 @@ where
 {
     ghost use Rattle.std.specs.Prelude.{ℕ, None, Some};
     ghost use Rattle.arc_commands.specs.Blocks.{is_several};
-    ghost use Rattle.arc_commands.specs.Changes.{setting_of};
     ghost use Rattle.arc_commands.specs.declared.command.Cmd.TheVariants as command;
     ghost use Rattle.arc_slots.specs.Answers.{Answers};
     ghost use Rattle.arc_slots.specs.Slots.{stand_of};
@@ -335,12 +332,10 @@ where
 
     /// The items of the window, which ends, if it is read and stands on no block.
     pub(crate) fn take_static(self, passes: &Passes<A>) -> (TableReply<S, B, M, A>, Option<Self>)
-        ensures { (next i : ℕ) → Answers (setting_of (layout_facts L.Layout) L.Writable.ANY
-            L.clone_wants
-            S.DROPS S.boundary (type_size S.Item.row) S.Zero.zero S.Calls.calls) next
+        ensures { (next i : ℕ) → Answers ⟦<S as TableUnder<L, A>>⟧.setting next
             (command.TakeStatic i) self passes.now.of_blocks.items
-            (seen_reply S.items_in S.items_in_box B.list result.0)
-            result.1 None passes.now.of_blocks.items }
+            (seen_reply S.items_in S.items_in_box B.list result.0) result.1 None
+            passes.now.of_blocks.items }
     {
         let _ = passes;
         if !self.is_read() {
@@ -361,12 +356,10 @@ where
     ) -> (TableReply<S, B, M, A>, Option<Self>)
         requires role { is_several self.role ≡ true }
         requires pass { HasPassFor passes.old.of_blocks.items (stand_of (Some self)) }
-        ensures { (next i : ℕ) → Answers (setting_of (layout_facts L.Layout) L.Writable.ANY
-            L.clone_wants
-            S.DROPS S.boundary (type_size S.Item.row) S.Zero.zero S.Calls.calls) next
+        ensures { (next i : ℕ) → Answers ⟦<S as TableUnder<L, A>>⟧.setting next
             (take_command i what) self passes.old.of_blocks.items
-            (seen_reply S.items_in S.items_in_box B.list result.0)
-            result.1 None passes.new.of_blocks.items }
+            (seen_reply S.items_in S.items_in_box B.list result.0) result.1 None
+            passes.new.of_blocks.items }
     {
         match what {
             Taking::Vector => match self.try_take_beside(passes) {
@@ -385,12 +378,10 @@ where
         passes: &mut Passes<A>,
     ) -> (TableReply<S, B, M, A>, Option<Self>)
         requires { HasPassFor passes.old.of_blocks.items (stand_of (Some self)) }
-        ensures { (next i : ℕ) → Answers (setting_of (layout_facts L.Layout) L.Writable.ANY
-            L.clone_wants
-            S.DROPS S.boundary (type_size S.Item.row) S.Zero.zero S.Calls.calls) next
+        ensures { (next i : ℕ) → Answers ⟦<S as TableUnder<L, A>>⟧.setting next
             (take_command i what) self passes.old.of_blocks.items
-            (seen_reply S.items_in S.items_in_box B.list result.0)
-            result.1 None passes.new.of_blocks.items }
+            (seen_reply S.items_in S.items_in_box B.list result.0) result.1 None
+            passes.new.of_blocks.items }
     {
         if self.is_read() {
             return match self.try_take(what, passes) {
