@@ -1,13 +1,11 @@
 //! A window that a command makes of what it brings.
 ghost use Rattle.std.specs.Prelude.{◌≡◌, ◌<◌, ◌≤◌, IfErr, IfOk, Some, true, is_some, length};
-ghost use Rattle.arc_block.specs.LayoutFacts.{layout_facts};
-ghost use Rattle.std.specs.Mem.{type_size};
 ghost use Rattle.std.specs.Vec.{vec_capacity};
 ghost use Rattle.arc_parts.specs.Writers.{IsNewWriter, idle_writer};
 ghost use Rattle.arc_commands.specs.Additions.{Founds};
 ghost use Rattle.arc_commands.specs.Seen.{map_command, seen_reply};
 ghost use Rattle.std.specs.Arc.{arc_value};
-ghost use Rattle.arc_commands.specs.Changes.{made_row, setting_of, vector_row, writer_row};
+ghost use Rattle.arc_commands.specs.Changes.{made_row, vector_row, writer_row};
 ghost use Rattle.arc_commands.specs.Changes.{buffer_row, raw_row, written_buffer_row};
 ghost use Rattle.arc_commands.specs.declared.command.Cmd.TheVariants as command;
 ghost use Rattle.arc_makers.specs.Makers.{Makes};
@@ -17,7 +15,7 @@ use arc_block::layout::{Layout, LayoutMut, stands_on_nothing};
 use arc_buffer::buffer::{Buffer, BufferMut};
 use arc_commands::command::{Cmd, Reply};
 use arc_kinds::kinds::{
-    CallsOf, Commands, SmallOf, TableCmd, TableReply, ZeroOf, known_legal, vec_of,
+    CallsOf, Commands, SmallOf, TableCmd, TableReply, TableUnder, ZeroOf, known_legal, vec_of,
 };
 use arc_owners::error::AllocError;
 use arc_owners::mark::Whole;
@@ -109,9 +107,7 @@ fn over_copy<S: Commands<A>, L: Layout, B: BufferMut<S::Item> + Drop, M: Drop, A
 where
     L::Writable: LayoutMut,
     S::Small: SmallOf<S, L, B, M, A>,
-    ensures made { Makes (setting_of (layout_facts L.Layout) L.Writable.ANY L.clone_wants S.DROPS
-        S.boundary
-        (type_size S.Item.row) S.Zero.zero S.Calls.calls) next (command.Slice (S.items_in items))
+    ensures made { Makes ⟦<S as TableUnder<L, A>>⟧.setting next (command.Slice (S.items_in items))
         passes.old.of_blocks.items (seen_reply S.items_in S.items_in_box B.list result.0) result.1
         passes.new.of_blocks.items }
     ensures room { is_some result.1 ≡ true → has_room ≡ true }
@@ -178,11 +174,9 @@ fn over_vec<S: Commands<A>, L: Layout, B: BufferMut<S::Item> + Drop, M: Drop, A:
 where
     L::Writable: LayoutMut,
     S::Small: SmallOf<S, L, B, M, A>,
-    ensures made { Makes (setting_of (layout_facts L.Layout) L.Writable.ANY L.clone_wants S.DROPS
-        S.boundary
-        (type_size S.Item.row) S.Zero.zero S.Calls.calls) next (command.Vec (S.items_in items))
-        passes.old.of_blocks.items (seen_reply S.items_in S.items_in_box B.list result.0)
-        result.1 passes.new.of_blocks.items }
+    ensures made { Makes ⟦<S as TableUnder<L, A>>⟧.setting next (command.Vec (S.items_in items))
+        passes.old.of_blocks.items (seen_reply S.items_in S.items_in_box B.list result.0) result.1
+        passes.new.of_blocks.items }
     ensures room { is_some result.1 ≡ true → has_room ≡ true }
 {
     if !L::ANY {
@@ -262,11 +256,9 @@ fn over_buffer<
 where
     L::Writable: LayoutMut,
     S::Small: SmallOf<S, L, B, M, A>,
-    ensures made { Makes (setting_of (layout_facts L.Layout) L.Writable.ANY L.clone_wants S.DROPS
-        S.boundary
-        (type_size S.Item.row) S.Zero.zero S.Calls.calls) next (command.Buf (B.list given) metadata)
-        passes.old.of_blocks.items (seen_reply S.items_in S.items_in_box B.list result.0)
-        result.1 passes.new.of_blocks.items }
+    ensures made { Makes ⟦<S as TableUnder<L, A>>⟧.setting next
+        (command.Buf (B.list given) metadata) passes.old.of_blocks.items
+        (seen_reply S.items_in S.items_in_box B.list result.0) result.1 passes.new.of_blocks.items }
     ensures room { is_some result.1 ≡ true → has_room ≡ true }
 {
     if !S::Calls::any_list() {
@@ -342,12 +334,9 @@ fn over_written_buffer<
 where
     L::Writable: LayoutMut,
     S::Small: SmallOf<S, L, B, M, A>,
-    ensures made { Makes (setting_of (layout_facts L.Layout) L.Writable.ANY L.clone_wants S.DROPS
-        S.boundary
-        (type_size S.Item.row) S.Zero.zero S.Calls.calls) next
-        (command.MBuf (B.list given) metadata)
-        passes.old.of_blocks.items (seen_reply S.items_in S.items_in_box B.list result.0)
-        result.1 passes.new.of_blocks.items }
+    ensures made { Makes ⟦<S as TableUnder<L, A>>⟧.setting next
+        (command.MBuf (B.list given) metadata) passes.old.of_blocks.items
+        (seen_reply S.items_in S.items_in_box B.list result.0) result.1 passes.new.of_blocks.items }
     ensures room { is_some result.1 ≡ true → has_room ≡ true }
 {
     if !S::Calls::any_list() {
@@ -415,11 +404,9 @@ fn over_raw<S: Commands<A>, L: Layout, B: BufferMut<S::Item> + Drop, M: Drop, A:
 where
     L::Writable: LayoutMut,
     S::Small: SmallOf<S, L, B, M, A>,
-    ensures made { Makes (setting_of (layout_facts L.Layout) L.Writable.ANY L.clone_wants S.DROPS
-        S.boundary
-        (type_size S.Item.row) S.Zero.zero S.Calls.calls) next (command.Raw (B.list given))
-        passes.old.of_blocks.items (seen_reply S.items_in S.items_in_box B.list result.0)
-        result.1 passes.new.of_blocks.items }
+    ensures made { Makes ⟦<S as TableUnder<L, A>>⟧.setting next (command.Raw (B.list given))
+        passes.old.of_blocks.items (seen_reply S.items_in S.items_in_box B.list result.0) result.1
+        passes.new.of_blocks.items }
     ensures room { is_some result.1 ≡ true → has_room ≡ true }
 {
     if !S::Calls::any_list() {
@@ -460,9 +447,7 @@ fn over_static<
 where
     L::Writable: LayoutMut,
     S::Small: SmallOf<S, L, B, M, A>,
-    ensures made { Makes (setting_of (layout_facts L.Layout) L.Writable.ANY L.clone_wants S.DROPS
-        S.boundary
-        (type_size S.Item.row) S.Zero.zero S.Calls.calls) next (command.Static (S.static_in items))
+    ensures made { Makes ⟦<S as TableUnder<L, A>>⟧.setting next (command.Static (S.static_in items))
         passes.old.of_blocks.items (seen_reply S.items_in S.items_in_box B.list result.0) result.1
         passes.new.of_blocks.items }
     ensures room { is_some result.1 ≡ true → has_room ≡ true }
@@ -491,9 +476,7 @@ fn idle<S: Commands<A>, L: Layout, B: BufferMut<S::Item> + Drop, M: Drop, A: All
 where
     L::Writable: LayoutMut,
     S::Small: SmallOf<S, L, B, M, A>,
-    ensures made { Makes (setting_of (layout_facts L.Layout) L.Writable.ANY L.clone_wants S.DROPS
-        S.boundary
-        (type_size S.Item.row) S.Zero.zero S.Calls.calls) next command.New
+    ensures made { Makes ⟦<S as TableUnder<L, A>>⟧.setting next command.New
         passes.old.of_blocks.items (seen_reply S.items_in S.items_in_box B.list result.0) result.1
         passes.new.of_blocks.items }
     ensures room { is_some result.1 ≡ true → has_room ≡ true }
@@ -526,9 +509,7 @@ fn with_places<
 where
     L::Writable: LayoutMut,
     S::Small: SmallOf<S, L, B, M, A>,
-    ensures made { Makes (setting_of (layout_facts L.Layout) L.Writable.ANY L.clone_wants S.DROPS
-        S.boundary
-        (type_size S.Item.row) S.Zero.zero S.Calls.calls) next (command.Cap places)
+    ensures made { Makes ⟦<S as TableUnder<L, A>>⟧.setting next (command.Cap places)
         passes.old.of_blocks.items (seen_reply S.items_in S.items_in_box B.list result.0) result.1
         passes.new.of_blocks.items }
     ensures room { is_some result.1 ≡ true → has_room ≡ true }
@@ -564,9 +545,7 @@ fn over_zeros<
 where
     L::Writable: LayoutMut,
     S::Small: SmallOf<S, L, B, M, A>,
-    ensures made { Makes (setting_of (layout_facts L.Layout) L.Writable.ANY L.clone_wants S.DROPS
-        S.boundary
-        (type_size S.Item.row) S.Zero.zero S.Calls.calls) next (command.Zero count)
+    ensures made { Makes ⟦<S as TableUnder<L, A>>⟧.setting next (command.Zero count)
         passes.old.of_blocks.items (seen_reply S.items_in S.items_in_box B.list result.0) result.1
         passes.new.of_blocks.items }
     ensures room { is_some result.1 ≡ true → has_room ≡ true }
@@ -608,9 +587,7 @@ fn over_written_copy<
 where
     L::Writable: LayoutMut,
     S::Small: SmallOf<S, L, B, M, A>,
-    ensures made { Makes (setting_of (layout_facts L.Layout) L.Writable.ANY L.clone_wants S.DROPS
-        S.boundary
-        (type_size S.Item.row) S.Zero.zero S.Calls.calls) next (command.MSlice (S.items_in items))
+    ensures made { Makes ⟦<S as TableUnder<L, A>>⟧.setting next (command.MSlice (S.items_in items))
         passes.old.of_blocks.items (seen_reply S.items_in S.items_in_box B.list result.0) result.1
         passes.new.of_blocks.items }
     ensures room { is_some result.1 ≡ true → has_room ≡ true }
@@ -658,12 +635,9 @@ pub fn make<S: Commands<A>, L: Layout, B: BufferMut<S::Item> + Drop, M: Drop, A:
 where
     L::Writable: LayoutMut,
     S::Small: SmallOf<S, L, B, M, A>,
-    ensures made { Makes (setting_of (layout_facts L.Layout) L.Writable.ANY L.clone_wants S.DROPS
-        S.boundary
-        (type_size S.Item.row) S.Zero.zero S.Calls.calls) next
-        (map_command S.items_in S.static_in B.list command)
-        passes.old.of_blocks.items (seen_reply S.items_in S.items_in_box B.list result.0) result.1
-        passes.new.of_blocks.items }
+    ensures made { Makes ⟦<S as TableUnder<L, A>>⟧.setting next
+        (map_command S.items_in S.static_in B.list command) passes.old.of_blocks.items
+        (seen_reply S.items_in S.items_in_box B.list result.0) result.1 passes.new.of_blocks.items }
     ensures room { is_some result.1 ≡ true → has_room ≡ true }
 {
     match command {

@@ -1,12 +1,11 @@
 //! A small window that a command makes.
 ghost use Rattle.std.specs.Prelude.{◌≡◌, ◌<◌, IfErr, IfOk, Some, true, is_some, length};
-ghost use Rattle.std.specs.Mem.{type_size};
 ghost use Rattle.std.specs.Vec.{vec_capacity};
 ghost use Rattle.arc_block.specs.Inline.{inline_limit};
 ghost use Rattle.arc_block.specs.LayoutFacts.{layout_facts};
 ghost use Rattle.arc_commands.specs.Additions.{Founds};
 ghost use Rattle.arc_commands.specs.Seen.{seen_reply};
-ghost use Rattle.arc_commands.specs.Changes.{setting_of, small_row};
+ghost use Rattle.arc_commands.specs.Changes.{small_row};
 ghost use Rattle.arc_commands.specs.declared.command.Cmd.TheVariants as command;
 ghost use Rattle.arc_makers.specs.Makers.{Makes};
 ghost use Rattle.arc_slots.specs.Slots.{row_of, stand_of};
@@ -15,7 +14,7 @@ use arc_block::layout::{Layout, LayoutMut};
 use arc_buffer::buffer::BufferMut;
 use arc_buffer::kinds::Slice;
 use arc_commands::command::Reply;
-use arc_kinds::kinds::{Commands, SmallOf, Smalls, TableReply, known_small, vec_of};
+use arc_kinds::kinds::{Commands, SmallOf, Smalls, TableReply, TableUnder, known_small, vec_of};
 use arc_owners::error::AllocError;
 use arc_owners::owners::Pass;
 use arc_slots::passes::Passes;
@@ -79,9 +78,7 @@ pub(super) fn over_few<
 where
     L::Writable: LayoutMut,
     S::Small: SmallOf<S, L, B, M, A>,
-    ensures made { Makes (setting_of (layout_facts L.Layout) L.Writable.ANY L.clone_wants S.DROPS
-        S.boundary
-        (type_size S.Item.row) S.Zero.zero S.Calls.calls) next (command.Small (S.items_in items))
+    ensures made { Makes ⟦<S as TableUnder<L, A>>⟧.setting next (command.Small (S.items_in items))
         passes.old.of_blocks.items (seen_reply S.items_in S.items_in_box B.list result.0) result.1
         passes.new.of_blocks.items }
     ensures room { is_some result.1 ≡ true → has_room ≡ true }
