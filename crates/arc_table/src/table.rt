@@ -1,12 +1,13 @@
 //! `Table`, windows by number.
-ghost use Rattle.std.specs.Mem.{FitsInMemory, type_size};
-ghost use Rattle.arc_block.specs.LayoutFacts.{layout_facts};
+ghost use Rattle.std.specs.Mem.{FitsInMemory};
 
 use arc_block::layout::{DefaultLayout, Layout, LayoutMut};
 use arc_buffer::buffer::BufferMut;
 use arc_buffer::kinds::Slice;
 use arc_commands::command::{Cmd, Gives, Reply};
-use arc_kinds::kinds::{CallsOf, Commands, LentReply, SmallOf, TableCmd, TableKind, TableReply};
+use arc_kinds::kinds::{
+    CallsOf, Commands, LentReply, SmallOf, TableCmd, TableKind, TableReply, TableUnder,
+};
 use arc_kinds::place::set_slot;
 use arc_makers::maker::make;
 use arc_slots::command::{answer, drop_at};
@@ -86,7 +87,7 @@ where
     ghost use Rattle.std.specs.Prelude.{◌≡◌, [], None, Some, length, slice_set};
     ghost use Rattle.arc_block.specs.declared.block.TheConstants.{MAX_OWNERS};
     ghost use Rattle.arc_block.specs.Owned.{IsKept};
-    ghost use Rattle.arc_commands.specs.Changes.{no_shortage, setting_of};
+    ghost use Rattle.arc_commands.specs.Changes.{no_shortage};
     ghost use Rattle.arc_commands.specs.Step.{Step, other_of, shortage, window_of};
     ghost use Rattle.arc_commands.specs.Seen.{map_command, seen_by, seen_reply};
     ghost use Rattle.arc_commands.specs.Additions.{Adds};
@@ -135,11 +136,9 @@ where
     #[inline(always)]
     pub fn step(&mut self, rt: &impl Wait, command: TableCmd<S, B, M, A>) -> TableReply<S, B, M, A>
         requires item { FitsInMemory S.Item.row }
-        ensures { CarriesOut (setting_of (layout_facts L.Layout) L.Writable.ANY L.clone_wants
-            S.DROPS S.boundary
-            (type_size S.Item.row) S.Zero.zero S.Calls.calls) self.old
-            (map_command S.items_in S.static_in B.list command) (seen_reply S.items_in
-            S.items_in_box B.list result) self.new }
+        ensures { CarriesOut ⟦<S as TableUnder<L, A>>⟧.setting self.old
+            (map_command S.items_in S.static_in B.list command)
+            (seen_reply S.items_in S.items_in_box B.list result) self.new }
     {
         let reply = self.answer(rt, command);
         self.agree();
@@ -155,11 +154,9 @@ where
         command: TableCmd<S, B, M, A>,
     ) -> TableReply<S, B, M, A>
         requires item { FitsInMemory S.Item.row }
-        ensures { CarriesOut (setting_of (layout_facts L.Layout) L.Writable.ANY L.clone_wants
-            S.DROPS S.boundary
-            (type_size S.Item.row) S.Zero.zero S.Calls.calls) self.old
-            (map_command S.items_in S.static_in B.list command) (seen_reply S.items_in
-            S.items_in_box B.list result) self.new }
+        ensures { CarriesOut ⟦<S as TableUnder<L, A>>⟧.setting self.old
+            (map_command S.items_in S.static_in B.list command)
+            (seen_reply S.items_in S.items_in_box B.list result) self.new }
     {
         let reply = self.answer_here(rt, command);
         self.agree();
@@ -175,14 +172,10 @@ where
         command: TableCmd<S, B, M, A>,
     ) -> TableReply<S, B, M, A>
         requires item { FitsInMemory S.Item.row }
-        ensures rows { Step (setting_of (layout_facts L.Layout) L.Writable.ANY L.clone_wants S.DROPS
-            S.boundary
-            (type_size S.Item.row) S.Zero.zero S.Calls.calls) self.old.table
-            (map_command S.items_in S.static_in B.list command) (seen_reply S.items_in
-            S.items_in_box B.list result) self.new.table }
-        ensures passes { Adds (setting_of (layout_facts L.Layout) L.Writable.ANY L.clone_wants
-            S.DROPS S.boundary
-            (type_size S.Item.row) S.Zero.zero S.Calls.calls) self.old.table self.old.standing
+        ensures rows { Step ⟦<S as TableUnder<L, A>>⟧.setting self.old.table
+            (map_command S.items_in S.static_in B.list command)
+            (seen_reply S.items_in S.items_in_box B.list result) self.new.table }
+        ensures passes { Adds ⟦<S as TableUnder<L, A>>⟧.setting self.old.table self.old.standing
             (map_command S.items_in S.static_in B.list command)
             (seen_reply S.items_in S.items_in_box B.list result) self.new.standing }
     {
@@ -201,14 +194,10 @@ where
     #[inline(never)]
     fn answer(&mut self, rt: &impl Wait, command: TableCmd<S, B, M, A>) -> TableReply<S, B, M, A>
         requires item { FitsInMemory S.Item.row }
-        ensures rows { Step (setting_of (layout_facts L.Layout) L.Writable.ANY L.clone_wants S.DROPS
-            S.boundary
-            (type_size S.Item.row) S.Zero.zero S.Calls.calls) self.old.table
-            (map_command S.items_in S.static_in B.list command) (seen_reply S.items_in
-            S.items_in_box B.list result) self.new.table }
-        ensures passes { Adds (setting_of (layout_facts L.Layout) L.Writable.ANY L.clone_wants
-            S.DROPS S.boundary
-            (type_size S.Item.row) S.Zero.zero S.Calls.calls) self.old.table self.old.standing
+        ensures rows { Step ⟦<S as TableUnder<L, A>>⟧.setting self.old.table
+            (map_command S.items_in S.static_in B.list command)
+            (seen_reply S.items_in S.items_in_box B.list result) self.new.table }
+        ensures passes { Adds ⟦<S as TableUnder<L, A>>⟧.setting self.old.table self.old.standing
             (map_command S.items_in S.static_in B.list command)
             (seen_reply S.items_in S.items_in_box B.list result) self.new.standing }
     {
@@ -238,14 +227,10 @@ where
         command: TableCmd<S, B, M, A>,
     ) -> TableReply<S, B, M, A>
         requires item { FitsInMemory S.Item.row }
-        ensures rows { Step (setting_of (layout_facts L.Layout) L.Writable.ANY L.clone_wants S.DROPS
-            S.boundary
-            (type_size S.Item.row) S.Zero.zero S.Calls.calls) self.old.table
-            (map_command S.items_in S.static_in B.list command) (seen_reply S.items_in
-            S.items_in_box B.list result) self.new.table }
-        ensures passes { Adds (setting_of (layout_facts L.Layout) L.Writable.ANY L.clone_wants
-            S.DROPS S.boundary
-            (type_size S.Item.row) S.Zero.zero S.Calls.calls) self.old.table self.old.standing
+        ensures rows { Step ⟦<S as TableUnder<L, A>>⟧.setting self.old.table
+            (map_command S.items_in S.static_in B.list command)
+            (seen_reply S.items_in S.items_in_box B.list result) self.new.table }
+        ensures passes { Adds ⟦<S as TableUnder<L, A>>⟧.setting self.old.table self.old.standing
             (map_command S.items_in S.static_in B.list command)
             (seen_reply S.items_in S.items_in_box B.list result) self.new.standing }
     {
@@ -274,14 +259,10 @@ where
         requires item { FitsInMemory S.Item.row }
         requires on { window_of (map_command S.items_in S.static_in B.list command) ≡ Some i }
         requires one { other_of (map_command S.items_in S.static_in B.list command) ≡ None }
-        ensures rows { Step (setting_of (layout_facts L.Layout) L.Writable.ANY L.clone_wants S.DROPS
-            S.boundary
-            (type_size S.Item.row) S.Zero.zero S.Calls.calls) self.old.table
-            (map_command S.items_in S.static_in B.list command) (seen_reply S.items_in
-            S.items_in_box B.list result) self.new.table }
-        ensures passes { Adds (setting_of (layout_facts L.Layout) L.Writable.ANY L.clone_wants
-            S.DROPS S.boundary
-            (type_size S.Item.row) S.Zero.zero S.Calls.calls) self.old.table self.old.standing
+        ensures rows { Step ⟦<S as TableUnder<L, A>>⟧.setting self.old.table
+            (map_command S.items_in S.static_in B.list command)
+            (seen_reply S.items_in S.items_in_box B.list result) self.new.table }
+        ensures passes { Adds ⟦<S as TableUnder<L, A>>⟧.setting self.old.table self.old.standing
             (map_command S.items_in S.static_in B.list command)
             (seen_reply S.items_in S.items_in_box B.list result) self.new.standing }
     {
@@ -308,13 +289,9 @@ where
     /// Carries out a `Cmd::Join` of the windows under these numbers, which are two: joined, the
     /// second one is gone.
     fn join(&mut self, i: usize, j: usize) -> TableReply<S, B, M, A>
-        ensures rows { Step (setting_of (layout_facts L.Layout) L.Writable.ANY L.clone_wants S.DROPS
-            S.boundary
-            (type_size S.Item.row) S.Zero.zero S.Calls.calls) self.old.table
-            (command.Join i j) (seen_reply S.items_in S.items_in_box B.list result) self.new.table }
-        ensures passes { Adds (setting_of (layout_facts L.Layout) L.Writable.ANY L.clone_wants
-            S.DROPS S.boundary
-            (type_size S.Item.row) S.Zero.zero S.Calls.calls) self.old.table self.old.standing
+        ensures rows { Step ⟦<S as TableUnder<L, A>>⟧.setting self.old.table (command.Join i j)
+            (seen_reply S.items_in S.items_in_box B.list result) self.new.table }
+        ensures passes { Adds ⟦<S as TableUnder<L, A>>⟧.setting self.old.table self.old.standing
             (command.Join i j) (seen_reply S.items_in S.items_in_box B.list result)
             self.new.standing }
     {
@@ -355,10 +332,7 @@ where
     pub fn end(mut self) -> Passes<A>
         ensures ended { IsKept MAX_OWNERS [] result.of_blocks.items }
         ensures blocks { length result.of_blocks.items ≡ self.table.blocks }
-        ensures passes { EndsWith (setting_of (layout_facts L.Layout) L.Writable.ANY L.clone_wants
-            S.DROPS S.boundary
-            (type_size S.Item.row) S.Zero.zero S.Calls.calls) self
-            result.of_blocks.items }
+        ensures passes { EndsWith ⟦<S as TableUnder<L, A>>⟧.setting self result.of_blocks.items }
     {
         self.release_all();
         let Table {
@@ -378,10 +352,7 @@ where
 
     /// Releases every window that is left, in the order of their numbers.
     fn release_all(&mut self)
-        ensures passes { EndsAll (setting_of (layout_facts L.Layout) L.Writable.ANY L.clone_wants
-            S.DROPS S.boundary
-            (type_size S.Item.row) S.Zero.zero S.Calls.calls) self.old
-            self.new }
+        ensures passes { EndsAll ⟦<S as TableUnder<L, A>>⟧.setting self.old self.new }
         ensures blocks { self.new.table.blocks ≡ self.old.table.blocks }
     {
         for i in 0..self.slots.index.len() {
@@ -394,11 +365,8 @@ where
     /// no memory.
     #[inline(always)]
     pub fn show_in_place(&self, i: usize) -> LentReply<'_, S, B, M, A>
-        ensures carried { CarriesOut (setting_of (layout_facts L.Layout) L.Writable.ANY
-            L.clone_wants S.DROPS S.boundary
-            (type_size S.Item.row) S.Zero.zero S.Calls.calls) self.now
-            (command.Show i) (seen_by (λ items. items.now) S.items_in S.items_in_box B.list result)
-            self.now }
+        ensures carried { CarriesOut ⟦<S as TableUnder<L, A>>⟧.setting self.now (command.Show i)
+            (seen_by (λ items. items.now) S.items_in S.items_in_box B.list result) self.now }
         ensures lent { shortage {T = S.Item} {M = M} (seen_by (λ items. items.now) S.items_in
             S.items_in_box B.list result)
             (command.Show i) ≡ no_shortage }
@@ -419,13 +387,9 @@ where
     /// The end of a window, if one has this number.
     #[inline(always)]
     fn release(&mut self, i: usize) -> TableReply<S, B, M, A>
-        ensures rows { Step (setting_of (layout_facts L.Layout) L.Writable.ANY L.clone_wants S.DROPS
-            S.boundary
-            (type_size S.Item.row) S.Zero.zero S.Calls.calls) self.old.table
-            (command.Drop i) (seen_reply S.items_in S.items_in_box B.list result) self.new.table }
-        ensures passes { Adds (setting_of (layout_facts L.Layout) L.Writable.ANY L.clone_wants
-            S.DROPS S.boundary
-            (type_size S.Item.row) S.Zero.zero S.Calls.calls) self.old.table self.old.standing
+        ensures rows { Step ⟦<S as TableUnder<L, A>>⟧.setting self.old.table (command.Drop i)
+            (seen_reply S.items_in S.items_in_box B.list result) self.new.table }
+        ensures passes { Adds ⟦<S as TableUnder<L, A>>⟧.setting self.old.table self.old.standing
             (command.Drop i) (seen_reply S.items_in S.items_in_box B.list result)
             self.new.standing }
         ensures gone { self.new.table.rows ≡ slice_set self.old.table.rows i None }

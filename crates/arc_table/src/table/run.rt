@@ -1,13 +1,12 @@
 //! A list of commands, carried out one after another.
 ghost use Rattle.std.specs.Prelude.{◌≡◌, map, IfOk, IfErr, IsOk};
-ghost use Rattle.arc_block.specs.LayoutFacts.{layout_facts};
-ghost use Rattle.std.specs.Mem.{FitsInMemory, type_size};
+ghost use Rattle.std.specs.Mem.{FitsInMemory};
 ghost use Rattle.std.specs.Vec.{vec_len};
 
 use super::Table;
 use arc_block::layout::{Layout, LayoutMut};
 use arc_buffer::buffer::BufferMut;
-use arc_kinds::kinds::{Commands, SmallOf, TableCmd, TableReply};
+use arc_kinds::kinds::{Commands, SmallOf, TableCmd, TableReply, TableUnder};
 use arc_owners::error::AllocError;
 use std::alloc::Allocator;
 use std::sync::Wait;
@@ -26,7 +25,6 @@ where
     ghost use Rattle.arc_commands.specs.RunOf.{RunOf};
     ghost use Rattle.arc_commands.specs.Seen.{map_command, seen_reply};
     ghost use Rattle.arc_commands.specs.State.{CarriesOut};
-    ghost use Rattle.arc_commands.specs.Changes.{setting_of};
 
     /// Carries out the commands one after another, each as `step` does, and answers the reply to
     /// each at its place.
@@ -51,9 +49,7 @@ where
     ) -> Result<Vec<TableReply<S, B, M, A>, A>, (Vec<TableCmd<S, B, M, A>, A>, AllocError)>
         requires item { FitsInMemory S.Item.row }
         ensures run { IfOk result (λ replies.
-            RunOf (CarriesOut (setting_of (layout_facts L.Layout) L.Writable.ANY L.clone_wants
-            S.DROPS S.boundary
-            (type_size S.Item.row) S.Zero.zero S.Calls.calls)) self.old
+            RunOf (CarriesOut ⟦<S as TableUnder<L, A>>⟧.setting) self.old
             (map (map_command S.items_in S.static_in B.list) commands.items)
             (map (seen_reply S.items_in S.items_in_box B.list) replies.items)
             self.new) }
