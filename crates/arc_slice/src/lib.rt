@@ -14,19 +14,7 @@ pub use slice::{ArcByteText, ArcBytes, ArcStr};
 
 mod borrow;
 pub mod buffer;
-#[cfg(test)]
-mod editor;
-#[cfg(test)]
-mod encoder;
 pub mod error;
-#[cfg(test)]
-mod frames;
 pub mod inlined;
 pub mod layout;
-#[cfg(test)]
-mod queue;
-#[cfg(test)]
-mod readme;
 mod slice;
-#[cfg(test)]
-mod words;

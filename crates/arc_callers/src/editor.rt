@@ -9,25 +9,25 @@ ghost use Rattle.arc_parts.specs.Window.{IsVecPart};
 ghost use Rattle.arc_buffer.specs.Slice.{edge_answer, range_answer};
 ghost use Rattle.arc_buffer.specs.Text.{is_between_characters};
 ghost use Rattle.arc_owners.specs.declared.error.RangeError.{RangeError};
-ghost use Rattle.arc_slice.specs.declared.editor.PartError.TheVariants.{Range};
+ghost use Rattle.arc_callers.specs.declared.editor.PartError.TheVariants.{Range};
 
-use crate::error::{OwnerError, RangeError, TryReserveError};
-use crate::layout::{DefaultLayout, DefaultLayoutMut};
-use crate::{ArcBytesMut, ArcBytesShared, ArcStr, ArcStrMut, IntoMut};
+use arc_slice::error::{OwnerError, RangeError, TryReserveError};
+use arc_slice::layout::{DefaultLayout, DefaultLayoutMut};
+use arc_slice::{ArcBytesMut, ArcBytesShared, ArcStr, ArcStrMut, IntoMut};
 use std::alloc::Global;
 use std::sync::Wait;
-use std::test::Fail;
 use std::thread::{Threads, join};
 
 /// A text that is written.
 #[derive(Drop)]
-struct Editor {
-    text: ArcStrMut,
+pub struct Editor {
+    /// What is written.
+    pub text: ArcStrMut,
 }
 
 impl Editor {
     /// A string is to be written on, in its own memory. It comes back where memory is refused.
-    fn open(alloc: Global, text: String) -> Result<Self, String>
+    pub fn open(alloc: Global, text: String) -> Result<Self, String>
         ensures opened { IfOk result (λ editor. editor.text.items ≡ string_bytes text) }
         ensures refused { IfErr result (λ back. string_bytes back ≡ string_bytes text) }
     {
@@ -38,7 +38,7 @@ impl Editor {
     }
 
     /// More text behind the end. Where there is no room for it, all is as before.
-    fn write(&mut self, more: &str) -> Result<(), TryReserveError>
+    pub fn write(&mut self, more: &str) -> Result<(), TryReserveError>
         ensures written { OnOk result (self.new.text.items ≡ self.old.text.items ++ more.now) }
         ensures refused { OnErr result (self.new.text ≡ self.old.text) }
     {
@@ -46,7 +46,7 @@ impl Editor {
     }
 
     /// Takes away what stands behind `end`, where that is between two characters.
-    fn cut_back(&mut self, end: usize) -> Result<(), RangeError>
+    pub fn cut_back(&mut self, end: usize) -> Result<(), RangeError>
         ensures answer { result ≡ edge_answer is_between_characters self.old.text.items end }
         ensures cut { OnOk result (self.new.text.items ≡ take end self.old.text.items) }
         ensures refused { OnErr result (self.new.text ≡ self.old.text) }
@@ -59,7 +59,7 @@ impl Editor {
     }
 
     /// The text, to be shown from now on.
-    fn show(self) -> Page
+    pub fn show(self) -> Page
         ensures { result.text.items ≡ self.text.items }
     {
         let Ok(text) = self.text.try_freeze::<DefaultLayout>() else {
@@ -69,7 +69,7 @@ impl Editor {
     }
 
     /// The text as a string, where it stands on one; else the editor comes back.
-    fn close(self) -> Result<String, Self>
+    pub fn close(self) -> Result<String, Self>
         ensures closed { IfOk result (λ text. string_bytes text ≡ self.text.items) }
         ensures refused { IfErr result (λ back. (back.text ≡ self.text)
             × (¬ IsVecPart false self.text.items self.text.place)) }
@@ -83,7 +83,7 @@ impl Editor {
 
 /// Why a part isn't handed out.
 #[derive(Debug, Drop, PartialEq, Eq)]
-enum PartError {
+pub enum PartError {
     /// It is no range of the text.
     Range(RangeError),
     /// There is no owner more.
@@ -92,13 +92,14 @@ enum PartError {
 
 /// A text that is shown, of which others may have parts.
 #[derive(Drop)]
-struct Page {
-    text: ArcStr,
+pub struct Page {
+    /// What is shown.
+    pub text: ArcStr,
 }
 
 impl Page {
     /// The text from `start` to `end`, for a reader, as a window on the same block.
-    fn part(&self, rt: &impl Wait, start: usize, end: usize) -> Result<ArcStr, PartError>
+    pub fn part(&self, rt: &impl Wait, start: usize, end: usize) -> Result<ArcStr, PartError>
         ensures part { IfOk result (λ part.
             part.items ≡ slice_range self.now.text.items start end) }
         ensures range { (e : RangeError) → (result ≡ Err (Range e))
@@ -114,7 +115,7 @@ impl Page {
     }
 
     /// The text, to be written again, where no part of it lives any more; else the page comes back.
-    fn edit(self) -> Result<Editor, Self>
+    pub fn edit(self) -> Result<Editor, Self>
         ensures edited { IfOk result (λ editor. editor.text.items ≡ self.text.items) }
         ensures refused { IfErr result (λ page. page.text ≡ self.text) }
     {
@@ -153,7 +154,7 @@ fn write_at_once(
 }
 
 /// Two texts of one length, one behind the other, which two threads wrote at once on one block.
-fn written_by_two<R: Threads + Wait>(
+pub fn written_by_two<R: Threads + Wait>(
     rt: &R,
     alloc: Global,
     first: &str,
@@ -171,43 +172,4 @@ fn written_by_two<R: Threads + Wait>(
     front.try_unsplit(back).ok()?;
     let bytes = front.try_into_unique().ok()?;
     ArcStrMut::try_from_arc_slice_mut(bytes).ok()
-}
-
-/// Two authors, each with a part of the page.
-#[test]
-fn text_of_two(rt: HostRuntime) -> Result<(), Fail> {
-    let Some(text) = written_by_two(&rt, rt.alloc(), "Grüß ", "dich") else {
-        return Err("no memory".into());
-    };
-    assert!(rt; text.as_str() == "Grüß dich");
-    Ok(())
-}
-
-#[test]
-fn text_edited(rt: HostRuntime) -> Result<(), Fail> {
-    let start = String::from_str(rt.alloc(), "Grüß")?;
-    let Ok(mut editor) = Editor::open(rt.alloc(), start) else {
-        return Err("no memory".into());
-    };
-    editor.write(" dich")?;
-    assert!(rt; editor.cut_back(3) == Err(RangeError::NotBoundary));
-    let page = editor.show();
-    let Ok(part) = page.part(&rt, 0, 6) else {
-        return Err("no part".into());
-    };
-    let Err(page) = page.edit() else {
-        return Err("though a part lives".into());
-    };
-    assert!(rt; part.as_str() == "Grüß");
-    drop(part);
-    let Ok(mut editor) = page.edit() else {
-        return Err("though no part lives".into());
-    };
-    assert!(rt; editor.cut_back(6) == Ok(()));
-    editor.write(" Gott")?;
-    let Ok(text) = editor.close() else {
-        return Err("no string".into());
-    };
-    assert!(rt; text.as_str() == "Grüß Gott");
-    Ok(())
 }

@@ -3,19 +3,18 @@
 ghost use Rattle.std.specs.Prelude.{◌≡◌, ◌≤◌, ◌+◌, ◌++◌, ◌∷◌, ◌↔◌, [], length, IfOk, OnOk, OnErr};
 ghost use Rattle.std.specs.Prelude.{Err};
 ghost use Rattle.arc_parts.specs.Writers.{capacity_of};
-ghost use Rattle.arc_slice.specs.Frames.{IsFrame, IsAppended};
-ghost use Rattle.arc_slice.specs.declared.encoder.EncodeError.TheVariants.{TooLong};
+ghost use Rattle.arc_callers.specs.Frames.{IsFrame, IsAppended};
+ghost use Rattle.arc_callers.specs.declared.encoder.EncodeError.TheVariants.{TooLong};
 
-use crate::error::{OwnerError, TryReserveError};
-use crate::layout::DefaultLayout;
-use crate::{ArcBytes, ArcBytesMut};
+use arc_slice::error::{OwnerError, TryReserveError};
+use arc_slice::layout::DefaultLayout;
+use arc_slice::{ArcBytes, ArcBytesMut};
 use std::alloc::Global;
 use std::sync::Wait;
-use std::test::Fail;
 
 /// Why frames aren't written.
 #[derive(Debug, Drop, PartialEq, Eq)]
-enum EncodeError {
+pub enum EncodeError {
     /// A payload is longer than two bytes tell.
     TooLong,
     /// There is no room for a frame.
@@ -72,7 +71,7 @@ fn extend_within(buffer: &mut ArcBytesMut, bytes: &[u8])
 
 /// The frames of two payloads, as windows on one block.
 #[tactic(auto, using(crate::proofs::Encoded::front_framed, crate::proofs::Encoded::back_framed))]
-fn encode(
+pub fn encode(
     rt: &impl Wait,
     alloc: Global,
     first: &[u8],
@@ -92,16 +91,4 @@ fn encode(
         Ok(back) => Ok((front, back)),
         Err(e) => Err(EncodeError::Owner(e)),
     }
-}
-
-#[test]
-fn frames_handed_out(rt: HostRuntime) -> Result<(), Fail> {
-    let Ok((first, second)) = encode(&rt, rt.alloc(), b"Hello", b"") else {
-        return Err("not encoded".into());
-    };
-    assert!(rt; first.as_slice() == b"\x00\x05Hello".as_slice());
-    assert!(rt; second.as_slice() == b"\x00\x00".as_slice());
-    drop(first);
-    assert!(rt; second.is_unique());
-    Ok(())
 }

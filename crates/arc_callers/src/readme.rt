@@ -1,12 +1,11 @@
 //! The example of README.md.
 
-use crate::ArcBytes;
-use crate::error::OwnerError;
+use arc_slice::ArcBytes;
+use arc_slice::error::OwnerError;
 use std::alloc::Global;
 use std::sync::Wait;
-use std::test::Fail;
 
-fn hello(rt: &impl Wait, alloc: Global) -> Result<bool, OwnerError> {
+pub fn hello(rt: &impl Wait, alloc: Global) -> Result<bool, OwnerError> {
     let text: ArcBytes = ArcBytes::try_from_slice(alloc, b"Hello world")?;
     if let Err(_) = text.check_range(0, 5) {
         return Ok(false);
@@ -14,10 +13,4 @@ fn hello(rt: &impl Wait, alloc: Global) -> Result<bool, OwnerError> {
     let front = text.try_subslice(rt, 0, 5)?;
     drop(text);
     Ok(front.as_slice() == b"Hello".as_slice())
-}
-
-#[test]
-fn hello_is_read(rt: HostRuntime) -> Result<(), Fail> {
-    assert!(rt; hello(&rt, rt.alloc())?);
-    Ok(())
 }

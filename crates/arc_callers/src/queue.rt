@@ -2,24 +2,25 @@
 //! buffer's vector is had back when they have ended theirs. No byte is copied.
 ghost use Rattle.std.specs.Prelude.{◌≡◌, ◌≤◌, ◌+◌, take, drop, length, IfOk, IfErr, OnErr};
 
-use crate::ArcBytes;
-use crate::error::OwnerError;
+use arc_slice::ArcBytes;
+use arc_slice::error::OwnerError;
 use std::alloc::Global;
 use std::sync::Wait;
-use std::test::Fail;
 use std::thread::{self, Threads};
 
 /// A buffer whose parts are handed out from its front on.
 #[derive(Drop)]
-struct Queue {
-    whole: ArcBytes,
-    next: usize,
+pub struct Queue {
+    /// All of the buffer.
+    pub whole: ArcBytes,
+    /// How many bytes were handed out.
+    pub next: usize,
     ghost within: { next ≤ length whole.items },
 }
 
 impl Queue {
     /// All of a vector is to be handed out. The vector comes back where memory is refused.
-    fn new(alloc: Global, bytes: Vec<u8>) -> Result<Self, Vec<u8>>
+    pub fn new(alloc: Global, bytes: Vec<u8>) -> Result<Self, Vec<u8>>
         ensures made { IfOk result (λ queue. (queue.whole.items ≡ bytes.items)
             × (queue.next ≡ 0)) }
     {
@@ -30,7 +31,7 @@ impl Queue {
     }
 
     /// The next bytes, so many or those that are left, as a window on the same block.
-    fn take(&mut self, rt: &impl Wait, most: usize) -> Result<ArcBytes, OwnerError>
+    pub fn take(&mut self, rt: &impl Wait, most: usize) -> Result<ArcBytes, OwnerError>
         ensures taken { IfOk result (λ part.
             (part.items ≡ take most (drop self.old.next self.old.whole.items))
             × (self.new.next ≡ self.old.next + length part.items)) }
@@ -45,7 +46,7 @@ impl Queue {
     }
 
     /// The vector, where no part of it lives any more; else the queue comes back.
-    fn into_buffer(self) -> Result<Vec<u8>, Self>
+    pub fn into_buffer(self) -> Result<Vec<u8>, Self>
         ensures buffer { IfOk result (λ bytes. bytes.items ≡ self.whole.items) }
         ensures parts { IfErr result (λ back. (back.whole ≡ self.whole)
             × (back.next ≡ self.next)) }
@@ -59,25 +60,6 @@ impl Queue {
 }
 
 /// How many bytes two threads have of two parts, which they end.
-fn lengths(rt: &impl Threads, first: ArcBytes, second: ArcBytes) -> (usize, usize) {
+pub fn lengths(rt: &impl Threads, first: ArcBytes, second: ArcBytes) -> (usize, usize) {
     thread::join(rt, move || first.len(), move || second.len())
-}
-
-#[test]
-fn buffer_had_back(rt: HostRuntime) -> Result<(), Fail> {
-    let bytes = Vec::from_slice(rt.alloc(), b"Hello world")?;
-    let Ok(mut queue) = Queue::new(rt.alloc(), bytes) else {
-        return Err("no memory".into());
-    };
-    let first = queue.take(&rt, 6)?;
-    let second = queue.take(&rt, 6)?;
-    let Err(queue) = queue.into_buffer() else {
-        return Err("though parts live".into());
-    };
-    assert!(rt; lengths(&rt, first, second) == (6, 5));
-    let Ok(bytes) = queue.into_buffer() else {
-        return Err("though no part lives".into());
-    };
-    assert!(rt; bytes.as_slice() == b"Hello world".as_slice());
-    Ok(())
 }

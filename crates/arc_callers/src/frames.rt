@@ -1,16 +1,15 @@
 //! An example: a codec of frames, each a payload behind two bytes of its length. Frames are taken
 //! off a buffer without a copy.
 ghost use Rattle.std.specs.Prelude.{◌≡◌, IfErr, IfOk, OnErr, MatchOption};
-ghost use Rattle.arc_slice.specs.Frames.{IsFrame, HasNoFrame, EndsAt};
+ghost use Rattle.arc_callers.specs.Frames.{IsFrame, HasNoFrame, EndsAt};
 
-use crate::ArcBytes;
-use crate::error::OwnerError;
+use arc_slice::ArcBytes;
+use arc_slice::error::OwnerError;
 use std::alloc::Global;
 use std::sync::Wait;
-use std::test::Fail;
 
 /// The bytes that were received, to take frames off. The vector comes back where memory is refused.
-fn receive(alloc: Global, received: Vec<u8>) -> Result<ArcBytes, Vec<u8>>
+pub fn receive(alloc: Global, received: Vec<u8>) -> Result<ArcBytes, Vec<u8>>
     ensures made { IfOk result (λ buffer. buffer.items ≡ received.items) }
     ensures refused { IfErr result (λ back. back.items ≡ received.items) }
 {
@@ -22,7 +21,7 @@ fn receive(alloc: Global, received: Vec<u8>) -> Result<ArcBytes, Vec<u8>>
 
 /// The bytes that are left, in the vector that was received: where all frames that were taken off
 /// have ended. Else the buffer comes back.
-fn into_rest(buffer: ArcBytes) -> Result<Vec<u8>, ArcBytes>
+pub fn into_rest(buffer: ArcBytes) -> Result<Vec<u8>, ArcBytes>
     ensures rest { IfOk result (λ rest. rest.items ≡ buffer.items) }
     ensures refused { IfErr result (λ back. back ≡ buffer) }
 {
@@ -49,7 +48,7 @@ fn frame_end(bytes: &[u8]) -> Option<usize>
 
 /// Takes the payload of the first frame off a buffer, as a window on the same block. Where the
 /// buffer has no whole frame it is as before, and so it is where a window is refused.
-fn take_frame(rt: &impl Wait, buffer: &mut ArcBytes) -> Result<Option<ArcBytes>, OwnerError>
+pub fn take_frame(rt: &impl Wait, buffer: &mut ArcBytes) -> Result<Option<ArcBytes>, OwnerError>
     ensures taken { IfOk result (λ frame. MatchOption frame
         (HasNoFrame buffer.old.items × (buffer.new ≡ buffer.old))
         (λ payload. IsFrame buffer.old.items payload.items buffer.new.items)) }
@@ -61,32 +60,4 @@ fn take_frame(rt: &impl Wait, buffer: &mut ArcBytes) -> Result<Option<ArcBytes>,
     let mut frame = buffer.try_split_to(rt, end)?;
     frame.advance(2);
     Ok(Some(frame))
-}
-
-#[test]
-fn frames_taken_off(rt: HostRuntime) -> Result<(), Fail> {
-    let received = Vec::from_slice(rt.alloc(), b"\x00\x05Hello\x00\x00\x01\x00short")?;
-    let Ok(mut buffer) = receive(rt.alloc(), received) else {
-        return Err("no buffer".into());
-    };
-    let Some(first) = take_frame(&rt, &mut buffer)? else {
-        return Err("no first frame".into());
-    };
-    let Some(second) = take_frame(&rt, &mut buffer)? else {
-        return Err("no second frame".into());
-    };
-    assert!(rt; first.as_slice() == b"Hello".as_slice());
-    assert!(rt; second.is_empty());
-    assert!(rt; take_frame(&rt, &mut buffer)?.is_none());
-    let Err(buffer) = into_rest(buffer) else {
-        return Err("the first frame lost its block".into());
-    };
-    assert!(rt; first.as_slice() == b"Hello".as_slice());
-    drop(first);
-    drop(second);
-    let Ok(rest) = into_rest(buffer) else {
-        return Err("not had back".into());
-    };
-    assert!(rt; rest.as_slice() == b"\x01\x00short".as_slice());
-    Ok(())
 }

@@ -2,13 +2,16 @@
 //! found by search, as are those of the functions below it.
 ghost use Rattle.std.specs.Prelude.{◌≡◌, ◌<◌, ◌++◌, ◌∷◌, [], length, IfOk, slice_index_or};
 
-use crate::error::OwnerError;
-use crate::{ArcBytes, ArcStr};
+use arc_slice::error::OwnerError;
+use arc_slice::{ArcBytes, ArcStr};
 use std::sync::Wait;
-use std::test::Fail;
 
 /// What is in front of the byte at `at`, and what is behind it.
-fn cut_at(rt: &impl Wait, line: &ArcBytes, at: usize) -> Result<(ArcBytes, ArcBytes), OwnerError>
+pub fn cut_at(
+    rt: &impl Wait,
+    line: &ArcBytes,
+    at: usize,
+) -> Result<(ArcBytes, ArcBytes), OwnerError>
     requires { at < length line.now.items }
     ensures { IfOk result (λ words. line.now.items
         ≡ words.0.items ++ slice_index_or line.now.items at 0 ∷ words.1.items) }
@@ -19,19 +22,8 @@ fn cut_at(rt: &impl Wait, line: &ArcBytes, at: usize) -> Result<(ArcBytes, ArcBy
 }
 
 /// All of the text, which is left empty.
-fn take_all(rt: &impl Wait, text: &mut ArcStr) -> Result<ArcStr, OwnerError>
+pub fn take_all(rt: &impl Wait, text: &mut ArcStr) -> Result<ArcStr, OwnerError>
     ensures { IfOk result (λ all. (all.items ≡ text.old.items) × (text.new.items ≡ [])) }
 {
     text.try_split_off(rt, 0)
-}
-
-#[test]
-fn line_cut(rt: HostRuntime) -> Result<(), Fail> {
-    let line = ArcBytes::try_from_slice(rt.alloc(), b"Hello world")?;
-    let (front, back) = cut_at(&rt, &line, 5)?;
-    assert!(rt; front.as_slice() == b"Hello".as_slice() && back.as_slice() == b"world".as_slice());
-    let mut text = ArcStr::try_from_str(rt.alloc(), "Hello")?;
-    let all = take_all(&rt, &mut text)?;
-    assert!(rt; all.as_str() == "Hello" && text.is_empty());
-    Ok(())
 }

@@ -3,7 +3,7 @@ use Rattle.std.proofs.Common.{◌≡◌, ℕ, ◌+◌, ◌-◌, ◌*◌, ◌<◌
 use Rattle.std.proofs.Common.{drop, slice_index_or, sym, ap, ◌∙◌, arith}
 use Rattle.std.proofs.lemmas.List.{length-append, take-append-drop, length-take-le, drop-take}
 use Rattle.std.proofs.lemmas.List.{drop-drop}
-use Rattle.arc_slice.specs.Frames.{HasNoFrame, EndsAt}
+use Rattle.arc_callers.specs.Frames.{HasNoFrame, EndsAt}
 
 -- how long the first frame's payload is, by its two bytes
 abbrev pub size_told : List ℕ → ℕ

@@ -8,7 +8,7 @@ use Rattle.std.proofs.lemmas.List.{drop-append-le}
 use Rattle.arc_parts.specs.declared.room.Room.TheVariants.{Spare}
 use Rattle.arc_block.specs.Table.{RowOf}
 use Rattle.arc_parts.specs.Writers.{room, room_at, capacity_of}
-use Rattle.arc_slice.specs.Frames.{IsFrame, IsAppended}
+use Rattle.arc_callers.specs.Frames.{IsFrame, IsAppended}
 
 -- where there are places enough, room is spare
 pub room_spare : {N T M : Type 0} → (drops : Bool) (first size : ℕ) (row : RowOf N T M) (n : ℕ)
