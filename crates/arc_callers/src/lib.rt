@@ -1,10 +1,25 @@
-//! Callers of windows: a codec of frames, a queue over threads, an editor, and the examples of the
-//! documents.
+//! Callers of the public calls of windows, each at least once at a concrete type: that it can be
+//! called, and what is known then, is proved. And whole examples: a codec, a queue, an editor.
 #![tactic(auto)]
 
+pub mod adapters;
+pub mod borrows;
+pub mod buffers;
 pub mod editor;
 pub mod encoder;
 pub mod frames;
+pub mod generic;
+pub mod layouts;
+pub mod owners;
+pub mod page;
 pub mod queue;
+pub mod reader_passes;
+pub mod readers;
 pub mod readme;
+pub mod several_passes;
+pub mod several_writers;
+pub mod small;
+pub mod taking_back;
 pub mod words;
+pub mod writer_passes;
+pub mod writers;

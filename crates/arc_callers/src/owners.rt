@@ -1,0 +1,120 @@
+//! The count of a block's owners: owners are made and end, and are told whether they are alone; and
+//! a value that its owners share.
+ghost use Rattle.std.specs.Prelude.{◌≡◌, [], ◌∷◌, IfOk, IfErr};
+ghost use Rattle.arc_owners.specs.declared.history.entry.Entry.TheVariants.{Up, Full, Down};
+ghost use Rattle.arc_owners.specs.count.Calls.{seen, mine};
+ghost use Rattle.arc_owners.specs.memory.Boxes.{value_of};
+ghost use Rattle.arc_owners.specs.memory.SoleBoxes.{sole_in, sole_value};
+
+use arc_owners::error::CountFull;
+use arc_owners::mark::{Open, Whole};
+use arc_owners::owners::{CountedBox, Owners, Pass, Release, SoleBox};
+use std::alloc::Global;
+use std::sync::Wait;
+
+/// The replies where the word counts three owners at most: two are made, a third is refused, the
+/// second one made is released, not as the last, and then there is room again. No other reply can
+/// come, and the history is exactly this.
+pub fn worked_run<R: Wait>(rt: &R) -> Pass<Whole>
+    ensures seen { seen result ≡ Up 0 1 ∷ Up 0 2 ∷ Full 0 ∷ Down 2 ∷ Up 0 3 ∷ [] }
+    ensures made { mine result ≡ Up 0 1 ∷ Up 0 2 ∷ Full 0 ∷ Down 2 ∷ Up 0 3 ∷ [] }
+{
+    let (owners, first, mut pass) = Owners::<3, Whole>::new();
+    let Ok(_second) = owners.up_as(rt, &first, &mut pass) else {
+        unreachable!()
+    };
+    let Ok(third) = owners.up_as(rt, &first, &mut pass) else {
+        unreachable!()
+    };
+    let Err(CountFull) = owners.up_as(rt, &first, &mut pass) else {
+        unreachable!()
+    };
+    let Release::NotLast = owners.down_as(third, &mut pass) else {
+        unreachable!()
+    };
+    let Ok(_fourth) = owners.up_as(rt, &first, &mut pass) else {
+        unreachable!()
+    };
+    pass
+}
+
+/// Two passes of one block: what the second has seen goes into the first, which is answered.
+pub fn learnt() -> Pass<Open> {
+    let (owners, first, mut one) = Owners::<3, Open>::new();
+    let mut two = first.pass();
+    owners.alone_as(&first, &mut two);
+    owners.learn(&mut one, &two);
+    let mut three = owners.pass(&first);
+    three.learn(&one);
+    three.attest();
+    two.show();
+    three
+}
+
+/// A block whose first owner has it to itself, lends it, and has it back to end it. Whether it was
+/// alone in between.
+pub fn lent_and_ended() -> bool {
+    let (owners, sole, mut pass) = Owners::<3, Whole>::new_sole();
+    sole.only(&mut pass);
+    let first = sole.lend();
+    match owners.claim_as(first, &mut pass) {
+        Ok((sole, _)) => {
+            sole.end_as(&mut pass);
+            true
+        }
+        Err(_) => false,
+    }
+}
+
+/// A value in memory of its own, or the value back where memory is refused.
+pub fn shared(alloc: Global, value: u64) -> Result<CountedBox<u64, Global, 3, Open>, u64>
+    ensures value { IfOk result (λ owner. value_of owner ≡ value) }
+    ensures back { IfErr result (λ back. back ≡ value) }
+{
+    match CountedBox::new(alloc, value) {
+        Ok((owner, _)) => Ok(owner),
+        Err(value) => Err(value),
+    }
+}
+
+/// What two owners of a value get at their ends.
+pub fn ended_by_two(
+    rt: &impl Wait,
+    first: CountedBox<u64, Global, 3, Open>,
+) -> Result<[Option<u64>; 2], CountFull> {
+    let mut pass = first.pass();
+    let second = first.try_clone_as(rt, &mut pass)?;
+    let early = first.release_as(&mut pass);
+    let mut other = second.pass();
+    second.learn(&mut other, &pass);
+    Ok([early, second.release_as(&mut other)])
+}
+
+/// The value, where nobody else shares it.
+pub fn taken_out(
+    owner: CountedBox<u64, Global, 3, Open>,
+) -> Result<u64, CountedBox<u64, Global, 3, Open>>
+    ensures value { IfOk result (λ value. value ≡ value_of owner) }
+    ensures back { IfErr result (λ back. value_of back ≡ value_of owner) }
+{
+    let mut pass = owner.pass();
+    owner.try_into_value_as(&mut pass)
+}
+
+/// Writes another value, which its only owner has.
+pub fn set(sole: &mut SoleBox<u64, Global, 3, Open>, value: u64)
+    ensures value { sole_value sole.new ≡ value }
+    ensures owner { sole_in sole.new ≡ sole_in sole.old }
+{
+    *sole.get_mut() = value;
+}
+
+/// A value of its only owner, written and taken out again.
+pub fn written_and_taken(alloc: Global, value: u64) -> u64 {
+    let Ok((mut sole, mut pass)) = SoleBox::<u64, _, 3, Open>::new(alloc, 0) else {
+        return value;
+    };
+    sole.only(&mut pass);
+    set(&mut sole, value);
+    sole.into_value_as(&mut pass)
+}

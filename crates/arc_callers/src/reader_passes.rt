@@ -1,0 +1,169 @@
+//! Calls of readers with a pass of the window's block, in which contracts see what they add to the
+//! history of its owners. Each goes on where the last one ended; the plain forms take a new pass.
+ghost use Rattle.std.specs.Prelude.{◌≡◌, ◌≤◌, ◌++◌, length, IfOk, IfErr};
+ghost use Rattle.std.specs.Box.{boxed_slice_items};
+ghost use Rattle.arc_owners.specs.count.Calls.{IsPassOfNone};
+
+use arc_slice::buffer::Plain;
+use arc_slice::error::{AllocError, OwnerError};
+use arc_slice::layout::{DefaultLayout, DefaultLayoutMut, VecLayout};
+use arc_slice::{ArcBytes, ArcBytesMut, ArcSlice, ArcStr, IntoMut, Open, Pass, Whole};
+use std::alloc::Global;
+use std::boxed::BoxedSlice;
+use std::sync::{Arc, Wait};
+
+/// Windows of a block that has one pass, which has seen all of its history.
+pub type WholeBytes = ArcBytes<DefaultLayout, Vec<u8>, (), Global, Whole>;
+
+/// Windows over vectors with a name beside them.
+pub type Named = ArcBytes<DefaultLayout, Vec<u8>, u64>;
+
+/// A new pass of the window's block, which has learnt what another one has seen.
+pub fn learnt(window: &ArcBytes) -> Pass<Open> {
+    let mut pass = window.pass();
+    let other = window.pass();
+    window.learn(&mut pass, &other);
+    pass
+}
+
+/// Calls on windows that stand on no block leave the pass as it was.
+pub fn called_on_no_block(
+    rt: &impl Wait,
+    alloc: Global,
+    pass: Pass<Open>,
+) -> Result<Pass<Open>, OwnerError>
+    requires { IsPassOfNone pass }
+    ensures { IfOk result (λ after. after ≡ pass) }
+{
+    let mut pass = pass;
+    let none: ArcSlice<Plain<u32>> = ArcSlice::new(alloc);
+    let clone = none.try_clone_as(rt, &mut pass)?;
+    none.release_as(&mut pass);
+    clone.drop_with_unique_hint_as(&mut pass);
+    Ok(pass)
+}
+
+/// A copy that asks whether it is alone, and lets its block go.
+pub fn copied(alloc: Global, bytes: &[u8]) -> Result<bool, AllocError> {
+    let mut pass = Pass::none();
+    match ArcBytes::<DefaultLayout>::try_from_slice_as(alloc, bytes, &mut pass) {
+        Ok(window) => {
+            let is_alone = window.is_unique_as(&mut pass);
+            window.let_go();
+            Ok(is_alone)
+        }
+        Err(e) => Err(e),
+    }
+}
+
+/// A text under the layout of vectors.
+pub fn text(alloc: Global, text: &str) -> Option<ArcStr<VecLayout>> {
+    let mut pass = Pass::none();
+    match ArcStr::<DefaultLayout>::try_from_str_as(alloc, text, &mut pass) {
+        Ok(window) => window.try_with_layout_as::<VecLayout>(&mut pass).ok(),
+        Err(_) => None,
+    }
+}
+
+/// An array, moved in and out. Under `Whole` a window that is dropped is forgotten, so what isn't
+/// taken out is released.
+pub fn array(alloc: Global, bytes: [u8; 2]) -> Result<[u8; 2], WholeBytes>
+    ensures { IfOk result (λ back. back ≡ bytes) }
+{
+    let mut pass = Pass::none();
+    match WholeBytes::try_from_array_as(alloc, bytes, &mut pass) {
+        Ok(window) => window.try_into_array_as(&mut pass),
+        Err(bytes) => Ok(bytes),
+    }
+}
+
+/// A vector, moved in and out.
+pub fn vector(alloc: Global, bytes: Vec<u8>) -> Result<Vec<u8>, ArcBytes>
+    ensures { IfOk result (λ back. back.items ≡ bytes.items) }
+{
+    let mut pass = Pass::none();
+    match ArcBytes::try_from_vec_as(alloc, bytes, &mut pass) {
+        Ok(window) => window.try_into_vec_as(&mut pass),
+        Err(bytes) => Ok(bytes),
+    }
+}
+
+/// A box, moved in and out.
+pub fn boxed(alloc: Global, bytes: BoxedSlice<u8>) -> Result<BoxedSlice<u8>, ArcBytes>
+    ensures { IfOk result (λ back. boxed_slice_items back ≡ boxed_slice_items bytes) }
+{
+    let mut pass = Pass::none();
+    match ArcBytes::try_from_boxed_as(alloc, bytes, &mut pass) {
+        Ok(window) => window.try_into_boxed_as(&mut pass),
+        Err(bytes) => Ok(bytes),
+    }
+}
+
+/// A vector as a caller's buffer, moved in and out.
+pub fn buffer(alloc: Global, bytes: Vec<u8>) -> Result<Vec<u8>, ArcBytes>
+    ensures { IfOk result (λ back. back.items ≡ bytes.items) }
+{
+    let mut pass = Pass::none();
+    match ArcBytes::try_from_buffer_as(alloc, bytes, &mut pass) {
+        Ok(window) => window.try_into_buffer_as(&mut pass),
+        Err(bytes) => Ok(bytes),
+    }
+}
+
+/// The same with a name beside it.
+pub fn named(alloc: Global, bytes: Vec<u8>, name: u64) -> Result<Named, (Vec<u8>, u64)>
+    ensures { IfErr result (λ back. back.1 ≡ name) }
+{
+    let mut pass = Pass::none();
+    Named::try_from_buffer_with_metadata_as(alloc, bytes, name, &mut pass)
+}
+
+/// A vector behind an `Arc`, moved in and out.
+pub fn arc(alloc: Global, shared: Arc<Vec<u8>>) -> Result<Arc<Vec<u8>>, ArcBytes> {
+    let mut pass = Pass::none();
+    match ArcBytes::try_from_raw_buffer_as(alloc, shared, &mut pass) {
+        Ok(window) => window.try_into_raw_buffer_as(&mut pass),
+        Err(shared) => Ok(shared),
+    }
+}
+
+/// The first four bytes as a window, and the rest as one, by way of a part that is borrowed.
+pub fn parts(
+    rt: &impl Wait,
+    window: &ArcBytes,
+) -> (Result<ArcBytes, OwnerError>, Result<ArcBytes, OwnerError>)
+    requires { 4 ≤ length window.now.items }
+{
+    let mut pass = window.pass();
+    let part = window.try_subslice_as(rt, 0, 4, &mut pass);
+    let mut pass = window.pass();
+    let end = window.len();
+    (part, window.borrow(4, end).try_clone_arc_as(rt, &mut pass))
+}
+
+/// Hands out the back of a window.
+pub fn back_given(rt: &impl Wait, window: &mut ArcBytes) -> Result<ArcBytes, OwnerError>
+    requires { 4 ≤ length window.old.items }
+    ensures { IfOk result (λ back. window.old.items ≡ window.new.items ++ back.items) }
+{
+    let mut pass = window.pass();
+    window.try_split_off_as(rt, 4, &mut pass)
+}
+
+/// Hands out the front of a window.
+pub fn front_given(rt: &impl Wait, window: &mut ArcBytes) -> Result<ArcBytes, OwnerError>
+    requires { 4 ≤ length window.old.items }
+    ensures { IfOk result (λ front. window.old.items ≡ front.items ++ window.new.items) }
+{
+    let mut pass = window.pass();
+    window.try_split_to_as(rt, 4, &mut pass)
+}
+
+/// A window that is to be written again, where no other lives.
+pub fn writable(window: ArcBytes) -> Result<ArcBytesMut, ArcBytes>
+    ensures writer { IfOk result (λ writer. writer.items ≡ window.items) }
+    ensures reader { IfErr result (λ back. back ≡ window) }
+{
+    let mut pass = window.pass();
+    window.try_into_mut_as::<DefaultLayoutMut>(&mut pass)
+}

@@ -1,0 +1,258 @@
+//! Short lists of bytes that lie in a value of their own, and windows that are such a list or a
+//! window that is read.
+ghost use Rattle.std.specs.Prelude.{◌≡◌, ◌≤◌, [], length, drop, take, slice_range};
+ghost use Rattle.std.specs.Prelude.{IfOk, IfErr, IfSome, OnOk};
+ghost use Rattle.arc_block.specs.Place.{static_data};
+ghost use Rattle.arc_block.specs.Table.{reader};
+
+use arc_slice::error::{AllocError, OwnerError, RangeError};
+use arc_slice::inlined::{
+    SmallArcBytes, SmallArcSlice, SmallArcStr, SmallBytes, SmallSlice, SmallStr,
+};
+use arc_slice::layout::DefaultLayout;
+use arc_slice::{ArcBytes, Pass};
+use either::{Left, Right};
+use std::alloc::Global;
+use std::boxed::BoxedSlice;
+use std::sync::Wait;
+
+/// No bytes, and these bytes and this text, where they are short enough.
+pub fn short(bytes: &[u8], text: &str) -> (SmallBytes, Option<SmallBytes>, Option<SmallStr>)
+    ensures empty { result.0.items ≡ [] }
+    ensures bytes { IfSome result.1 (λ small. small.items ≡ bytes.now) }
+    ensures text { IfSome result.2 (λ small. small.items ≡ text.now) }
+{
+    (
+        SmallSlice::empty(),
+        SmallSlice::new(bytes),
+        SmallSlice::new_str(text),
+    )
+}
+
+/// How many bytes there are and which; whether there are none, and the text.
+pub fn short_seen<'a>(small: &'a SmallBytes, text: &'a SmallStr) -> (usize, &'a [u8], bool, &'a str)
+    ensures bytes { result.1.now ≡ small.now.items }
+    ensures text { result.3.now ≡ text.now.items }
+{
+    (
+        small.len(),
+        small.as_slice(),
+        text.is_empty(),
+        text.as_str(),
+    )
+}
+
+/// The bytes from `start` to `end`, as a list of its own.
+pub fn short_part(small: &SmallBytes, start: usize, end: usize) -> Result<SmallBytes, RangeError>
+    ensures { IfOk result (λ part. part.items ≡ slice_range small.now.items start end) }
+{
+    match small.check_range(start, end) {
+        Ok(()) => Ok(small.subslice(start, end)),
+        Err(e) => Err(e),
+    }
+}
+
+/// Takes what stands in front of `start` off a text, if it may be cut there.
+pub fn short_narrowed(text: &mut SmallStr, start: usize) -> Result<(), RangeError>
+    ensures { OnOk result (text.new.items ≡ drop start text.old.items) }
+{
+    if let Err(e) = text.check_at(start) {
+        return Err(e);
+    }
+    text.advance(start);
+    Ok(())
+}
+
+/// Leaves the first so many bytes.
+pub fn shortened(small: &mut SmallBytes, len: usize)
+    ensures { small.new.items ≡ take len small.old.items }
+{
+    small.truncate(len);
+}
+
+/// Windows of no bytes, of a short list, and of a window that is read.
+pub fn windows(small: SmallBytes, window: ArcBytes) -> (SmallArcBytes, SmallArcBytes, SmallArcBytes)
+    ensures empty { result.0.items ≡ [] }
+    ensures small { result.1.items ≡ small.items }
+    ensures window { result.2.items ≡ window.items }
+{
+    (
+        SmallArcSlice::new(),
+        SmallArcSlice::from(small),
+        SmallArcSlice::from(window),
+    )
+}
+
+/// Copies of these bytes and of this text: up to a limit in the windows themselves.
+pub fn copied(
+    alloc: Global,
+    bytes: &[u8],
+    text: &str,
+) -> (
+    Result<SmallArcBytes, AllocError>,
+    Result<SmallArcStr, AllocError>,
+) {
+    (
+        SmallArcSlice::try_from_slice(alloc, bytes),
+        SmallArcSlice::try_from_str(alloc, text),
+    )
+}
+
+/// Bytes that are moved in, where they are short without memory.
+pub fn moved_in(alloc: Global, bytes: [u8; 4]) -> Result<SmallArcBytes, [u8; 4]>
+    ensures { IfErr result (λ back. back ≡ bytes) }
+{
+    SmallArcSlice::try_from_array(alloc, bytes)
+}
+
+/// Windows over a vector and over a box, which are never copied into the window itself.
+pub fn kept(
+    alloc: Global,
+    vector: Vec<u8>,
+    boxed: BoxedSlice<u8>,
+) -> (
+    Result<SmallArcBytes, Vec<u8>>,
+    Result<SmallArcBytes, BoxedSlice<u8>>,
+) {
+    (
+        SmallArcSlice::try_from_vec(alloc, vector),
+        SmallArcSlice::try_from_boxed(alloc, boxed),
+    )
+}
+
+/// Windows over bytes and over a text that are there for good.
+pub fn lasting(
+    alloc: Global,
+    bytes: &'static [u8],
+    text: &'static str,
+) -> (SmallArcBytes, SmallArcStr)
+    ensures bytes { result.0.items ≡ bytes.now }
+    ensures text { result.1.items ≡ text.now }
+{
+    (
+        SmallArcSlice::from_static(alloc, bytes),
+        SmallArcSlice::from_static_str(alloc, text),
+    )
+}
+
+/// How many bytes a window has and which, whether there are none, and the text of another one.
+pub fn seen<'a>(
+    window: &'a SmallArcBytes,
+    text: &'a SmallArcStr,
+) -> (usize, &'a [u8], bool, &'a str)
+    ensures bytes { result.1.now ≡ window.now.items }
+    ensures text { result.3.now ≡ text.now.items }
+{
+    (
+        window.len(),
+        window.as_slice(),
+        text.is_empty(),
+        text.as_str(),
+    )
+}
+
+/// Another window with the same bytes: one that has them in itself is copied.
+pub fn cloned(rt: &impl Wait, window: &SmallArcBytes) -> Result<SmallArcBytes, OwnerError>
+    ensures { IfOk result (λ clone. clone.items ≡ window.now.items) }
+{
+    window.try_clone(rt)
+}
+
+/// The bytes from `start` to `end`, if that is a range.
+pub fn part(
+    rt: &impl Wait,
+    window: &SmallArcBytes,
+    start: usize,
+    end: usize,
+) -> Result<Option<SmallArcBytes>, RangeError> {
+    match window.check_range(start, end) {
+        Ok(()) => Ok(window.try_subslice(rt, start, end).ok()),
+        Err(e) => Err(e),
+    }
+}
+
+/// Takes what stands in front of `start` off a text, if it may be cut there.
+pub fn narrowed(text: &mut SmallArcStr, start: usize) -> Result<(), RangeError>
+    ensures { OnOk result (text.new.items ≡ drop start text.old.items) }
+{
+    if let Err(e) = text.check_at(start) {
+        return Err(e);
+    }
+    text.advance(start);
+    Ok(())
+}
+
+/// How many bytes a window has in itself, if it has them there.
+pub fn inlined(window: &SmallArcBytes) -> Option<usize> {
+    match window.as_either() {
+        Left(small) => Some(small.len()),
+        Right(_) => None,
+    }
+}
+
+/// Leaves the first so many bytes, in the window itself or in its block.
+pub fn cut_back(window: &mut SmallArcBytes, len: usize) {
+    match window.as_either_mut() {
+        Left(small) => small.truncate(len),
+        Right(window) => window.truncate(len),
+    }
+}
+
+/// The window that is read, or one over a copy.
+pub fn as_reader(alloc: Global, window: SmallArcBytes) -> Result<ArcBytes, AllocError> {
+    match window.into_either() {
+        Left(small) => ArcBytes::try_from_slice(alloc, small.as_slice()),
+        Right(window) => Ok(window),
+    }
+}
+
+/// A copy and a clone of it with a pass, which are then released.
+pub fn cloned_as(rt: &impl Wait, alloc: Global, bytes: &[u8]) -> Option<usize> {
+    let mut pass = Pass::none();
+    match SmallArcBytes::<DefaultLayout>::try_from_slice_as(alloc, bytes, &mut pass) {
+        Ok(window) => match window.try_clone_as(rt, &mut pass) {
+            Ok(clone) => {
+                let len = clone.len();
+                clone.release_as(&mut pass);
+                Some(len)
+            }
+            Err(_) => None,
+        },
+        Err(_) => None,
+    }
+}
+
+/// The first bytes of an array, by a pass.
+pub fn part_as(rt: &impl Wait, alloc: Global, bytes: [u8; 4]) -> Option<SmallArcBytes> {
+    let mut pass = Pass::none();
+    match SmallArcBytes::try_from_array_as(alloc, bytes, &mut pass) {
+        Ok(window) => match window.try_subslice_as(rt, 0, 0, &mut pass) {
+            Ok(part) => Some(part),
+            Err(_) => None,
+        },
+        Err(_) => None,
+    }
+}
+
+/// Windows of a text, of a vector and of a box, each with a pass of its own.
+pub fn made_as(
+    alloc: Global,
+    text: &str,
+    vector: Vec<u8>,
+    boxed: BoxedSlice<u8>,
+) -> (
+    Result<SmallArcStr, AllocError>,
+    Result<SmallArcBytes, Vec<u8>>,
+    Result<SmallArcBytes, BoxedSlice<u8>>,
+) {
+    let mut pass = Pass::none();
+    let text = SmallArcStr::try_from_str_as(alloc, text, &mut pass);
+    let mut pass = Pass::none();
+    let vector = SmallArcBytes::try_from_vec_as(alloc, vector, &mut pass);
+    let mut pass = Pass::none();
+    (
+        text,
+        vector,
+        SmallArcBytes::try_from_boxed_as(alloc, boxed, &mut pass),
+    )
+}

@@ -1,0 +1,63 @@
+//! What a window stands on, taken back: a string, a box, an array. A vector is taken back in
+//! `frames`, `queue` and `editor`, a caller's buffer in `buffers`, an `Arc` in `layouts`.
+ghost use Rattle.std.specs.Prelude.{◌≡◌, IfOk, IfErr};
+ghost use Rattle.std.specs.Box.{boxed_slice_items};
+ghost use Rattle.std.specs.String.{string_bytes};
+
+use arc_slice::buffer::Owned;
+use arc_slice::{ArcBytesMut, ArcSlice, ArcStr};
+use std::alloc::Global;
+use std::boxed::BoxedSlice;
+
+/// A string that is read, and had back: nobody else was given a part of it. The window comes out
+/// where it was, and the string where there was no memory to count it.
+pub fn string(alloc: Global, text: String) -> Result<String, ArcStr>
+    ensures string { IfOk result (λ back. string_bytes back ≡ string_bytes text) }
+    ensures window { IfErr result (λ window. window.items ≡ string_bytes text) }
+{
+    match ArcStr::try_from_vec(alloc, text) {
+        Ok(window) => window.try_into_vec(),
+        Err(text) => Ok(text),
+    }
+}
+
+/// Texts in a box that are read.
+pub fn over_box(
+    alloc: Global,
+    texts: BoxedSlice<String>,
+) -> Result<ArcSlice<Owned<String>>, BoxedSlice<String>>
+    ensures made { IfOk result (λ window. window.items ≡ boxed_slice_items texts) }
+    ensures back { IfErr result (λ back. boxed_slice_items back ≡ boxed_slice_items texts) }
+{
+    ArcSlice::try_from_boxed(alloc, texts)
+}
+
+/// The box again, where the window has all of it; else the window.
+pub fn boxed(window: ArcSlice<Owned<String>>) -> Result<BoxedSlice<String>, ArcSlice<Owned<String>>>
+    ensures boxed { IfOk result (λ texts. boxed_slice_items texts ≡ window.items) }
+    ensures back { IfErr result (λ back. back ≡ window) }
+{
+    window.try_into_boxed()
+}
+
+/// The items of a window on a block of ours, moved out of it.
+pub fn array(window: ArcSlice<Owned<String>>) -> Result<[String; 2], ArcSlice<Owned<String>>>
+    ensures array { IfOk result (λ texts. texts ≡ window.items) }
+    ensures back { IfErr result (λ back. back ≡ window) }
+{
+    window.try_into_array::<2>()
+}
+
+/// The same of writers: a box of one that has filled all places of a vector, and an array.
+pub fn of_writers(
+    over_vector: ArcBytesMut,
+    on_block: ArcBytesMut,
+) -> (
+    Result<BoxedSlice<u8>, ArcBytesMut>,
+    Result<[u8; 4], ArcBytesMut>,
+)
+    ensures boxed { IfOk result.0 (λ bytes. boxed_slice_items bytes ≡ over_vector.items) }
+    ensures array { IfOk result.1 (λ bytes. bytes ≡ on_block.items) }
+{
+    (over_vector.try_into_boxed(), on_block.try_into_array::<4>())
+}

@@ -1,0 +1,161 @@
+//! Calls of sole writers with a pass of the window's block.
+ghost use Rattle.std.specs.Prelude.{◌≡◌, ◌++◌, IfOk, IfErr, OnOk};
+ghost use Rattle.std.specs.Box.{boxed_slice_items};
+
+use arc_slice::error::{AllocError, TryReserveError};
+use arc_slice::layout::{DefaultLayout, DefaultLayoutMut, VecLayout};
+use arc_slice::{ArcBytes, ArcBytesMut, ArcSliceMut, ArcStrMut, Open, Pass, Whole};
+use std::alloc::Global;
+use std::boxed::BoxedSlice;
+
+/// Numbers of a block that has one pass.
+pub type WholeBytesMut = ArcBytesMut<DefaultLayoutMut, Vec<u8>, (), Global, Whole>;
+
+/// A vector that is written, with a name beside it.
+pub type NamedMut = ArcBytesMut<DefaultLayoutMut, Vec<u8>, u64>;
+
+/// A pass that has seen that nobody else lives, and what another one has.
+pub fn alone(window: &ArcBytesMut) -> Pass<Open> {
+    let mut pass = window.pass();
+    window.only(&mut pass);
+    let other = window.pass();
+    window.learn(&mut pass, &other);
+    pass
+}
+
+/// A byte in the first of so many places, of a block that has one pass.
+pub fn with_places(alloc: Global, places: usize, byte: u8) -> Option<WholeBytesMut> {
+    let mut pass = Pass::none();
+    match WholeBytesMut::try_with_capacity_as(alloc, places, &mut pass) {
+        Ok(mut window) => match window.try_push_as(byte, &mut pass) {
+            Ok(()) => Some(window),
+            Err(_) => {
+                window.release_as(&mut pass);
+                None
+            }
+        },
+        Err(_) => None,
+    }
+}
+
+/// A copy, with more bytes behind it.
+pub fn extended(alloc: Global, bytes: &[u8], more: &[u8]) -> Option<ArcBytesMut> {
+    let mut pass = Pass::none();
+    match ArcBytesMut::try_from_slice_as(alloc, bytes, &mut pass) {
+        Ok(mut window) => match window.try_extend_from_slice_as(more, &mut pass) {
+            Ok(()) => Some(window),
+            Err(_) => None,
+        },
+        Err(_) => None,
+    }
+}
+
+/// So many zeros, with room for as many bytes more.
+pub fn zeros(alloc: Global, count: usize) -> Option<ArcBytesMut> {
+    let mut pass = Pass::none();
+    match ArcBytesMut::try_zeroed_as(alloc, count, &mut pass) {
+        Ok(mut window) => {
+            if !window.try_reclaim_as(count, &mut pass) {
+                return None;
+            }
+            Some(window)
+        }
+        Err(_) => None,
+    }
+}
+
+/// Room for so many bytes more.
+pub fn room_made(window: &mut ArcBytesMut, more: usize) -> Result<(), TryReserveError>
+    ensures { window.new.items ≡ window.old.items }
+{
+    let mut pass = window.pass();
+    window.try_reserve_as(more, &mut pass)
+}
+
+/// A text, with more behind it.
+pub fn text(alloc: Global, text: &str, more: &str) -> Option<ArcStrMut> {
+    let mut pass = Pass::none();
+    match ArcStrMut::try_from_str_as(alloc, text, &mut pass) {
+        Ok(mut window) => match window.try_extend_from_str_as(more, &mut pass) {
+            Ok(()) => Some(window),
+            Err(_) => None,
+        },
+        Err(_) => None,
+    }
+}
+
+/// An array, moved in and out.
+pub fn array(alloc: Global, bytes: [u8; 2]) -> Result<[u8; 2], ArcBytesMut>
+    ensures { IfOk result (λ back. back ≡ bytes) }
+{
+    let mut pass = Pass::none();
+    match ArcBytesMut::try_from_array_as(alloc, bytes, &mut pass) {
+        Ok(window) => window.try_into_array_as(&mut pass),
+        Err(bytes) => Ok(bytes),
+    }
+}
+
+/// A vector, moved in and out.
+pub fn vector(alloc: Global, bytes: Vec<u8>) -> Result<Vec<u8>, ArcBytesMut>
+    ensures { IfOk result (λ back. back.items ≡ bytes.items) }
+{
+    let mut pass = Pass::none();
+    match ArcBytesMut::try_from_vec_as(alloc, bytes, &mut pass) {
+        Ok(window) => window.try_into_vec_as(&mut pass),
+        Err(bytes) => Ok(bytes),
+    }
+}
+
+/// The box of a window that has filled all places of a vector.
+pub fn boxed(window: ArcBytesMut) -> Result<BoxedSlice<u8>, ArcBytesMut>
+    ensures boxed { IfOk result (λ bytes. boxed_slice_items bytes ≡ window.items) }
+    ensures back { IfErr result (λ back. back ≡ window) }
+{
+    let mut pass = window.pass();
+    window.try_into_boxed_as(&mut pass)
+}
+
+/// A caller's buffer, moved in and out.
+pub fn buffer(alloc: Global, bytes: Vec<u8>) -> Result<Vec<u8>, ArcBytesMut>
+    ensures { IfOk result (λ back. back.items ≡ bytes.items) }
+{
+    let mut pass = Pass::none();
+    match ArcBytesMut::try_from_buffer_as(alloc, bytes, &mut pass) {
+        Ok(window) => window.try_into_buffer_as(&mut pass),
+        Err(bytes) => Ok(bytes),
+    }
+}
+
+/// The same with a name beside it.
+pub fn named(alloc: Global, bytes: Vec<u8>, name: u64) -> Result<NamedMut, (Vec<u8>, u64)>
+    ensures { IfErr result (λ back. back.1 ≡ name) }
+{
+    let mut pass = Pass::none();
+    NamedMut::try_from_buffer_with_metadata_as(alloc, bytes, name, &mut pass)
+}
+
+/// A window under another layout, and one that is to be read from now on.
+pub fn turned(
+    window: ArcBytesMut,
+    other: ArcBytesMut,
+) -> (
+    Result<ArcBytesMut<VecLayout>, ArcBytesMut>,
+    Result<ArcBytes, ArcBytesMut>,
+)
+    ensures moved { IfOk result.0 (λ moved. moved.items ≡ window.items) }
+    ensures frozen { IfOk result.1 (λ frozen. frozen.items ≡ other.items) }
+{
+    let mut pass = window.pass();
+    let moved = window.try_with_layout_as::<VecLayout>(&mut pass);
+    let mut pass = other.pass();
+    (moved, other.try_freeze_as::<DefaultLayout>(&mut pass))
+}
+
+/// Three ends: each gives the block back without a step.
+pub fn ended(first: ArcBytesMut, second: ArcBytesMut, third: ArcBytesMut) -> Pass<Open> {
+    let mut pass = first.pass();
+    first.release_as(&mut pass);
+    let mut pass = second.pass();
+    second.drop_with_unique_hint_as(&mut pass);
+    third.let_go()
+}
