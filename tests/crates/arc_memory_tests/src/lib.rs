@@ -7,8 +7,6 @@ mod blocks;
 #[cfg(test)]
 mod buffer;
 #[cfg(test)]
-mod crossing;
-#[cfg(test)]
 mod kinds;
 #[cfg(test)]
 mod lent_allocations;
