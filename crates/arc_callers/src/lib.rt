@@ -20,6 +20,7 @@ pub mod several_passes;
 pub mod several_writers;
 pub mod small;
 pub mod taking_back;
+pub mod threads;
 pub mod words;
 pub mod writer_passes;
 pub mod writers;
