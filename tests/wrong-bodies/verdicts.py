@@ -1,17 +1,18 @@
 """What a check's answer says of a wrong body."""
 import re
 
-# What a call asks, or a clause, isn't proved; a loop isn't shown to end; an answer by hand doesn't
-# fit, or names what is gone; the prover met a limit of its own; the compiler refuses it; it is
-# proved; nothing is known.
+# A clause, what a call asks, or what a type says isn't proved; a loop isn't shown to end; an answer
+# by hand doesn't fit, or names what is gone; the prover met a limit of its own; the compiler refuses
+# it; it is proved; nothing is known.
 CLAUSE, MEASURE, ANSWER, NAMES = "clause", "measure", "answer", "names"
 LIMIT, COMPILER, ACCEPTED, UNTRIED = "limit", "compiler", "accepted", "untried"
 
 FRONT_END = re.compile(r"error\[[\w-]+\]")
 # Goals of the code that search is at: those with no answer, and those whose answer is a tactic.
 GOAL = re.compile(
-    r"^(?:note: )?(?:src/\S+: (?:error: )?.*not proved that"
-    r"|(?:\./)?proofs/\S+: error: `[^`]+`: `(?:search|grind|omega)`)"
+    r"^(?:note: )?(?:src/\S+: (?:error: )?.*(?:not proved that|`search` found no proof)"
+    r"|(?:\./)?proofs/\S+: error: `[^`]+`: `(?:search|grind|omega)`"
+    r"|fn \S+: no proof: expected answers in .* did not prove)"
 )
 ENDLESS = re.compile(r"^fn \S+: no proof: expected a measure")
 IN_PROOF = re.compile(r"^(?:note: )?(?:\./)?proofs/\S+: error: ")
