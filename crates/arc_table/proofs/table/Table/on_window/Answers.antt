@@ -8,6 +8,7 @@ use Rattle.arc_slots.specs.Index.{IsIndexed, windows_of}
 use Rattle.arc_slots.specs.Slots.{SlotView, state_of}
 use Rattle.arc_table.proofs.Done.{Done}
 use Rattle.std.proofs.Common.{◌≡◌, List, Option, None, Some, length, slice_get, slice_set, refl}
+use Rattle.std.proofs.Common.{Result, Ok, Err}
 use Rattle.std.proofs.Common.{sym, ap, ◌∙◌, subst}
 use Rattle.std.proofs.Common.{arith}
 use Rattle.std.specs.Option.{option_flatten}
@@ -33,6 +34,13 @@ setting g =
     setting_of (layout_facts g.L.Layout) g.L.Writable.Layout.ANY g.L.Layout.clone_wants
     g.S.Slice.DROPS g.S.Subsliceable.boundary
     (type_size g.row.S-Item) g.S.Zero.ZeroOf.zero g.S.Calls.CallsOf.calls
+
+-- what was answered isn't refused, and a refusal is told as it was
+ok-err : {T E : Type 0} {x : T} {e : E} → (◌≡◌ {A = Result T E} (Ok x) (Err e)) → ⊥
+ok-err is = absurd cc
+
+same-err : {T E : Type 0} {e f : E} → (◌≡◌ {A = Result T E} (Err e) (Err f)) → e ≡ f
+same-err is = cc
 
 pub place_of-requires : goal.place_of-requires
 place_of-requires g c =
@@ -141,7 +149,7 @@ made g c =
     (c.push_made.ensures.windows
     ∙ ap (λ ws. with_slot ws (Some c.in-Ok.window)) (put g found c.answer.new.place))
     (at-next _ c.index_mut-slot.result.now many c.in-Ok.ensures.made)
-    (λ none. absurd (cc (c.in-Ok.is, (c.answer.ensures.none none).0))))
+    (λ none. absurd (ok-err (sym c.in-Ok.is ∙ (c.answer.ensures.none none).0))))
 
 -- it made none
 told : (g : Over) (c : After-settle g)
@@ -168,7 +176,7 @@ told g c =
     (at-next _ c.index_mut-slot.result.now (length (windows g found)) c.in-Err.ensures.told)
     (λ none. let so = c.answer.ensures.none none in (
       ap (seen_reply g.S.Commands.items_in g.S.Commands.items_in_box g.B.Buffer.list)
-          {y = reply.NoWindow} (cc (c.in-Err.is, so.0)),
+          {y = reply.NoWindow} (same-err (sym c.in-Err.is ∙ so.0)),
       refl,
       so.1,
       so.2,
@@ -271,3 +279,13 @@ returns-in_default-clause-rows g c =
 pub returns-in_default-clause-passes : goal.returns-in_default-clause-passes
 returns-in_default-clause-passes g c =
     (none g (goal.at.returns-in_default-clause-passes g c).In_default).passes_are
+
+pub invariant_of-self : goal.invariant_of-self
+invariant_of-self g c =
+    let s = c.self.inside.slots in
+    let mid = c.room_if-has_room.new.self in
+    let kept = c.room_if-has_room.ensures in (
+      (none g (goal.at.invariant_of-self g c).In_default).kept,
+      same-indexed mid.index.items s.index.items mid.numbers.items s.numbers.items
+          mid.places.items s.places.items kept.index kept.numbers kept.places c.self.invariant.1,
+    )
