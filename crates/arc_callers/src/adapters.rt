@@ -1,50 +1,64 @@
-//! What std and the kit's crates can do with windows: compare, hash, print, lend, read and write.
-//! A function that is generic in the window says what is done, and one below it does it with
-//! windows of each sort.
-
+//! What std and the kit's crates can do with windows: compare, hash, print, lend, read and write,
+//! each with windows of every sort.
 use arc_slice::inlined::{SmallArcBytes, SmallArcStr, SmallBytes, SmallStr};
 use arc_slice::{
     ArcByteText, ArcBytes, ArcBytesMut, ArcBytesShared, ArcStr, ArcStrMut, ArcStrShared,
 };
 use bytes::{Buf, BufMut};
-use std::alloc::Global;
 use std::cmp::Ordering;
-use std::convert::AsSlice;
+use std::convert::{AsSlice, AsStr};
 use std::fmt::{self, Debug, Display, LowerHex, UpperHex};
-use std::hash::{DefaultHasher, Hash, Hasher};
+use std::hash::{DefaultHasher, Hash};
 use std::io::{Read, Write};
 
-/// Whether two windows are equal, how they stand to each other, and what a hasher says of the first
-/// one.
-pub fn compared<T: Ord + Hash>(one: &T, two: &T) -> (bool, Ordering, Option<Ordering>, u64) {
-    let mut state = DefaultHasher::new();
-    one.hash(&mut state);
-    (
-        one == two,
-        one.cmp(two),
-        one.partial_cmp(two),
-        state.finish(),
-    )
-}
-
-/// How windows of each sort stand to themselves.
-pub fn all_compared(
-    reader: &ArcBytes,
-    writer: &ArcBytesMut,
-    several: &ArcBytesShared,
-    short: &SmallBytes,
-    small: &SmallArcBytes,
-) -> [(bool, Ordering, Option<Ordering>, u64); 5] {
+/// Whether two windows of each sort have equal bytes.
+pub fn equal(
+    readers: (&ArcBytes, &ArcBytes),
+    writers: (&ArcBytesMut, &ArcBytesMut),
+    several: (&ArcBytesShared, &ArcBytesShared),
+    small: (&SmallArcBytes, &SmallArcBytes),
+    short: (&SmallBytes, &SmallBytes),
+) -> [bool; 5] {
     [
-        compared(reader, reader),
-        compared(writer, writer),
-        compared(several, several),
-        compared(short, short),
-        compared(small, small),
+        readers.0 == readers.1,
+        writers.0 == writers.1,
+        several.0 == several.1,
+        small.0 == small.1,
+        short.0 == short.1,
     ]
 }
 
-/// Whether each sort of window has just these bytes.
+/// How two windows of each sort stand to each other.
+pub fn ordered(
+    readers: (&ArcBytes, &ArcBytes),
+    writers: (&ArcBytesMut, &ArcBytesMut),
+    small: (&SmallArcBytes, &SmallArcBytes),
+    short: (&SmallBytes, &SmallBytes),
+) -> ([Ordering; 2], [Option<Ordering>; 2]) {
+    (
+        [readers.0.cmp(readers.1), short.0.cmp(short.1)],
+        [
+            writers.0.partial_cmp(writers.1),
+            small.0.partial_cmp(small.1),
+        ],
+    )
+}
+
+/// What windows of each sort are to a hasher.
+pub fn hashed(
+    state: &mut DefaultHasher,
+    reader: &ArcBytes,
+    writer: &ArcBytesMut,
+    small: &SmallArcBytes,
+    short: &SmallBytes,
+) {
+    reader.hash(state);
+    writer.hash(state);
+    small.hash(state);
+    short.hash(state);
+}
+
+/// Whether windows of each sort have just these bytes.
 pub fn have_bytes(
     reader: &ArcBytes,
     writer: &ArcBytesMut,
@@ -62,7 +76,7 @@ pub fn have_bytes(
     ]
 }
 
-/// Whether each sort of window has just this text, and lends it.
+/// Whether windows of each sort have just this text.
 pub fn have_text(
     reader: &ArcStr,
     writer: &ArcStrMut,
@@ -80,149 +94,132 @@ pub fn have_text(
     ]
 }
 
-/// How long a value is as `{:?}` prints it, and in digits of either case.
-pub fn printed<T: Debug + LowerHex + UpperHex>(alloc: Global, value: &T) -> Option<[usize; 3]> {
-    let mut lower = fmt::Formatter::new(String::new(alloc));
-    LowerHex::fmt(value, &mut lower).ok()?;
-    let mut upper = fmt::Formatter::new(String::new(alloc));
-    UpperHex::fmt(value, &mut upper).ok()?;
-    let debug = format!(in alloc; "{value:?}").ok()?;
-    Some([
-        debug.len(),
-        lower.into_inner().len(),
-        upper.into_inner().len(),
-    ])
-}
-
-/// So windows of each sort.
-pub fn all_printed(
-    alloc: Global,
+/// Prints windows of each sort, one behind the other: their bytes as `{:?}` does, and in digits.
+pub fn printed<W: fmt::Write>(
+    f: &mut fmt::Formatter<W>,
     reader: &ArcBytes,
     writer: &ArcBytesMut,
-    several: &ArcBytesShared,
     short: &SmallBytes,
     small: &SmallArcBytes,
-) -> [Option<[usize; 3]>; 5] {
+) -> [bool; 6] {
     [
-        printed(alloc, reader),
-        printed(alloc, writer),
-        printed(alloc, several),
-        printed(alloc, short),
-        printed(alloc, small),
+        Debug::fmt(reader, f).is_ok(),
+        Debug::fmt(writer, f).is_ok(),
+        Debug::fmt(short, f).is_ok(),
+        Debug::fmt(small, f).is_ok(),
+        LowerHex::fmt(reader, f).is_ok(),
+        UpperHex::fmt(writer, f).is_ok(),
     ]
 }
 
-/// How long a value is as `{}` prints it.
-pub fn shown<T: Display>(alloc: Global, value: &T) -> Option<usize> {
-    match format!(in alloc; "{value}") {
-        Ok(text) => Some(text.len()),
-        Err(_) => None,
-    }
-}
-
-/// So texts of each sort, and byte text.
-pub fn all_shown(
-    alloc: Global,
+/// Shows texts of each sort as `{}` does, and byte text.
+pub fn shown<W: fmt::Write>(
+    f: &mut fmt::Formatter<W>,
     reader: &ArcStr,
     writer: &ArcStrMut,
-    several: &ArcStrShared,
     short: &SmallStr,
     small: &SmallArcStr,
     bytes: &ArcByteText,
-) -> [Option<usize>; 6] {
+) -> [bool; 5] {
     [
-        shown(alloc, reader),
-        shown(alloc, writer),
-        shown(alloc, several),
-        shown(alloc, short),
-        shown(alloc, small),
-        shown(alloc, bytes),
+        Display::fmt(reader, f).is_ok(),
+        Display::fmt(writer, f).is_ok(),
+        Display::fmt(short, f).is_ok(),
+        Display::fmt(small, f).is_ok(),
+        Display::fmt(bytes, f).is_ok(),
     ]
 }
 
-/// The first byte that is left, if there is one, and how many of those behind it there are places
-/// for.
-pub fn read<R: Buf + Read>(window: &mut R, places: &mut [u8]) -> (Option<u8>, Option<usize>) {
+/// Reads from windows of each sort into these places, which then have what the last one had.
+pub fn read(
+    reader: &mut ArcBytes,
+    writer: &mut ArcBytesMut,
+    short: &mut SmallBytes,
+    small: &mut SmallArcBytes,
+    places: &mut [u8],
+) -> [bool; 4] {
+    [
+        reader.read(places).is_ok(),
+        writer.read(places).is_ok(),
+        short.read(places).is_ok(),
+        small.read(places).is_ok(),
+    ]
+}
+
+/// The first byte that is left, if there is one.
+pub fn first<R: Buf>(window: &mut R) -> Option<u8> {
     if window.remaining() < 1 {
-        return (None, None);
+        return None;
     }
-    let first = window.get_u8();
-    (Some(first), window.read(places).ok())
+    Some(window.get_u8())
 }
 
 /// So windows of each sort.
-pub fn all_read(
+pub fn firsts(
     reader: &mut ArcBytes,
     writer: &mut ArcBytesMut,
     several: &mut ArcBytesShared,
     short: &mut SmallBytes,
     small: &mut SmallArcBytes,
-    places: &mut [u8],
 ) -> [Option<u8>; 5] {
     [
-        read(reader, places).0,
-        read(writer, places).0,
-        read(several, places).0,
-        read(short, places).0,
-        read(small, places).0,
+        first(reader),
+        first(writer),
+        first(several),
+        first(short),
+        first(small),
     ]
 }
 
-/// What is written behind the bytes: as many as there are places for, then one and two more if
-/// there are, and how many places are left.
-pub fn written<W: Write + BufMut>(
-    window: &mut W,
-    bytes: &[u8],
-) -> (Option<usize>, [bool; 2], usize) {
-    let count = window.write(bytes).ok();
-    let puts = [window.put_u8(1).is_ok(), window.put_slice(&[2, 3]).is_ok()];
-    (count, puts, window.remaining_mut())
+/// Writes behind what a writer has: as many bytes as there are places for, then a byte and these
+/// again, if there are places for them, then a text, for which room is made.
+pub fn written(writer: &mut ArcBytesMut, bytes: &[u8], text: &str) -> ([bool; 4], usize) {
+    let done = [
+        writer.write(bytes).is_ok(),
+        writer.put_u8(1).is_ok(),
+        writer.put_slice(bytes).is_ok(),
+        fmt::Write::write_str(writer, text).is_ok(),
+    ];
+    (done, writer.remaining_mut())
 }
 
-/// A text and a number, as they are printed, behind what is there, with room made for them.
-pub fn formatted<W: fmt::Write>(window: &mut W, text: &str, number: u32) -> bool {
-    write!(window, "{text}-{number}").is_ok()
-}
-
-/// So writers of either role.
-pub fn all_written(
-    writer: &mut ArcBytesMut,
+/// So one of several, who has room in his own places alone while the others live.
+pub fn written_by_one(
     several: &mut ArcBytesShared,
-    text: &mut ArcStrMut,
     bytes: &[u8],
-) -> ([Option<usize>; 2], [bool; 3]) {
-    (
-        [written(writer, bytes).0, written(several, bytes).0],
-        [
-            formatted(writer, "line", 1),
-            formatted(several, "line", 2),
-            formatted(text, "line", 3),
-        ],
-    )
+    text: &str,
+) -> ([bool; 4], usize) {
+    let done = [
+        several.write(bytes).is_ok(),
+        several.put_u8(1).is_ok(),
+        several.put_slice(bytes).is_ok(),
+        fmt::Write::write_str(several, text).is_ok(),
+    ];
+    (done, several.remaining_mut())
 }
 
-/// The sum of a reader's bytes, by a loop over what it lends, and the greatest of a writer's.
-pub fn summed(reader: &ArcBytes, writer: &ArcBytesMut) -> (u64, Option<u8>) {
+/// The sum of a reader's bytes, by a loop over what it lends.
+pub fn summed(reader: &ArcBytes) -> u64 {
     let mut sum = 0u64;
     for byte in reader {
         sum = sum.wrapping_add(*byte as u64);
     }
-    (sum, writer.iter().copied().max())
+    sum
 }
 
-/// How many bytes windows of each sort lend.
+/// How many bytes windows of each sort lend, and a text's.
 pub fn lent(
     reader: &ArcBytes,
     writer: &ArcBytesMut,
-    several: &ArcBytesShared,
     short: &SmallBytes,
     small: &SmallArcBytes,
+    text: &ArcStr,
 ) -> [usize; 5] {
     [
         AsSlice::as_slice(reader).len(),
         AsSlice::as_slice(writer).len(),
-        AsSlice::as_slice(several).len(),
         AsSlice::as_slice(short).len(),
         AsSlice::as_slice(small).len(),
+        AsStr::as_str(text).len(),
     ]
 }

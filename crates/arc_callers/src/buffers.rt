@@ -1,8 +1,6 @@
 //! Windows over callers' buffers, which keep them as they are and give them back.
-ghost use Rattle.std.specs.Prelude.{◌≡◌, ◌<◌, length, slice_set, IfOk, IfErr, IfSome};
+ghost use Rattle.std.specs.Prelude.{◌≡◌, ◌<◌, length, slice_set, IfOk, IfErr};
 ghost use Rattle.std.specs.Vec.{vec_items};
-ghost use Rattle.std.specs.Arc.{arc_value};
-ghost use Rattle.arc_block.specs.Metadata.{IsOnCallers};
 
 use crate::page::Page;
 use arc_slice::buffer::{AsMutBuffer, AsRefBuffer, Buffer, BufferMut, LendMut};

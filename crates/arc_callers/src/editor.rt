@@ -3,8 +3,9 @@
 //! string; and one is written by two threads at once, each in its own part. To show it and to hand
 //! out parts copies nothing. Its contracts are found by search.
 ghost use Rattle.std.specs.Prelude.{◌≡◌, ◌++◌, ◌↔◌, take, slice_range, false, IfOk, IfErr, OnOk};
-ghost use Rattle.std.specs.Prelude.{OnErr, Err};
+ghost use Rattle.std.specs.Prelude.{OnErr, Err, IfSome};
 ghost use Rattle.std.specs.String.{string_bytes};
+ghost use Rattle.arc_parts.specs.Shared.{IsOneBlock};
 ghost use Rattle.arc_parts.specs.Window.{IsVecPart};
 ghost use Rattle.arc_buffer.specs.Slice.{edge_answer, range_answer};
 ghost use Rattle.arc_buffer.specs.Text.{is_between_characters};
@@ -82,7 +83,7 @@ impl Editor {
 }
 
 /// Why a part isn't handed out.
-#[derive(Debug, Drop, PartialEq, Eq)]
+#[derive(Drop)]
 pub enum PartError {
     /// It is no range of the text.
     Range(RangeError),
@@ -153,23 +154,42 @@ fn write_at_once(
     );
 }
 
-/// Two texts of one length, one behind the other, which two threads wrote at once on one block.
+/// Zeros that two writers have, the first so many of them and those behind.
+fn for_two<R: Wait>(
+    rt: &R,
+    alloc: Global,
+    middle: usize,
+    places: usize,
+) -> Option<(ArcBytesShared, ArcBytesShared)>
+    ensures { IfSome result (λ two. IsOneBlock two.0.place two.1.place) }
+{
+    let bytes = ArcBytesMut::<DefaultLayoutMut>::try_zeroed(alloc, places).ok()?;
+    let mut front: ArcBytesShared = bytes.into_shared().ok()?;
+    front.check_split_off(middle).ok()?;
+    match front.try_split_off(rt, middle) {
+        Ok(back) => Some((front, back)),
+        Err(_) => None,
+    }
+}
+
+/// What two writers of one block have written, as the text of one.
+fn of_two(mut front: ArcBytesShared, back: ArcBytesShared) -> Option<ArcStrMut>
+    requires { IsOneBlock front.place back.place }
+{
+    front.try_unsplit(back).ok()?;
+    let bytes = front.try_into_unique().ok()?;
+    ArcStrMut::try_from_arc_slice_mut(bytes).ok()
+}
+
+/// Two texts, one behind the other, which two threads wrote at once on one block.
 pub fn written_by_two<R: Threads + Wait>(
     rt: &R,
     alloc: Global,
     first: &str,
     second: &str,
 ) -> Option<ArcStrMut> {
-    let middle = first.len();
-    let places = middle.checked_add(second.len())?;
-    let bytes = ArcBytesMut::<DefaultLayoutMut>::try_zeroed(alloc, places).ok()?;
-    let mut front: ArcBytesShared = bytes.into_shared().ok()?;
-    front.check_split_off(middle).ok()?;
-    let Ok(mut back) = front.try_split_off(rt, middle) else {
-        return None;
-    };
+    let places = first.len().checked_add(second.len())?;
+    let (mut front, mut back) = for_two(rt, alloc, first.len(), places)?;
     write_at_once(rt, &mut front, first, &mut back, second);
-    front.try_unsplit(back).ok()?;
-    let bytes = front.try_into_unique().ok()?;
-    ArcStrMut::try_from_arc_slice_mut(bytes).ok()
+    of_two(front, back)
 }

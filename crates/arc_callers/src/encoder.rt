@@ -13,7 +13,7 @@ use std::alloc::Global;
 use std::sync::Wait;
 
 /// Why frames aren't written.
-#[derive(Debug, Drop, PartialEq, Eq)]
+#[derive(Drop)]
 pub enum EncodeError {
     /// A payload is longer than two bytes tell.
     TooLong,

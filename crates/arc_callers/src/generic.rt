@@ -3,7 +3,7 @@ ghost use Rattle.std.specs.Prelude.{◌≡◌, IfOk};
 ghost use Rattle.arc_buffer.specs.Slice.{sub};
 
 use arc_owners::mark::Stepping;
-use arc_slice::buffer::{Buffer, Plain, Slice, Subsliceable};
+use arc_slice::buffer::{Buffer, Plain, Subsliceable};
 use arc_slice::error::{OwnerError, RangeError};
 use arc_slice::layout::{DefaultLayoutMut, Layout};
 use arc_slice::{ArcBytesMut, ArcBytesShared, ArcSlice, ArcSliceMut};

@@ -79,15 +79,23 @@ pub fn shared(alloc: Global, value: u64) -> Result<CountedBox<u64, Global, 3, Op
 
 /// What two owners of a value get at their ends.
 pub fn ended_by_two(
-    rt: &impl Wait,
     first: CountedBox<u64, Global, 3, Open>,
-) -> Result<[Option<u64>; 2], CountFull> {
+    second: CountedBox<u64, Global, 3, Open>,
+) -> [Option<u64>; 2] {
     let mut pass = first.pass();
-    let second = first.try_clone_as(rt, &mut pass)?;
-    let early = first.release_as(&mut pass);
     let mut other = second.pass();
-    second.learn(&mut other, &pass);
-    Ok([early, second.release_as(&mut other)])
+    [first.release_as(&mut pass), second.release_as(&mut other)]
+}
+
+/// Another owner of the same value.
+pub fn another(
+    rt: &impl Wait,
+    owner: &CountedBox<u64, Global, 3, Open>,
+) -> Result<CountedBox<u64, Global, 3, Open>, CountFull>
+    ensures { IfOk result (λ other. value_of other ≡ value_of owner.now) }
+{
+    let mut pass = owner.pass();
+    owner.try_clone_as(rt, &mut pass)
 }
 
 /// The value, where nobody else shares it.
@@ -101,20 +109,10 @@ pub fn taken_out(
     owner.try_into_value_as(&mut pass)
 }
 
-/// Writes another value, which its only owner has.
+/// Another value in the place of the one that its only owner has.
 pub fn set(sole: &mut SoleBox<u64, Global, 3, Open>, value: u64)
     ensures value { sole_value sole.new ≡ value }
     ensures owner { sole_in sole.new ≡ sole_in sole.old }
 {
     *sole.get_mut() = value;
-}
-
-/// A value of its only owner, written and taken out again.
-pub fn written_and_taken(alloc: Global, value: u64) -> u64 {
-    let Ok((mut sole, mut pass)) = SoleBox::<u64, _, 3, Open>::new(alloc, 0) else {
-        return value;
-    };
-    sole.only(&mut pass);
-    set(&mut sole, value);
-    sole.into_value_as(&mut pass)
 }

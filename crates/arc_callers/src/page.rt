@@ -1,5 +1,4 @@
 //! A caller's type that lends its items.
-ghost use Rattle.std.specs.Prelude.{◌≡◌, IfOk};
 ghost use Rattle.std.specs.Vec.{vec_items, with_items, with_items_from};
 ghost use Rattle.arc_buffer.specs.Buffers.{vec_written};
 ghost use Rattle.std.proofs.Common.{sym, ◌∙◌};

@@ -1,15 +1,12 @@
 //! Short lists of bytes that lie in a value of their own, and windows that are such a list or a
 //! window that is read.
-ghost use Rattle.std.specs.Prelude.{◌≡◌, ◌≤◌, [], length, drop, take, slice_range};
+ghost use Rattle.std.specs.Prelude.{◌≡◌, [], drop, take, slice_range};
 ghost use Rattle.std.specs.Prelude.{IfOk, IfErr, IfSome, OnOk};
-ghost use Rattle.arc_block.specs.Place.{static_data};
-ghost use Rattle.arc_block.specs.Table.{reader};
 
 use arc_slice::error::{AllocError, OwnerError, RangeError};
 use arc_slice::inlined::{
     SmallArcBytes, SmallArcSlice, SmallArcStr, SmallBytes, SmallSlice, SmallStr,
 };
-use arc_slice::layout::DefaultLayout;
 use arc_slice::{ArcBytes, Pass};
 use either::{Left, Right};
 use std::alloc::Global;
@@ -206,52 +203,62 @@ pub fn as_reader(alloc: Global, window: SmallArcBytes) -> Result<ArcBytes, Alloc
     }
 }
 
-/// A copy and a clone of it with a pass, which are then released.
-pub fn cloned_as(rt: &impl Wait, alloc: Global, bytes: &[u8]) -> Option<usize> {
+/// A clone and a part of a window that is a short list, and its end, each with a pass of no block.
+pub fn called_as(
+    rt: &impl Wait,
+    small: SmallBytes,
+) -> (
+    Result<SmallArcBytes, OwnerError>,
+    Result<SmallArcBytes, OwnerError>,
+)
+    ensures { IfOk result.0 (λ clone. clone.items ≡ small.items) }
+{
+    let window = SmallArcBytes::from(small);
     let mut pass = Pass::none();
-    match SmallArcBytes::<DefaultLayout>::try_from_slice_as(alloc, bytes, &mut pass) {
-        Ok(window) => match window.try_clone_as(rt, &mut pass) {
-            Ok(clone) => {
-                let len = clone.len();
-                clone.release_as(&mut pass);
-                Some(len)
-            }
-            Err(_) => None,
-        },
-        Err(_) => None,
-    }
+    let clone = window.try_clone_as(rt, &mut pass);
+    let mut pass = Pass::none();
+    let part = window.try_subslice_as(rt, 0, 0, &mut pass);
+    let mut pass = Pass::none();
+    window.release_as(&mut pass);
+    (clone, part)
 }
 
-/// The first bytes of an array, by a pass.
-pub fn part_as(rt: &impl Wait, alloc: Global, bytes: [u8; 4]) -> Option<SmallArcBytes> {
-    let mut pass = Pass::none();
-    match SmallArcBytes::try_from_array_as(alloc, bytes, &mut pass) {
-        Ok(window) => match window.try_subslice_as(rt, 0, 0, &mut pass) {
-            Ok(part) => Some(part),
-            Err(_) => None,
-        },
-        Err(_) => None,
-    }
-}
-
-/// Windows of a text, of a vector and of a box, each with a pass of its own.
-pub fn made_as(
+/// A copy, an array and a copy of a text, each with a pass of its own.
+pub fn copied_as(
     alloc: Global,
+    bytes: &[u8],
+    array: [u8; 4],
     text: &str,
+) -> (
+    Result<SmallArcBytes, AllocError>,
+    Result<SmallArcBytes, [u8; 4]>,
+    Result<SmallArcStr, AllocError>,
+) {
+    let mut pass = Pass::none();
+    let copied = SmallArcBytes::try_from_slice_as(alloc, bytes, &mut pass);
+    let mut pass = Pass::none();
+    let moved = SmallArcBytes::try_from_array_as(alloc, array, &mut pass);
+    let mut pass = Pass::none();
+    (
+        copied,
+        moved,
+        SmallArcStr::try_from_str_as(alloc, text, &mut pass),
+    )
+}
+
+/// Windows over a vector and over a box, each with a pass of its own.
+pub fn kept_as(
+    alloc: Global,
     vector: Vec<u8>,
     boxed: BoxedSlice<u8>,
 ) -> (
-    Result<SmallArcStr, AllocError>,
     Result<SmallArcBytes, Vec<u8>>,
     Result<SmallArcBytes, BoxedSlice<u8>>,
 ) {
     let mut pass = Pass::none();
-    let text = SmallArcStr::try_from_str_as(alloc, text, &mut pass);
-    let mut pass = Pass::none();
     let vector = SmallArcBytes::try_from_vec_as(alloc, vector, &mut pass);
     let mut pass = Pass::none();
     (
-        text,
         vector,
         SmallArcBytes::try_from_boxed_as(alloc, boxed, &mut pass),
     )

@@ -4,7 +4,7 @@ ghost use Rattle.std.specs.Box.{boxed_slice_items};
 
 use arc_slice::error::{AllocError, TryReserveError};
 use arc_slice::layout::{DefaultLayout, DefaultLayoutMut, VecLayout};
-use arc_slice::{ArcBytes, ArcBytesMut, ArcSliceMut, ArcStrMut, Open, Pass, Whole};
+use arc_slice::{ArcBytes, ArcBytesMut, ArcStrMut, Open, Pass, Whole};
 use std::alloc::Global;
 use std::boxed::BoxedSlice;
 
@@ -23,65 +23,63 @@ pub fn alone(window: &ArcBytesMut) -> Pass<Open> {
     pass
 }
 
-/// A byte in the first of so many places, of a block that has one pass.
-pub fn with_places(alloc: Global, places: usize, byte: u8) -> Option<WholeBytesMut> {
+/// Places of a block that has one pass, so many zeros, and a copy, each with a pass of its own.
+pub fn made(
+    alloc: Global,
+    places: usize,
+    bytes: &[u8],
+) -> (
+    Result<WholeBytesMut, AllocError>,
+    Result<ArcBytesMut, AllocError>,
+    Result<ArcBytesMut, AllocError>,
+) {
     let mut pass = Pass::none();
-    match WholeBytesMut::try_with_capacity_as(alloc, places, &mut pass) {
-        Ok(mut window) => match window.try_push_as(byte, &mut pass) {
-            Ok(()) => Some(window),
-            Err(_) => {
-                window.release_as(&mut pass);
-                None
-            }
-        },
-        Err(_) => None,
-    }
+    let empty = WholeBytesMut::try_with_capacity_as(alloc, places, &mut pass);
+    let mut pass = Pass::none();
+    let zeros = ArcBytesMut::try_zeroed_as(alloc, places, &mut pass);
+    let mut pass = Pass::none();
+    (
+        empty,
+        zeros,
+        ArcBytesMut::try_from_slice_as(alloc, bytes, &mut pass),
+    )
 }
 
-/// A copy, with more bytes behind it.
-pub fn extended(alloc: Global, bytes: &[u8], more: &[u8]) -> Option<ArcBytesMut> {
-    let mut pass = Pass::none();
-    match ArcBytesMut::try_from_slice_as(alloc, bytes, &mut pass) {
-        Ok(mut window) => match window.try_extend_from_slice_as(more, &mut pass) {
-            Ok(()) => Some(window),
-            Err(_) => None,
-        },
-        Err(_) => None,
-    }
-}
-
-/// So many zeros, with room for as many bytes more.
-pub fn zeros(alloc: Global, count: usize) -> Option<ArcBytesMut> {
-    let mut pass = Pass::none();
-    match ArcBytesMut::try_zeroed_as(alloc, count, &mut pass) {
-        Ok(mut window) => {
-            if !window.try_reclaim_as(count, &mut pass) {
-                return None;
-            }
-            Some(window)
-        }
-        Err(_) => None,
-    }
+/// A byte more, and then these.
+pub fn extended(
+    window: &mut ArcBytesMut,
+    byte: u8,
+    bytes: &[u8],
+) -> (
+    Result<(), (TryReserveError, u8)>,
+    Result<(), TryReserveError>,
+) {
+    let mut pass = window.pass();
+    let pushed = window.try_push_as(byte, &mut pass);
+    let mut pass = window.pass();
+    (pushed, window.try_extend_from_slice_as(bytes, &mut pass))
 }
 
 /// Room for so many bytes more.
-pub fn room_made(window: &mut ArcBytesMut, more: usize) -> Result<(), TryReserveError>
-    ensures { window.new.items ≡ window.old.items }
-{
+pub fn room_made(window: &mut ArcBytesMut, more: usize) -> (bool, Result<(), TryReserveError>) {
     let mut pass = window.pass();
-    window.try_reserve_as(more, &mut pass)
+    let found = window.try_reclaim_as(more, &mut pass);
+    (found, window.try_reserve_as(more, &mut pass))
 }
 
-/// A text, with more behind it.
-pub fn text(alloc: Global, text: &str, more: &str) -> Option<ArcStrMut> {
+/// A text, and more behind another one.
+pub fn texts(
+    alloc: Global,
+    text: &str,
+    other: &mut ArcStrMut,
+    more: &str,
+) -> (Result<ArcStrMut, AllocError>, Result<(), TryReserveError>)
+    ensures { OnOk result.1 (other.new.items ≡ other.old.items ++ more.now) }
+{
     let mut pass = Pass::none();
-    match ArcStrMut::try_from_str_as(alloc, text, &mut pass) {
-        Ok(mut window) => match window.try_extend_from_str_as(more, &mut pass) {
-            Ok(()) => Some(window),
-            Err(_) => None,
-        },
-        Err(_) => None,
-    }
+    let made = ArcStrMut::try_from_str_as(alloc, text, &mut pass);
+    let mut pass = other.pass();
+    (made, other.try_extend_from_str_as(more, &mut pass))
 }
 
 /// An array, moved in and out.

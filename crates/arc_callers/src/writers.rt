@@ -27,21 +27,18 @@ pub fn with_places(alloc: Global, places: usize) -> Result<ArcBytesMut, AllocErr
     ArcSliceMut::try_with_capacity(alloc, places)
 }
 
-/// Copies of these bytes and of this text, to be written.
-pub fn copied(
-    alloc: Global,
-    bytes: &[u8],
-    text: &str,
-) -> (
-    Result<ArcBytesMut, AllocError>,
-    Result<ArcStrMut, AllocError>,
-)
-    ensures text { IfOk result.1 (λ window. window.items ≡ text.now) }
+/// A copy of these bytes, to be written.
+pub fn copied(alloc: Global, bytes: &[u8]) -> Result<ArcBytesMut, AllocError>
+    ensures { IfOk result (λ window. window.items ≡ bytes.now) }
 {
-    (
-        ArcSliceMut::try_from_slice(alloc, bytes),
-        ArcStrMut::try_from_str(alloc, text),
-    )
+    ArcSliceMut::try_from_slice(alloc, bytes)
+}
+
+/// A copy of this text, to be written.
+pub fn text(alloc: Global, text: &str) -> Result<ArcStrMut, AllocError>
+    ensures { IfOk result (λ window. window.items ≡ text.now) }
+{
+    ArcStrMut::try_from_str(alloc, text)
 }
 
 /// Texts that are moved in; they come back where memory is refused.
