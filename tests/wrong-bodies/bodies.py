@@ -67,17 +67,33 @@ def listed():
     return [row for row in rows if row]
 
 
-def noted():
-    """By crate the checksum of the contracts over which all its bodies were tried (`sums`)."""
+def groups():
+    """The lines of `sums` in two: those of crates all of whose bodies were tried, and those that are
+    older than this file, each group with its comment."""
     with open(os.path.join(HERE, "sums"), encoding="utf-8") as lines:
-        return dict(line.split() for line in lines if line.strip() and line[0] != "#")
+        tried, _, older = lines.read().partition("# Older")
+    return tried.splitlines(), f"# Older{older}".splitlines() if older else []
+
+
+def sums_of(lines):
+    """By crate its checksum, of the lines of a group."""
+    return dict(line.split() for line in lines if line.strip() and line[0] != "#")
+
+
+def noted():
+    """By crate the checksum of the contracts over which its bodies needn't be tried (`sums`)."""
+    tried, older = groups()
+    return {**sums_of(older), **sums_of(tried)}
 
 
 def note(sums):
-    """Writes these checksums in the place of those that stand there."""
+    """Writes these checksums among those of crates all of whose bodies were tried."""
     if not sums:
         return
-    whole = sorted({**noted(), **sums}.items())
+    tried, older = groups()
+    whole = sorted({**sums_of(tried), **sums}.items())
+    rest = [line for line in older if line.split(" ")[0] not in sums]
     with open(os.path.join(HERE, "sums"), "w", encoding="utf-8") as lines:
         lines.write("# By crate: the contracts over which all its wrong bodies were refused.\n")
-        lines.writelines(f"{crate} {total}\n" for crate, total in whole)
+        lines.writelines(f"{crate} {checksum}\n" for crate, checksum in whole)
+        lines.writelines(f"{line}\n" for line in rest)
