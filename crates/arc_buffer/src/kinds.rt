@@ -2,7 +2,7 @@
 ghost use Rattle.std.specs.Prelude.{◌≡◌, ℕ, ◌+◌, ◌≤◌, ◌↔◌, ◌==◌, if◌then◌else◌, Bool, IsOk, IfErr};
 ghost use Rattle.std.specs.Prelude.{false};
 ghost use Rattle.std.specs.Prelude.{List, [], ◌∷◌, ◌++◌, replicate, length};
-ghost use Rattle.std.specs.Mem.{FitsInMemory, type_size};
+ghost use Rattle.std.specs.Mem.{type_size};
 ghost use Rattle.arc_buffer.specs.Slice.{IsEdge, IsRange, sub};
 
 pub use byte_text::ByteText;
@@ -53,7 +53,6 @@ pub trait Slice {
     /// How many places the first block of a window has that grows from nothing: 8 where an item is
     /// one byte, else 4.
     fn first() -> usize
-        requires { FitsInMemory Self.Item.row }
         ensures { result ≡ (if type_size Self.Item.row == 1 then 8 else 4) }
     {
         if Layout::new::<Self::Item>().size() == 1 {

@@ -1,7 +1,6 @@
 //! A command on the window under one number of a table.
 ghost use Rattle.std.specs.Prelude.{◌≡◌, ℕ, None, Some, false, true, length, IfSome};
 ghost use Rattle.std.specs.Prelude.{Err, IfErr, IfOk, IsOk};
-ghost use Rattle.std.specs.Mem.{FitsInMemory};
 ghost use Rattle.arc_commands.specs.Seen.{map_command, seen_reply};
 ghost use Rattle.arc_commands.specs.Changes.{Setting};
 ghost use Rattle.arc_commands.specs.declared.command.Cmd.TheVariants as command;
@@ -161,7 +160,6 @@ where
     L::Writable: LayoutMut,
     S::Small: SmallOf<S, L, B, M, A>,
     requires stays { is_turning command ≡ false }
-    requires item { FitsInMemory S.Item.row }
     requires pass { HasPassFor passes.old.of_blocks.items (stand_of (Some slot.old)) }
     ensures made { IfOk result (λ made. (next : ℕ) → Answers ⟦<S as TableUnder<L, A>>⟧.setting next
         (map_command S.items_in S.static_in B.list command) slot.old passes.old.of_blocks.items
@@ -226,7 +224,6 @@ pub fn answer<
 where
     L::Writable: LayoutMut,
     S::Small: SmallOf<S, L, B, M, A>,
-    requires item { FitsInMemory S.Item.row }
     requires pass { HasPassFor passes.old.of_blocks.items (stand_of place.old) }
     ensures made { IfOk result (λ made. IfSome place.old (λ s. (next : ℕ) → Answers
         ⟦<S as TableUnder<L, A>>⟧.setting next (map_command S.items_in S.static_in B.list command) s

@@ -1,7 +1,7 @@
 //! One window of a table.
 ghost use Rattle.std.specs.Prelude.{◌≡◌, ◌==◌, ◌&&◌, if◌then◌else◌, Bool, None, true, IfErr, OnOk};
 ghost use Rattle.std.specs.Prelude.{Err};
-ghost use Rattle.std.specs.Mem.{FitsInMemory, type_size};
+ghost use Rattle.std.specs.Mem.{type_size};
 ghost use Rattle.arc_parts.specs.Steps.{IsPassAt};
 ghost use Rattle.arc_parts.specs.Writers.{room_for, MakesRoom, Pushes};
 ghost use Rattle.arc_slots.specs.Writing.{IsLegal, can_write, seen_writing, items_of};
@@ -99,7 +99,6 @@ fn write_as<
 ) -> Result<(), TryReserveError>
     requires call { can_write S.Calls.calls (seen_writing what) ≡ true }
     requires legal { IsLegal S.is_legal (seen_writing what) }
-    requires item { FitsInMemory S.Item.row }
     requires pass { IsPassAt window.old.place pass.old }
     ensures written { OnOk result (Pushes S.DROPS true
         (room_for S.DROPS (type_size S.Item.row) window.old (additional_of (seen_writing what)))
@@ -691,7 +690,6 @@ where
         S: Commands<A>,
         requires call { can_write S.Calls.calls (seen_writing what) ≡ true }
         requires legal { IsLegal S.is_legal (seen_writing what) }
-        requires item { FitsInMemory S.Item.row }
         requires writes { is_sole self.old.role ≡ true }
         requires room { is_fresh (room_for S.DROPS (type_size S.Item.row) (row_of self.old)
             (additional_of (seen_writing what))) ≡ true
@@ -722,7 +720,6 @@ where
     /// Whether there is room for so many items more without memory in the window, which is one
     /// that is written; then it is made.
     pub fn try_reclaim(&mut self, additional: usize) -> bool
-        requires item { FitsInMemory S.Item.row }
         requires writes { is_sole self.old.role ≡ true }
         ensures row { Reclaims
             (room_for S.DROPS (type_size S.Item.row) (row_of self.old) additional)

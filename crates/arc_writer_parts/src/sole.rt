@@ -1,7 +1,7 @@
 //! Parts of a window that writes as the only owner of its block.
 ghost use Rattle.std.specs.Prelude.{◌≡◌, ◌≤◌, ◌+◌, [], length, replicate, false};
 ghost use Rattle.std.specs.Prelude.{IfOk, IfErr, OnOk, OnErr};
-ghost use Rattle.std.specs.Mem.{FitsInMemory, type_size};
+ghost use Rattle.std.specs.Mem.{type_size};
 ghost use Rattle.arc_owners.specs.count.Calls.{IsPassOfNone};
 ghost use Rattle.arc_sort_writers.specs.Growth.{IfAsked, AsksForRoom};
 ghost use Rattle.arc_block.specs.Place.{nowhere};
@@ -326,7 +326,6 @@ impl<S: Slice, B: BufferMut<S::Item> + Drop, M: Drop, A: Allocator + Copy, H: Ma
         additional: usize,
         pass: &mut Pass<H>,
     ) -> Result<(), TryReserveError>
-        requires item { FitsInMemory S.Item.row }
         requires pass { IsPassAt self.old.place pass.old }
         ensures room { MakesRoom S.DROPS H.whole
             (room_for S.DROPS (type_size S.Item.row) self.old additional)

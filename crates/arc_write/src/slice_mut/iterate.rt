@@ -2,7 +2,7 @@
 ghost use Rattle.std.specs.Prelude.{◌++◌, ◌≡◌, IfErr, IfOk, List, OnOk, Some};
 ghost use Rattle.std.specs.Iterator.{Drains, ExtendsWithItems, IsFinite, Yields, YieldsThen};
 ghost use Rattle.std.specs.Iterator.Runs.{WholeRun};
-ghost use Rattle.std.specs.Mem.{FitsInMemory, type_size};
+ghost use Rattle.std.specs.Mem.{type_size};
 ghost use Rattle.arc_parts.specs.Window.{PartsView};
 ghost use Rattle.arc_parts.specs.Writers.{idle_writer};
 ghost use Rattle.arc_write.specs.Extend.{PushesEach, PushesEachShared, RefusesOne};
@@ -45,7 +45,6 @@ impl<
     where
         S: Extendable,
         H: Stepping,
-        requires item { FitsInMemory S.Item.row }
         requires ends { (it : I.IntoIter) → I.into_iter_gives iter it
             → I.IntoIter.can_next it × IsFinite (I.IntoIter.remaining it) }
         ensures extended { OnOk result ((it : I.IntoIter) × (xs : List S.Item)
@@ -92,7 +91,6 @@ impl<
         S: Extendable,
         H: Stepping,
         S: Emptyable,
-        requires item { FitsInMemory S.Item.row }
         requires ends { (it : I.IntoIter) → I.into_iter_gives iter it
             → I.IntoIter.can_next it × IsFinite (I.IntoIter.remaining it) }
         ensures made { IfOk result (λ window. (it : I.IntoIter) × (xs : List S.Item)
@@ -152,7 +150,6 @@ impl<
     where
         S: Extendable,
         H: Stepping,
-        requires item { FitsInMemory S.Item.row }
         requires ends { (it : I.IntoIter) → I.into_iter_gives iter it
             → I.IntoIter.can_next it × IsFinite (I.IntoIter.remaining it) }
         ensures extended { OnOk result ((it : I.IntoIter) × (xs : List S.Item)

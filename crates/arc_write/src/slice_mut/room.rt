@@ -1,6 +1,6 @@
 //! Room for items more, of a sole writer and of one of several.
 ghost use Rattle.std.specs.Prelude.{◌+◌, ◌≡◌, ◌≤◌, false, is_ok, length, OnOk};
-ghost use Rattle.std.specs.Mem.{FitsInMemory, type_size};
+ghost use Rattle.std.specs.Mem.{type_size};
 ghost use Rattle.arc_block.specs.Place.{size_at};
 ghost use Rattle.arc_parts.specs.Shared.{asks_alone, MakesSharedRoom, ReclaimsShared};
 ghost use Rattle.arc_parts.specs.Steps.{IsPassAt};
@@ -55,7 +55,6 @@ impl<
         additional: usize,
         pass: &mut Pass<H>,
     ) -> Result<(), TryReserveError>
-        requires item { FitsInMemory S.Item.row }
         requires pass { IsPassAt self.old.place pass.old }
         ensures room { MakesRoom S.DROPS H.whole
             (room_for S.DROPS (type_size S.Item.row) self.old additional)
@@ -86,7 +85,6 @@ impl<
     pub fn try_reserve(&mut self, additional: usize) -> Result<(), TryReserveError>
     where
         H: Stepping,
-        requires item { FitsInMemory S.Item.row }
         ensures room { WithNewPass {H = H} H.real self.old.place (λ first last.
             MakesRoom S.DROPS H.whole (room_for S.DROPS (type_size S.Item.row) self.old additional)
             self.old self.new first last result) }
@@ -106,7 +104,6 @@ impl<
     /// Whether there is room for so many items more without memory; then it is made. It adds
     /// nothing.
     pub fn try_reclaim(&mut self, additional: usize) -> bool
-        requires item { FitsInMemory S.Item.row }
         ensures { Reclaims (room_for S.DROPS (type_size S.Item.row) self.old additional)
             self.old self.new result }
     {
@@ -115,7 +112,6 @@ impl<
 
     /// `try_reclaim`, with a pass, which stays as it is.
     pub fn try_reclaim_as(&mut self, additional: usize, pass: &mut Pass<H>) -> bool
-        requires item { FitsInMemory S.Item.row }
         requires pass { IsPassAt self.old.place pass.old }
         ensures room { Reclaims (room_for S.DROPS (type_size S.Item.row) self.old additional)
             self.old self.new result }
@@ -159,7 +155,6 @@ impl<
         additional: usize,
         pass: &mut Pass<H>,
     ) -> Result<(), TryReserveError>
-        requires item { FitsInMemory S.Item.row }
         requires pass { IsPassAt self.old.place pass.old }
         ensures room { MakesSharedRoom (asks_alone self.old additional) H.whole
             (room_for false (type_size S.Item.row) self.old additional)
@@ -188,7 +183,6 @@ impl<
     pub fn try_reserve(&mut self, additional: usize) -> Result<(), TryReserveError>
     where
         H: Stepping,
-        requires item { FitsInMemory S.Item.row }
         ensures room { WithNewPass {H = H} H.real self.old.place (λ first last.
             MakesSharedRoom (asks_alone self.old additional) H.whole
             (room_for false (type_size S.Item.row) self.old additional)
@@ -210,7 +204,6 @@ impl<
     ///
     /// On a block, where the window hasn't the places already, Alone with the answer.
     pub fn try_reclaim_as(&mut self, additional: usize, pass: &mut Pass<H>) -> bool
-        requires item { FitsInMemory S.Item.row }
         requires pass { IsPassAt self.old.place pass.old }
         ensures room { ReclaimsShared (asks_alone self.old additional)
             (room_for false (type_size S.Item.row) self.old additional)
@@ -229,7 +222,6 @@ impl<
     pub fn try_reclaim(&mut self, additional: usize) -> bool
     where
         H: Stepping,
-        requires item { FitsInMemory S.Item.row }
         ensures room { WithNewPass {H = H} H.real self.old.place (λ first last.
             ReclaimsShared (asks_alone self.old additional)
             (room_for false (type_size S.Item.row) self.old additional)

@@ -2,7 +2,7 @@
 ghost use Rattle.std.specs.Prelude.{◌++◌, ◌+◌, ◌∷◌, ◌≡◌, [], Err, false, IfErr, is_ok, length};
 ghost use Rattle.std.specs.Prelude.{OnOk};
 ghost use Rattle.std.specs.Borrow.{sem};
-ghost use Rattle.std.specs.Mem.{FitsInMemory, type_size};
+ghost use Rattle.std.specs.Mem.{type_size};
 ghost use Rattle.arc_block.specs.Place.{size_at};
 ghost use Rattle.arc_parts.specs.Shared.{asks_alone, MakesSharedRoom, PushesShared};
 ghost use Rattle.arc_parts.specs.Steps.{IsPassAt};
@@ -66,7 +66,6 @@ impl<
     ) -> Result<(), (TryReserveError, S::Item)>
     where
         S: Extendable,
-        requires item { FitsInMemory S.Item.row }
         requires pass { IsPassAt self.old.place pass.old }
         ensures pushed { OnOk result (Pushes S.DROPS H.whole
             (room_for S.DROPS (type_size S.Item.row) self.old 1) (item ∷ [])
@@ -100,7 +99,6 @@ impl<
     where
         H: Stepping,
         S: Extendable,
-        requires item { FitsInMemory S.Item.row }
         ensures pushed { OnOk result (WithNewPass {H = H} H.real self.old.place (λ first last.
             Pushes S.DROPS H.whole (room_for S.DROPS (type_size S.Item.row) self.old 1) (item ∷ [])
             self.old self.new first last)) }
@@ -141,7 +139,6 @@ impl<
     where
         S: CopySlice,
         S::Item: Copy,
-        requires item { FitsInMemory S.Item.row }
         requires pass { IsPassAt self.old.place pass.old }
         ensures extended { OnOk result (Pushes S.DROPS H.whole
             (room_for S.DROPS (type_size S.Item.row) self.old (length items.now)) items.now
@@ -176,7 +173,6 @@ impl<
         H: Stepping,
         S: CopySlice,
         S::Item: Copy,
-        requires item { FitsInMemory S.Item.row }
         ensures extended { OnOk result (WithNewPass {H = H} H.real self.old.place (λ first last.
             Pushes S.DROPS H.whole
             (room_for S.DROPS (type_size S.Item.row) self.old (length items.now)) items.now
@@ -242,7 +238,6 @@ impl<
     ) -> Result<(), (TryReserveError, S::Item)>
     where
         S: Extendable,
-        requires item { FitsInMemory S.Item.row }
         requires pass { IsPassAt self.old.place pass.old }
         ensures pushed { OnOk result (PushesShared (asks_alone self.old 1) H.whole
             (room_for false (type_size S.Item.row) self.old 1) (item ∷ [])
@@ -274,7 +269,6 @@ impl<
     where
         S: Extendable,
         H: Stepping,
-        requires item { FitsInMemory S.Item.row }
         ensures pushed { OnOk result (WithNewPass {H = H} H.real self.old.place (λ first last.
             PushesShared (asks_alone self.old 1) H.whole
             (room_for false (type_size S.Item.row) self.old 1) (item ∷ [])
@@ -315,7 +309,6 @@ impl<
     where
         S: CopySlice,
         S::Item: Copy,
-        requires item { FitsInMemory S.Item.row }
         requires pass { IsPassAt self.old.place pass.old }
         ensures extended { OnOk result (PushesShared (asks_alone self.old (length items.now))
             H.whole (room_for false (type_size S.Item.row) self.old (length items.now)) items.now
@@ -349,7 +342,6 @@ impl<
         S: CopySlice,
         H: Stepping,
         S::Item: Copy,
-        requires item { FitsInMemory S.Item.row }
         ensures extended { OnOk result (WithNewPass {H = H} H.real self.old.place (λ first last.
             PushesShared (asks_alone self.old (length items.now)) H.whole
             (room_for false (type_size S.Item.row) self.old (length items.now)) items.now

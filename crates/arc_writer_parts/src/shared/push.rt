@@ -1,7 +1,7 @@
 //! Items that one of several writers puts behind his own.
 ghost use Rattle.std.specs.Prelude.{◌≡◌, ◌≤◌, ◌+◌, ◌++◌, ◌∷◌, [], length, false};
 ghost use Rattle.std.specs.Prelude.{IfErr, OnOk, Err};
-ghost use Rattle.std.specs.Mem.{FitsInMemory, type_size};
+ghost use Rattle.std.specs.Mem.{type_size};
 ghost use Rattle.arc_parts.specs.Shared.{MakesSharedRoom, PushesShared, asks_alone, extended};
 ghost use Rattle.arc_parts.specs.Steps.{IsPassAt};
 ghost use Rattle.arc_parts.specs.Writers.{capacity_of, room_for};
@@ -40,7 +40,6 @@ impl<S: Slice, B: BufferMut<S::Item> + Drop, M: Drop, A: Allocator + Copy, H: Ma
         item: S::Item,
         pass: &mut Pass<H>,
     ) -> Result<(), (TryReserveError, S::Item)>
-        requires item { FitsInMemory S.Item.row }
         requires pass { IsPassAt self.old.place pass.old }
         ensures pushed { OnOk result (PushesShared (asks_alone self.old 1) H.whole
             (room_for false (type_size S.Item.row) self.old 1) (item ∷ [])
@@ -105,7 +104,6 @@ where
         items: &[S::Item],
         pass: &mut Pass<H>,
     ) -> Result<(), TryReserveError>
-        requires item { FitsInMemory S.Item.row }
         requires pass { IsPassAt self.old.place pass.old }
         ensures extended { OnOk result (PushesShared (asks_alone self.old (length items.now))
             H.whole (room_for false (type_size S.Item.row) self.old (length items.now)) items.now

@@ -1,6 +1,6 @@
 //! Room for one of several writers, who has to be alone for it.
 ghost use Rattle.std.specs.Prelude.{◌≡◌, ◌≤◌, ◌<◌, ◌+◌, ◌-◌, false, length, OnOk};
-ghost use Rattle.std.specs.Mem.{FitsInMemory, type_size};
+ghost use Rattle.std.specs.Mem.{type_size};
 ghost use Rattle.arc_parts.specs.Shared.{MakesSharedRoom, MakesRoomBeside, ReclaimsShared};
 ghost use Rattle.arc_parts.specs.Shared.{asks_alone, as_shared, is_on_block};
 ghost use Rattle.arc_parts.specs.Steps.{IsPassAt};
@@ -51,7 +51,6 @@ impl<S: Slice, B: BufferMut<S::Item> + Drop, M: Drop, A: Allocator + Copy, H: Ma
         additional: usize,
         pass: &mut Pass<H>,
     ) -> Result<(), TryReserveError>
-        requires item { FitsInMemory S.Item.row }
         requires pass { IsPassAt self.old.place pass.old }
         ensures room { MakesSharedRoom (asks_alone self.old additional) H.whole
             (room_for false (type_size S.Item.row) self.old additional)
@@ -97,7 +96,6 @@ impl<S: Slice, B: BufferMut<S::Item> + Drop, M: Drop, A: Allocator + Copy, H: Ma
         additional: usize,
         pass: &mut Pass<H>,
     ) -> Result<(), TryReserveError>
-        requires item { FitsInMemory S.Item.row }
         requires short { capacity_of self.old.role - length self.old.items < additional }
         requires pass { IsPassAt self.old.place pass.old }
         ensures room { MakesSharedRoom (asks_alone self.old additional) H.whole
@@ -121,7 +119,6 @@ impl<S: Slice, B: BufferMut<S::Item> + Drop, M: Drop, A: Allocator + Copy, H: Ma
         additional: usize,
         pass: &mut Pass<H>,
     ) -> (Self, Result<(), TryReserveError>)
-        requires item { FitsInMemory S.Item.row }
         requires short { capacity_of self.role - length self.items < additional }
         requires pass { IsPassAt self.place pass.old }
         ensures room { MakesSharedRoom (asks_alone self additional) H.whole
@@ -157,7 +154,6 @@ impl<S: Slice, B: BufferMut<S::Item> + Drop, M: Drop, A: Allocator + Copy, H: Ma
         pass: &mut Pass<H>,
     ) -> (Self, Result<(), TryReserveError>)
         requires kind { S.DROPS ≡ false }
-        requires item { FitsInMemory S.Item.row }
         requires place { ¬ IsOfBuffer sole.place }
         requires pass { IsPassAt sole.place pass.old }
         ensures room { MakesRoomBeside H.whole
@@ -179,7 +175,6 @@ impl<S: Slice, B: BufferMut<S::Item> + Drop, M: Drop, A: Allocator + Copy, H: Ma
     /// On a block, where the window hasn't the places already, Alone with the answer.
     #[tactic(auto, using(crate::proofs::Rooms::spare_reclaimed))]
     pub fn try_reclaim_as(&mut self, additional: usize, pass: &mut Pass<H>) -> bool
-        requires item { FitsInMemory S.Item.row }
         requires pass { IsPassAt self.old.place pass.old }
         ensures room { ReclaimsShared (asks_alone self.old additional)
             (room_for false (type_size S.Item.row) self.old additional)
@@ -199,7 +194,6 @@ impl<S: Slice, B: BufferMut<S::Item> + Drop, M: Drop, A: Allocator + Copy, H: Ma
     /// The same by value, where there are too few places.
     #[tactic(auto, using(crate::proofs::Rooms::asked_reclaimed, crate::proofs::Rooms::refused_reclaimed, crate::proofs::Rooms::idle_reclaimed, crate::proofs::Rooms::no_buffer_shared, crate::proofs::Rooms::no_buffer_reclaimed))]
     fn with_places_as(self, additional: usize, pass: &mut Pass<H>) -> (Self, bool)
-        requires item { FitsInMemory S.Item.row }
         requires short { capacity_of self.role - length self.items < additional }
         requires several { as_shared self ≡ self }
         requires pass { IsPassAt self.place pass.old }

@@ -2,7 +2,7 @@
 ghost use Rattle.std.specs.Prelude.{◌≡◌, ◌≤◌, ◌+◌, ◌++◌, ◌∷◌, [], length};
 ghost use Rattle.std.specs.Prelude.{IfOk, IfErr, OnOk, OnErr, Ok, Err};
 ghost use Rattle.std.specs.Borrow.{sem};
-ghost use Rattle.std.specs.Mem.{FitsInMemory, type_size};
+ghost use Rattle.std.specs.Mem.{type_size};
 ghost use Rattle.arc_sort_writers.specs.Growth.{IfAsked, AsksForRoom, without_item};
 ghost use Rattle.arc_parts.specs.Steps.{IsPassAt};
 ghost use Rattle.arc_parts.specs.Writers.{capacity_of, room_for, MakesRoom, Pushes, Reclaims};
@@ -43,7 +43,6 @@ impl<S: Slice, B: BufferMut<S::Item> + Drop, M: Drop, A: Allocator + Copy, H: Ma
 
     /// Whether there is room for so many items more without memory; then it is made.
     pub fn try_reclaim(&mut self, additional: usize) -> bool
-        requires item { FitsInMemory S.Item.row }
         ensures { Reclaims (room_for S.DROPS (type_size S.Item.row) self.old additional)
             self.old self.new result }
     {
@@ -74,7 +73,6 @@ impl<S: Slice, B: BufferMut<S::Item> + Drop, M: Drop, A: Allocator + Copy, H: Ma
         item: S::Item,
         pass: &mut Pass<H>,
     ) -> Result<(), (TryReserveError, S::Item)>
-        requires item { FitsInMemory S.Item.row }
         requires pass { IsPassAt self.old.place pass.old }
         ensures pushed { OnOk result (Pushes S.DROPS H.whole
             (room_for S.DROPS (type_size S.Item.row) self.old 1) (item ∷ [])
@@ -163,7 +161,6 @@ where
         items: &[S::Item],
         pass: &mut Pass<H>,
     ) -> Result<(), TryReserveError>
-        requires item { FitsInMemory S.Item.row }
         requires pass { IsPassAt self.old.place pass.old }
         ensures extended { OnOk result (Pushes S.DROPS H.whole
             (room_for S.DROPS (type_size S.Item.row) self.old (length items.now)) items.now
