@@ -1,2 +1,3 @@
 pub mod PartsOn
 pub mod Lends
+pub mod Roles
