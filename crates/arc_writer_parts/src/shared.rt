@@ -167,38 +167,17 @@ impl<S: Slice, B: BufferMut<S::Item> + Drop, M: Drop, A: Allocator + Copy, H: Ma
         }
     }
 
-    /// How many items there are.
-    #[inline(always)]
-    pub fn len(&self) -> usize
-        ensures { result ≡ length self.now.items }
+    /// The same parts, of items of another kind. It adds nothing.
+    pub fn into_kind<K: Slice<Item = S::Item>>(self) -> SharedParts<K, B, M, A, H>
+        requires { K.DROPS ≡ S.DROPS }
+        ensures { result ≡ self }
     {
-        match &self.on {
-            SharedStorage::Several(writer) => writer.len(),
-            SharedStorage::Alone(parts) => parts.len(),
-        }
-    }
-
-    /// The items.
-    #[inline(always)]
-    pub fn as_slice(&self) -> &[S::Item]
-        ensures { result.now ≡ self.now.items }
-    {
-        match &self.on {
-            SharedStorage::Several(writer) => writer.as_slice(),
-            SharedStorage::Alone(parts) => parts.as_slice(),
-        }
-    }
-
-    /// How many places there are for items, from the first of them on.
-    #[inline(always)]
-    pub fn capacity(&self) -> usize
-        ensures capacity { result ≡ capacity_of self.now.role }
-        ensures enough { length self.now.items ≤ result }
-    {
-        match &self.on {
-            SharedStorage::Several(writer) => writer.capacity(),
-            SharedStorage::Alone(parts) => parts.capacity(),
-        }
+        let SharedParts { on, alloc } = self;
+        let on = match on {
+            SharedStorage::Several(writer) => SharedStorage::Several(writer),
+            SharedStorage::Alone(parts) => SharedStorage::Alone(parts.into_kind()),
+        };
+        SharedParts { on, alloc }
     }
 
     /// Whether a layout holds the block, where there is one.
@@ -212,12 +191,10 @@ impl<S: Slice, B: BufferMut<S::Item> + Drop, M: Drop, A: Allocator + Copy, H: Ma
     }
 }
 
-mod ends;
 mod freeze;
 mod joins;
-mod push;
+mod role;
 mod room;
 mod splits;
 mod take;
 mod unique;
-mod write;

@@ -85,31 +85,4 @@ impl<S: Slice, B: BufferMut<S::Item> + Drop, M: Drop, A: Allocator + Copy, H: Ma
             },
         }
     }
-
-    /// The metadata of the block, where it was made with some.
-    pub fn metadata(&self) -> Option<&M>
-        ensures some { IfSome result (λ m. metadata_at self.now.place ≡ Some m.now) }
-        ensures none { IfNone result (metadata_at self.now.place ≡ None) }
-    {
-        match &self.on {
-            SoleStorage::Native(parts) => parts.metadata(),
-            SoleStorage::Vector(parts) => parts.metadata(),
-            SoleStorage::Buffer(parts) => parts.metadata(),
-        }
-    }
-
-    /// The metadata of the caller's buffer on which the parts stand.
-    pub fn borrowed_metadata(&self) -> Option<&B::Metadata>
-    where
-        B: BorrowMetadata,
-        ensures some { IfSome result (λ m.
-            IsMetadataAt B.list B.metadata self.now.place self.now.items m.now) }
-        ensures none { IfNone result (¬ IsOnCallers self.now.place) }
-    {
-        match &self.on {
-            SoleStorage::Native(parts) => parts.borrowed_metadata::<B>(),
-            SoleStorage::Vector(parts) => parts.borrowed_metadata(),
-            SoleStorage::Buffer(parts) => Some(parts.borrowed_metadata()),
-        }
-    }
 }
