@@ -1,5 +1,5 @@
 //! Parts of a window that writes as one of several owners of its block.
-ghost use Rattle.std.specs.Prelude.{◌≡◌, ℕ, ◌≤◌, ◌↔◌, [], length, false, IsTrue};
+ghost use Rattle.std.specs.Prelude.{◌≡◌, ℕ, ◌↔◌, [], false, IsTrue};
 ghost use Rattle.arc_block.specs.LayoutFacts.{layout_facts};
 ghost use Rattle.arc_block.specs.Place.{nowhere};
 ghost use Rattle.arc_sort_writers.specs.NativeWriters.{native_row, IsAlonePlace};

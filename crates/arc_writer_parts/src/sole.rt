@@ -1,15 +1,12 @@
 //! Parts of a window that writes as the only owner of its block.
 ghost use Rattle.std.specs.Prelude.{◌≡◌, ◌≤◌, ◌+◌, [], length, replicate, false};
-ghost use Rattle.std.specs.Prelude.{IfOk, IfErr, OnOk, OnErr};
-ghost use Rattle.std.specs.Mem.{type_size};
+ghost use Rattle.std.specs.Prelude.{IfOk, IfErr, OnErr};
 ghost use Rattle.arc_owners.specs.count.Calls.{IsPassOfNone};
-ghost use Rattle.arc_sort_writers.specs.Growth.{IfAsked, AsksForRoom};
 ghost use Rattle.arc_block.specs.Place.{nowhere};
-ghost use Rattle.arc_parts.specs.Steps.{IsPassAt, EndsShownAt};
+ghost use Rattle.arc_parts.specs.Steps.{EndsShownAt};
 ghost use Rattle.arc_block.specs.Table.{sole_writer};
-ghost use Rattle.arc_parts.specs.Writers.{capacity_of, room_for, MakesWriter, MakesRoom};
+ghost use Rattle.arc_parts.specs.Writers.{MakesWriter};
 ghost use Rattle.arc_parts.specs.Writers.{IsWriterPlace};
-ghost use Rattle.arc_block.specs.Place.{size_at};
 ghost use Rattle.std.specs.Prelude.{IsTrue};
 ghost use Rattle.std.specs.Prelude.{◌↔◌};
 ghost use Rattle.arc_parts.specs.Window.{IsOfBuffer};
@@ -17,7 +14,7 @@ ghost use Rattle.arc_parts.specs.Shared.{is_vector_at};
 
 use arc_buffer::buffer::BufferMut;
 use arc_buffer::kinds::{Slice, Zeroable};
-use arc_owners::error::{AllocError, TryReserveError};
+use arc_owners::error::AllocError;
 use arc_owners::mark::{Mark, Open};
 use arc_owners::owners::Pass;
 use arc_sort_writers::buffer::SoleBuffer;

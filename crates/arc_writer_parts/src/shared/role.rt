@@ -1,5 +1,5 @@
 //! What the parts of one of several writers have in common with a sole writer's.
-ghost use Rattle.std.specs.Prelude.{◌≡◌, false, true, IfOk, IfErr, refl};
+ghost use Rattle.std.specs.Prelude.{◌≡◌, true, IfOk, IfErr, refl};
 ghost use Rattle.std.specs.Vec.{vec_capacity};
 ghost use Rattle.arc_block.specs.LayoutFacts.{layout_facts};
 ghost use Rattle.arc_block.specs.Moves.{IsRefused, layout_move};
@@ -114,11 +114,13 @@ impl<S: Slice, B: BufferMut<S::Item> + Drop, M: Drop, A: Allocator + Copy, H: Ma
     }
 
     #[inline(always)]
+    #[tactic(auto, using(crate::proofs::Rooms::shared_asked))]
     fn try_push_as(
         &mut self,
         item: S::Item,
         pass: &mut Pass<H>,
     ) -> Result<(), (TryReserveError, S::Item)> {
+        self.known_place();
         match self.try_reserve_as(1, pass) {
             Ok(()) => {
                 self.push_reserved(item);
@@ -314,11 +316,13 @@ where
     S::Item: Copy,
 {
     #[inline(always)]
+    #[tactic(auto, using(crate::proofs::Rooms::more_extended, crate::proofs::Rooms::shared_asked))]
     fn try_extend_from_slice_as(
         &mut self,
         items: &[S::Item],
         pass: &mut Pass<H>,
     ) -> Result<(), TryReserveError> {
+        self.known_place();
         match self.try_reserve_as(items.len(), pass) {
             Ok(()) => {
                 self.known_uncounted();

@@ -2,9 +2,9 @@
 ghost use Rattle.std.specs.Prelude.{◌≡◌, ◌≤◌, ◌<◌, ◌+◌, ◌-◌, ◌∷◌, [], false, length, OnOk};
 ghost use Rattle.std.specs.Mem.{type_size};
 ghost use Rattle.arc_parts.specs.Shared.{MakesSharedRoom, MakesRoomBeside, ReclaimsShared};
-ghost use Rattle.arc_parts.specs.Shared.{asks_alone, as_shared, extended, is_on_block};
+ghost use Rattle.arc_parts.specs.Shared.{asks_alone, as_shared, extended, is_on_block, IsSharedPlace};
 ghost use Rattle.arc_parts.specs.Steps.{IsPassAt};
-ghost use Rattle.arc_parts.specs.Window.{IsOfBuffer, PartsView};
+ghost use Rattle.arc_parts.specs.Window.{IsOfBuffer};
 ghost use Rattle.arc_parts.specs.Writers.{capacity_of, room_for};
 
 use super::{SharedParts, SharedStorage};
@@ -32,6 +32,7 @@ impl<S: Slice, B: BufferMut<S::Item> + Drop, M: Drop, A: Allocator + Copy, H: Ma
         ensures spare { result ≡ capacity_of self.now.role - length self.now.items }
         ensures several { as_shared self.now ≡ self.now }
         ensures enough { length self.now.items ≤ capacity_of self.now.role }
+        ensures place { IsSharedPlace self.now.place }
     {
         self.known_place();
         self.capacity() - self.len()

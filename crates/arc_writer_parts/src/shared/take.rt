@@ -1,10 +1,7 @@
 //! What one of several writers takes back, where he is alone: a vector's items, or an array.
-ghost use Rattle.std.specs.Prelude.{◌≡◌, ◌↔◌, false, IfOk, IfErr, IsTrue};
-ghost use Rattle.std.specs.Vec.{vec_capacity};
+ghost use Rattle.std.specs.Prelude.{◌≡◌, IfOk, IfErr};
 ghost use Rattle.arc_parts.specs.Steps.{IsPassAt, TakesAt, RefusesTaking};
-ghost use Rattle.arc_parts.specs.Window.{IsVecPart, IsBoxWhole};
 ghost use Rattle.arc_parts.specs.Writers.{IsWholeWriter};
-ghost use Rattle.arc_block.specs.Place.{size_at};
 
 use super::{SharedParts, SharedStorage};
 use arc_buffer::buffer::BufferMut;

@@ -1,17 +1,16 @@
 //! A sole writer's parts over a caller's buffer: made of one, and taken back as one.
-ghost use Rattle.std.specs.Prelude.{◌≡◌, true, length, Some, None};
-ghost use Rattle.std.specs.Prelude.{IfOk, IfErr, IfSome, IfNone};
+ghost use Rattle.std.specs.Prelude.{◌≡◌, true, length};
+ghost use Rattle.std.specs.Prelude.{IfOk, IfErr};
 ghost use Rattle.arc_owners.specs.count.Calls.{IsPassOfNone, Leaves};
 ghost use Rattle.arc_block.specs.Block.{buffer_info};
-ghost use Rattle.arc_block.specs.Metadata.{IsMetadataAt, IsOnCallers};
-ghost use Rattle.arc_block.specs.Place.{at_owner, metadata_at};
+ghost use Rattle.arc_block.specs.Place.{at_owner};
 ghost use Rattle.arc_parts.specs.Steps.{IsPassAt};
 ghost use Rattle.arc_parts.specs.Window.{IsBufferWhole};
 ghost use Rattle.arc_parts.specs.Writers.{MakesBufferWriter};
 ghost use Rattle.arc_block.specs.Place.{size_at};
 
 use super::{SoleParts, SoleStorage};
-use arc_buffer::buffer::{BorrowMetadata, BufferMut};
+use arc_buffer::buffer::BufferMut;
 use arc_buffer::kinds::Slice;
 use arc_owners::mark::Mark;
 use arc_owners::owners::Pass;

@@ -1,26 +1,25 @@
 //! How a sole writer's parts end, and what they become.
-ghost use Rattle.std.specs.Prelude.{◌≡◌, ◌≤◌, ◌↔◌, true, false, length, IfOk, IfErr, IsTrue, is_ok};
-ghost use Rattle.arc_owners.specs.count.Calls.{Asks, Leaves, Learns, IsNewPass, IsPassOfNone};
+ghost use Rattle.std.specs.Prelude.{◌≡◌, ◌↔◌, true, IfOk, IfErr, IsTrue, is_ok};
+ghost use Rattle.arc_owners.specs.count.Calls.{Asks, Leaves};
 ghost use Rattle.arc_block.specs.LayoutFacts.{layout_facts};
 ghost use Rattle.arc_owners.specs.count.Calls.{SeesAlone, IsPassFor};
 ghost use Rattle.arc_parts.specs.declared.storage.Storage.TheVariants.{Block as In};
 ghost use Rattle.arc_parts.specs.declared.storage.Storage.TheVariants.{Native as On};
 ghost use Rattle.arc_block.specs.Block.{IsWritable};
-ghost use Rattle.arc_block.specs.Place.{at_owner, IsOnBlock};
+ghost use Rattle.arc_block.specs.Place.{at_owner};
 ghost use Rattle.arc_block.specs.Table.{reader};
-ghost use Rattle.arc_parts.specs.Steps.{IsPassAt, EndsAt, Makes, Begins};
-ghost use Rattle.arc_parts.specs.Writers.{as_reader, as_sole, Freezes, IsWholeWriter};
+ghost use Rattle.arc_parts.specs.Steps.{IsPassAt};
+ghost use Rattle.arc_parts.specs.Writers.{as_sole, IsWholeWriter};
 ghost use Rattle.arc_parts.specs.Writers.{BecomesSole, RefusesSole};
-ghost use Rattle.arc_parts.specs.Window.{IsHeld, IsBlockHeld, window_of};
+ghost use Rattle.arc_parts.specs.Window.{IsBlockHeld};
 ghost use Rattle.arc_parts.specs.Window.{IsWithin, parts_of, window_seen};
-ghost use Rattle.arc_block.specs.Moves.{IsRefused, layout_move};
 
 use super::{SoleParts, SoleStorage};
 use arc_block::block::{Block, MAX_OWNERS, NativeBlock};
 use arc_block::layout::Layout;
 use arc_buffer::buffer::BufferMut;
 use arc_buffer::kinds::Slice;
-use arc_owners::mark::{Mark, Stepping};
+use arc_owners::mark::Mark;
 use arc_owners::owners::Pass;
 use arc_parts::parts::Parts;
 use arc_parts::storage::Storage;

@@ -1,16 +1,12 @@
 //! A sole writer's parts over a vector: made of one, and taken back as one.
 ghost use Rattle.arc_owners.specs.history.Histories.{Counted};
-ghost use Rattle.std.specs.Prelude.{◌≡◌, ◌≤◌, true, IfOk, IfErr};
+ghost use Rattle.std.specs.Prelude.{◌≡◌, ◌≤◌, IfOk, IfErr};
 ghost use Rattle.std.specs.Vec.{vec_capacity};
-ghost use Rattle.arc_owners.specs.count.Calls.{IsPassOfNone, Leaves};
+ghost use Rattle.arc_owners.specs.count.Calls.{IsPassOfNone};
 ghost use Rattle.arc_block.specs.Block.{vector};
-ghost use Rattle.arc_block.specs.Place.{at_owner};
-ghost use Rattle.arc_parts.specs.Steps.{IsPassAt};
-ghost use Rattle.arc_parts.specs.Window.{IsVecPart, IsBoxWhole};
 ghost use Rattle.arc_parts.specs.Writers.{MakesWriterOver};
-ghost use Rattle.arc_block.specs.Place.{size_at};
 
-use super::{SoleParts, SoleStorage};
+use super::SoleParts;
 use arc_buffer::buffer::BufferMut;
 use arc_buffer::kinds::Slice;
 use arc_owners::mark::Mark;
