@@ -3,7 +3,8 @@ ghost use Rattle.std.specs.Prelude.{◌≡◌, false};
 ghost use Rattle.arc_block.specs.LayoutFacts.{layout_facts};
 ghost use Rattle.arc_parts.specs.Steps.{EndsShownAt};
 ghost use Rattle.arc_parts.specs.Window.{IsBlockHeld};
-ghost use Rattle.arc_parts.specs.Writers.{IsWriterPlace, idle_writer};
+ghost use Rattle.arc_parts.specs.Writers.{idle_writer};
+ghost use Rattle.arc_writer_parts.specs.Roles.{HasWritersRole, StandsAsWriter};
 
 use arc_block::layout::{DefaultLayoutMut, LayoutMut};
 use arc_buffer::buffer::BufferMut;
@@ -153,6 +154,16 @@ impl<
         let WriteWindow { parts, of: _ } = self;
         parts
     }
+
+    /// The window stands on nothing, or on a block that counts its owners and may be written; one
+    /// of several writers stands on one that keeps its items in memory of ours. Does nothing: its
+    /// contract is the law.
+    pub fn known_place(&self)
+        ensures place { StandsAsWriter R.Parts.several self.now.place }
+        ensures role { HasWritersRole R.Parts.several self.now.role }
+    {
+        self.parts.known_place();
+    }
 }
 
 impl<
@@ -170,14 +181,6 @@ impl<
         ensures { result ≡ idle_writer }
     {
         Self::from_parts(SoleParts::on_nothing(alloc))
-    }
-
-    /// The window stands on nothing, or on a block that counts its owners and may be written. Does
-    /// nothing: its contract is the law.
-    pub fn known_place(&self)
-        ensures { IsWriterPlace self.now.place }
-    {
-        self.parts.known_place();
     }
 }
 
