@@ -8,4 +8,4 @@ pub mod Refused
 mod Zeros
 pub mod Moves
 mod Cuts
-pub mod Splits
+mod Splits
