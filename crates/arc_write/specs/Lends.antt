@@ -14,7 +14,8 @@ use Rattle.arc_write.specs.contracts.slice_mut.WriteWindow.{the_row}
 
 module _ (S L R B M A H Item Error Parts : RattleType)
     (s : kind.Ghosts S.Denot Item.Denot Error.Denot) (l : layout.Ghosts L.Denot L.Denot)
-    (p : writer_parts.Ghosts Parts.Denot S.Denot B.Denot M.Denot A.Denot H.Denot Item.Denot)
+    (p : writer_parts.Ghosts Parts.Denot S.Denot B.Denot M.Denot A.Denot H.Denot Item.Denot
+    Error.Denot)
     (m : buffer_mut.Ghosts B.Denot Item.Denot) (b : buffer.Ghosts B.Denot Item.Denot)
     (a : allocator.Ghosts A.Denot)
     (h : mark.Ghosts H.Denot)
