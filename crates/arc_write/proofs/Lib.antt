@@ -9,3 +9,4 @@ mod Zeros
 pub mod Moves
 mod Cuts
 mod Splits
+mod Within

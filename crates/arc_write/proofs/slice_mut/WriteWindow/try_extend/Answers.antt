@@ -4,8 +4,8 @@ use Rattle.std.proofs.iter.runs.Made.{run, to_end}
 use Rattle.std.specs.Mem.{type_size}
 use Rattle.arc_write.specs.Extend.{PushesOne}
 use Rattle.arc_write.proofs.Extend.{items_more, pushed_more}
-use Rattle.arc_write.proofs.Legal.{refused-items}
-use Rattle.arc_write.proofs.slice_mut.iterate.ArcSliceMut+S+L+1+B+M+A+H.try_extend.Goals as goal
+use Rattle.arc_write.proofs.Legal.{refused_items}
+use Rattle.arc_write.proofs.slice_mut.WriteWindow.try_extend.Goals as goal
 
 pub loop-item-preserved : goal.loop-item-preserved
 loop-item-preserved g c =
@@ -15,8 +15,8 @@ loop-item-preserved g c =
     let next = c.in-Some.ensures.goes.on said.1 in (
       next.0,
       next.1,
-      pushed_more (PushesOne g.row.H.Denot g.H.Mark.real g.S.Slice.DROPS g.H.Mark.whole
-          (type_size g.row.S-Item) g.B.Buffer.list g.B.Buffer.places g.B.BufferMut.grows
+      pushed_more (PushesOne g.row.H.Denot g.H.Mark.real g.R.Parts.WriterParts.several
+          g.S.Slice.DROPS g.H.Mark.whole (type_size g.row.S-Item) g.B.Buffer.list g.B.Buffer.places g.B.BufferMut.grows
           g.B.BufferMut.refuses) at.yielded item c.args.self.now at.self c.try_push.new.self
           said.2 (record { pushed = c.in-Ok.ensures.pushed; own = c.in-Ok.ensures.own }),
       items_more c.args.self.now.items at.yielded item at.self.items c.try_push.new.self.items
@@ -31,7 +31,8 @@ returns-in-Err-clause-items g c =
       _,
       at.yielded,
       c.into_iter-item-iterator.ensures.into_iter_gives,
-      refused-items g.S.Slice.is_legal _ g.H.Mark.whole _ at.self c.try_push.new.self _ _ _ refusal
+      refused_items g.S.Slice.is_legal g.R.Parts.WriterParts.several g.S.Slice.DROPS
+          g.H.Mark.whole (type_size g.row.S-Item) 1 at.self c.try_push.new.self _ _ _ refusal
           ∙ at.invariant.3,
       (_, at.yielded_by),
     )
