@@ -5,11 +5,11 @@ ghost use Rattle.std.specs.Prelude.{List, [], ◌∷◌, ◌++◌, replicate, le
 ghost use Rattle.std.specs.Mem.{type_size};
 ghost use Rattle.arc_buffer.specs.Slice.{IsEdge, IsRange, sub};
 
+use arc_owners::sizes::type_bytes;
 pub use byte_text::ByteText;
 pub use debug::{DebugItem, DebugSlice};
 pub use owned::Owned;
 pub use plain::Plain;
-use std::alloc::Layout;
 pub use text::{Text, cuts_into_texts};
 pub use vec_in::VecIn;
 pub use wraps::Wraps;
@@ -55,7 +55,7 @@ pub trait Slice {
     fn first() -> usize
         ensures { result ≡ (if type_size Self.Item.row == 1 then 8 else 4) }
     {
-        if Layout::new::<Self::Item>().size() == 1 {
+        if type_bytes::<Self::Item>() == 1 {
             8
         } else {
             4

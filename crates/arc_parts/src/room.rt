@@ -7,7 +7,7 @@ ghost use Rattle.arc_parts.specs.Room.{IfBehind, IfGrowth, IfFront, IfOwn};
 
 use arc_buffer::kinds::Slice;
 use arc_owners::error::TryReserveError;
-use std::alloc::Layout;
+use arc_owners::sizes::type_bytes;
 
 /// Where room for more items comes from.
 #[derive(Drop)]
@@ -35,7 +35,7 @@ pub const MOST: usize = 9223372036854775807;
 fn has_room<T>(places: usize) -> bool
     ensures { result ≡ not (is_too_large (type_size T.row) places) }
 {
-    match places.checked_mul(Layout::new::<T>().size()) {
+    match places.checked_mul(type_bytes::<T>()) {
         Some(bytes) => places <= MOST && bytes <= MOST,
         None => false,
     }
@@ -54,7 +54,7 @@ fn growth_to<T>(is_vector: bool, size: usize, end: usize, additional: usize) -> 
     if is_vector {
         return vector_growth::<T>(places, needed);
     }
-    match places.checked_mul(Layout::new::<T>().size()) {
+    match places.checked_mul(type_bytes::<T>()) {
         Some(bytes) if needed <= MOST && bytes <= MOST => Room::Growth(places),
         _ => Room::Refused(TryReserveError::CapacityOverflow),
     }

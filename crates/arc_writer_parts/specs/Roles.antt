@@ -5,11 +5,23 @@ use Rattle.arc_owners.specs.declared.error.TryReserveError.{TryReserveError}
 use Rattle.arc_owners.specs.declared.count.tokens.Pass.{Pass}
 use Rattle.arc_owners.specs.count.Calls.{Owner, Leaves, AsksAndLeaves}
 use Rattle.arc_block.specs.Place.{Place, at_owner}
+use Rattle.arc_block.specs.Table.{Role, sole_writer, one_writer_of_several}
 use Rattle.arc_parts.specs.Shared.{MakesSharedRoom, PushesShared, ReclaimsShared, LeavesAt}
-use Rattle.arc_parts.specs.Shared.{asks_alone}
+use Rattle.arc_parts.specs.Shared.{asks_alone, IsSharedPlace}
 use Rattle.arc_parts.specs.Steps.{TakesAt, RefusesTaking}
 use Rattle.arc_parts.specs.Window.{PartsView}
-use Rattle.arc_parts.specs.Writers.{room_for, MakesRoom, Pushes, Reclaims}
+use Rattle.arc_parts.specs.Writers.{capacity_of, room_for, IsWriterPlace, MakesRoom, Pushes}
+use Rattle.arc_parts.specs.Writers.{Reclaims}
+
+-- where a writer stands
+abbrev pub StandsAsWriter : {N M : Type 0} → (several : Bool) → Place (Option N) M → Type 0
+StandsAsWriter false place = IsWriterPlace place
+StandsAsWriter true place = IsSharedPlace place
+
+-- what he is: a sole writer, or one of several
+abbrev pub HasWritersRole : (several : Bool) → Role → Type 0
+HasWritersRole false role = role ≡ sole_writer (capacity_of role)
+HasWritersRole true role = role ≡ one_writer_of_several (capacity_of role)
 
 module _ {T M H : Type 0} where
   -- Room was asked for, for so many items more of this size. One of several writers has to be alone

@@ -16,8 +16,9 @@ ghost use Rattle.arc_parts.specs.Window.{window_of};
 ghost use Rattle.arc_parts.specs.Writers.{after_advance, after_truncate, as_reader, capacity_of};
 ghost use Rattle.arc_parts.specs.Writers.{Freezes, room_for, with_items, with_more};
 ghost use Rattle.arc_sort_writers.specs.Growth.{AsksForRoom, IfAsked, without_item};
-ghost use Rattle.arc_writer_parts.specs.Roles.{AsksRoom, PushesItems, ReclaimsRoom, ReleasesAt};
-ghost use Rattle.arc_writer_parts.specs.Roles.{RefusesTakingOut, ReleasesHintedAt, TakesOutAt};
+ghost use Rattle.arc_writer_parts.specs.Roles.{AsksRoom, HasWritersRole, PushesItems, ReclaimsRoom};
+ghost use Rattle.arc_writer_parts.specs.Roles.{RefusesTakingOut, ReleasesAt, ReleasesHintedAt};
+ghost use Rattle.arc_writer_parts.specs.Roles.{StandsAsWriter, TakesOutAt};
 
 use crate::shared::SharedParts;
 use crate::sole::SoleParts;
@@ -83,6 +84,13 @@ pub trait WriterParts<
 
     /// The same parts with other items in their places.
     ghost with_list: { Self → List S.Item → Self };
+
+    /// They stand on nothing, or on a block that counts its owners and may be written; those of one
+    /// of several writers on one that keeps its items in memory of ours. Does nothing: its contract
+    /// is the law.
+    fn known_place(&self)
+        ensures place { StandsAsWriter several (seen self.now).place }
+        ensures role { HasWritersRole several (seen self.now).role };
 
     /// How many items there are.
     fn len(&self) -> usize

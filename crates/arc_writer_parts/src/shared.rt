@@ -3,11 +3,11 @@ ghost use Rattle.std.specs.Prelude.{◌≡◌, ℕ, ◌↔◌, [], false, IsTrue
 ghost use Rattle.arc_block.specs.LayoutFacts.{layout_facts};
 ghost use Rattle.arc_block.specs.Place.{nowhere};
 ghost use Rattle.arc_sort_writers.specs.NativeWriters.{native_row, IsAlonePlace};
-ghost use Rattle.arc_parts.specs.Shared.{IsSharedPlace, as_shared, is_vector_at};
+ghost use Rattle.arc_parts.specs.Shared.{as_shared, is_vector_at};
 ghost use Rattle.arc_parts.specs.Steps.{EndsShownAt};
 ghost use Rattle.arc_block.specs.Table.{one_writer_of_several};
 ghost use Rattle.arc_parts.specs.Window.{IsBlockHeld};
-ghost use Rattle.arc_parts.specs.Writers.{capacity_of, with_full};
+ghost use Rattle.arc_parts.specs.Writers.{with_full};
 
 use crate::sole::SoleParts;
 use arc_block::layout::Layout;
@@ -123,18 +123,6 @@ impl<S: Slice, B: BufferMut<S::Item> + Drop, M: Drop, A: Allocator + Copy, H: Ma
         SharedParts {
             on: SharedStorage::Alone(parts),
             alloc,
-        }
-    }
-
-    /// They stand on nothing, or on a block that counts its owners and keeps its items in memory of
-    /// ours, as one of several writers. Does nothing: its contract is the law.
-    pub fn known_place(&self)
-        ensures place { IsSharedPlace self.now.place }
-        ensures role { self.now.role ≡ one_writer_of_several (capacity_of self.now.role) }
-    {
-        match &self.on {
-            SharedStorage::Several(_) => (),
-            SharedStorage::Alone(_) => (),
         }
     }
 

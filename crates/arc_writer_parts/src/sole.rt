@@ -6,7 +6,6 @@ ghost use Rattle.arc_block.specs.Place.{nowhere};
 ghost use Rattle.arc_parts.specs.Steps.{EndsShownAt};
 ghost use Rattle.arc_block.specs.Table.{sole_writer};
 ghost use Rattle.arc_parts.specs.Writers.{MakesWriter};
-ghost use Rattle.arc_parts.specs.Writers.{IsWriterPlace};
 ghost use Rattle.std.specs.Prelude.{IsTrue};
 ghost use Rattle.std.specs.Prelude.{◌↔◌};
 ghost use Rattle.arc_parts.specs.Window.{IsOfBuffer};
@@ -136,18 +135,6 @@ impl<S: Slice, B: BufferMut<S::Item> + Drop, M: Drop, A: Allocator + Copy, H: Ma
             SoleStorage::Buffer(parts) => parts.is_on_vector(),
             SoleStorage::Native(parts) => parts.is_on_vector(),
             SoleStorage::Vector(parts) => parts.is_on_vector(),
-        }
-    }
-
-    /// They stand on nothing, or on a block that counts its owners and may be written. Does
-    /// nothing: its contract is the law.
-    pub fn known_place(&self)
-        ensures { IsWriterPlace self.now.place }
-    {
-        match &self.on {
-            SoleStorage::Buffer(parts) => parts.known_place(),
-            SoleStorage::Native(parts) => parts.known_place(),
-            SoleStorage::Vector(parts) => parts.known_place(),
         }
     }
 

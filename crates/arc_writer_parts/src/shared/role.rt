@@ -36,6 +36,13 @@ impl<S: Slice, B: BufferMut<S::Item> + Drop, M: Drop, A: Allocator + Copy, H: Ma
 
     ghost with_list = { with_items };
 
+    fn known_place(&self) {
+        match &self.on {
+            SharedStorage::Several(_) => (),
+            SharedStorage::Alone(_) => (),
+        }
+    }
+
     #[inline(always)]
     fn len(&self) -> usize {
         match &self.on {

@@ -4,6 +4,7 @@ ghost use Rattle.arc_parts.specs.Steps.{IsPassAt, TakesAt, RefusesTaking};
 ghost use Rattle.arc_parts.specs.Writers.{IsWholeWriter};
 
 use super::{SharedParts, SharedStorage};
+use crate::role::WriterParts;
 use arc_buffer::buffer::BufferMut;
 use arc_buffer::kinds::Slice;
 use arc_owners::mark::Mark;

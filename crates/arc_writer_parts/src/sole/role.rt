@@ -34,6 +34,15 @@ impl<S: Slice, B: BufferMut<S::Item> + Drop, M: Drop, A: Allocator + Copy, H: Ma
 
     ghost with_list = { with_items };
 
+    fn known_place(&self) {
+        self.known_role();
+        match &self.on {
+            SoleStorage::Buffer(parts) => parts.known_place(),
+            SoleStorage::Native(parts) => parts.known_place(),
+            SoleStorage::Vector(parts) => parts.known_place(),
+        }
+    }
+
     #[inline(always)]
     fn len(&self) -> usize {
         match &self.on {

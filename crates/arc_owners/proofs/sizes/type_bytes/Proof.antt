@@ -12,13 +12,13 @@ use denote.Param.{layout}
 use denote.RattleType.{owns}
 use denote.Signature.{types_at}
 use denote.Triple.Entry.{alive}
-use Rattle.arc_owners.proofs.Endings.{spends, spent}
-use Rattle.arc_memory.specs.contracts.piece.header_bytes as f
-use Rattle.arc_memory.proofs.piece.header_bytes.Statement.{statement}
-use Rattle.arc_memory.proofs.piece.header_bytes.Code as code
+use Rattle.arc_owners.proofs.memory.Endings.{spends, spent}
+use Rattle.arc_owners.specs.contracts.sizes.type_bytes as f
+use Rattle.arc_owners.proofs.sizes.type_bytes.Statement.{statement}
+use Rattle.arc_owners.proofs.sizes.type_bytes.Code as code
 
-pub header_bytes_spec : {M : Type 1} → statement M
-header_bytes_spec 𝓤 𝓛 𝓜 𝓡 wired X L =
+pub type_bytes_spec : {M : Type 1} → statement M
+type_bytes_spec 𝓤 𝓛 𝓜 𝓡 wired X L =
     let En = f.ended X in
     let c = f.clauses X 𝓛 𝓜.mem 𝓡.returns in
     let s : ℕ = capped (size (layout X)) in
