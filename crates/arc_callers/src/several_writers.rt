@@ -38,7 +38,7 @@ pub fn sole(window: ArcBytesShared) -> Result<ArcBytesMut, ArcBytesShared>
 pub fn known(window: &ArcBytesShared)
     ensures { IsSharedPlace window.now.place }
 {
-    window.known_shared_place();
+    window.known_place();
     window.known_kind();
     window.known_uncounted();
 }

@@ -1,12 +1,10 @@
 //! Windows of several writers on one block: how a window becomes one, and is its block's only owner
 //! again.
 ghost use Rattle.std.specs.Prelude.{◌≡◌, false, IfErr, IfOk, is_ok, ℕ};
-ghost use Rattle.arc_block.specs.Table.{one_writer_of_several};
 ghost use Rattle.arc_parts.specs.Shared.{as_shared, as_unique, AsksAlone, is_vector_at};
-ghost use Rattle.arc_parts.specs.Shared.{IsSharedPlace};
 ghost use Rattle.arc_parts.specs.Steps.{IsPassAt};
 ghost use Rattle.arc_parts.specs.Window.{IsOfBuffer};
-ghost use Rattle.arc_parts.specs.Writers.{capacity_of, with_full};
+ghost use Rattle.arc_parts.specs.Writers.{with_full};
 ghost use Rattle.arc_read.specs.Steps.{WithNewPass};
 
 use crate::slice_mut::ArcSliceMut;
@@ -53,15 +51,6 @@ impl<
     A: Allocator + Copy,
     H: Mark,
 > ArcSliceMut<S, L, 0, B, M, A, H> {
-    /// The window stands on nothing, or on a block that counts its owners and keeps its items in
-    /// memory of ours, as one of several writers. Does nothing: its contract is the law.
-    pub fn known_shared_place(&self)
-        ensures place { IsSharedPlace self.now.place }
-        ensures role { self.now.role ≡ one_writer_of_several (capacity_of self.now.role) }
-    {
-        self.parts.known_place()
-    }
-
     /// Whether the window stands on a vector, whose places a split moves to a native block first.
     pub fn is_on_vector(&self) -> bool
         ensures { result ≡ is_vector_at self.now.place }
