@@ -2,7 +2,7 @@
 use Rattle.std.proofs.Common.{ap, ◌∙◌}
 use Rattle.arc_parts.specs.Window.{PartsView}
 use Rattle.arc_block.specs.Place.{size_at}
-use Rattle.arc_write.proofs.slice_mut.take.WriteWindow.try_into_vec_as.Goals as goal
+use Rattle.arc_write.proofs.slice_mut.WriteWindow.try_into_vec_as.Goals as goal
 
 pub returns-in-Ok-clause-places : goal.returns-in-Ok-clause-places
 returns-in-Ok-clause-places g c = (

@@ -2,7 +2,7 @@
 use Rattle.std.proofs.Common.{sym, subst}
 use Rattle.arc_block.specs.Place.{IsOnBlock}
 use Rattle.arc_parts.specs.Steps.{Makes, Begins}
-use Rattle.arc_write.proofs.slice_mut.change.WriteWindow.try_freeze_as.Goals as goal
+use Rattle.arc_write.proofs.slice_mut.WriteWindow.try_freeze_as.Goals as goal
 
 pub returns-in-Ok-clause-made : goal.returns-in-Ok-clause-made
 returns-in-Ok-clause-made g c =
