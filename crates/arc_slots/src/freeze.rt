@@ -56,7 +56,7 @@ where
             }
         }
         Held::Several(window) => {
-            window.known_shared_place();
+            window.known_place();
             match window.try_freeze_as::<L>(pass) {
                 Ok(made) => Ok(made),
                 Err(window) => Err(Held::Several(window)),
@@ -87,7 +87,7 @@ where
     {
         match &self.window {
             Held::Write(window) => window.known_place(),
-            Held::Several(window) => window.known_shared_place(),
+            Held::Several(window) => window.known_place(),
             Held::Read(_) | Held::Small(_) => unreachable!(),
         }
         self.block.is_none() && !L::STATIC

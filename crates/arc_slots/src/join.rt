@@ -128,8 +128,8 @@ where
         let Held::Several(its_window) = its_window else {
             unreachable!()
         };
-        window.known_shared_place();
-        its_window.known_shared_place();
+        window.known_place();
+        its_window.known_place();
         let mut back = Some(its_window);
         let mut pass = passes.lend(block);
         let joined = S::Calls::try_unsplit_as(window, &mut back, &mut pass);

@@ -448,7 +448,7 @@ where
         let Held::Several(window) = &mut self.window else {
             unreachable!()
         };
-        window.known_shared_place();
+        window.known_place();
         let mut pass = passes.lend(block);
         match write_beside_as(window, what, &mut pass) {
             Ok(()) => {

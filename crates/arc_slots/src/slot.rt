@@ -659,7 +659,7 @@ where
                 self.block.is_none() && window.capacity().saturating_sub(window.len()) < additional
             }
             Held::Several(window) => {
-                window.known_shared_place();
+                window.known_place();
                 self.block.is_none() && window.capacity().saturating_sub(window.len()) < additional
             }
             Held::Read(_) | Held::Small(_) => unreachable!(),

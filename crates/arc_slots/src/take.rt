@@ -21,6 +21,7 @@ use arc_owners::owners::Pass;
 use arc_parts::parts::Parts;
 use arc_read::slice::ArcSlice;
 use arc_write::slice_mut::ArcSliceMut;
+use arc_writer_parts::role::WriterParts;
 use arc_writer_parts::sole::SoleParts;
 use std::alloc::Allocator;
 
@@ -273,12 +274,12 @@ where
             unreachable!()
         };
         let mut pass = passes.lend(block);
-        let taken = window.into_shared_parts().try_into_vec_as(&mut pass);
+        let taken = window.into_parts().try_into_vec_as(&mut pass);
         passes.give_back(block, pass);
         match taken {
             Ok(items) => Ok(Reply::Vec(items_of::<S, A>(items))),
             Err(parts) => Err(Slot {
-                window: Held::Several(ArcSliceMut::from_shared_parts(parts)),
+                window: Held::Several(ArcSliceMut::from_parts(parts)),
                 block,
             }),
         }
