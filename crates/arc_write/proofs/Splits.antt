@@ -155,7 +155,8 @@ module _ {T M H : Type 0} (layout : LayoutFacts)
       → HoldsLegal layout legal old
       → HoldsLegal layout legal front × HoldsLegal layout legal back
   off_holds split held =
-      let places = split-off-held layout real one_pass at old front back before after split held.0 in
+      let places = split-off-held layout real one_pass at old front back before after split held.0
+      in
       let lists = split-off-legal real one_pass legal boundary part ends at _ old front back before
       after may held.1 split in ((places.0, lists.0), (places.1, lists.1))
 
