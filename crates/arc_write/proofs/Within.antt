@@ -1,7 +1,7 @@
 -- What fits in a window's places is done, and one of several writers stands where he stood.
 use Rattle.std.proofs.Common.{◌≡◌, ◌≤◌, ◌+◌, ◌-◌, ℕ, Bool, true, false, List, [], ◌∷◌, length, refl}
 use Rattle.std.proofs.Common.{ap, ◌∙◌, subst, arith, if◌then◌else◌}
-use Rattle.std.specs.Prelude.{nat_lt, not, ◌&&◌, Result, Ok, Err, is_ok, OnOk, IfErr}
+use Rattle.std.specs.Prelude.{nat_lt, not, ◌&&◌, ◌==◌, Result, Ok, Err, is_ok, OnOk, IfErr}
 use Rattle.std.proofs.lemmas.Bool.{le-ltb, false≢true}
 use Rattle.arc_owners.specs.declared.count.tokens.Pass.{Pass}
 use Rattle.arc_owners.specs.declared.error.TryReserveError.{TryReserveError}

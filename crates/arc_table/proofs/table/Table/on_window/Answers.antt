@@ -182,12 +182,12 @@ told g c =
       so.2,
     ))
 
-pub answer-requires-clause-pass : goal.answer-requires-clause-pass
-answer-requires-clause-pass g c =
+pub answer-requires : goal.answer-requires
+answer-requires g c =
     let s = c.self.inside.slots in
     known (setting g) (windows_of s.index.items s.numbers.items s.places.items)
     c.self.inside.passes.of_blocks.items c.self.invariant.0 c.args.i c.index_mut-slot.result.now
-    (stood g (goal.at.answer-requires-clause-pass g c).After-index_mut-slot)
+    (stood g (goal.at.answer-requires g c).After-index_mut-slot)
 
 pub push_made-requires-clause-indexed : goal.push_made-requires-clause-indexed
 push_made-requires-clause-indexed g c =
