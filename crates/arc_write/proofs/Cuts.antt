@@ -13,8 +13,8 @@ module _ {T M : Type 0} (layout : LayoutFacts) (legal : List T → Type 0)
     (part : (xs : List T) (s e : ℕ) → legal xs → IsRange boundary xs s e → legal (sub xs s e))
     (ends : (xs : List T) → legal xs → IsEdge boundary xs 0 × IsEdge boundary xs (length xs))
     (n : ℕ) (old new seen : PartsView T M) (is : seen ≡ old) where
-  pub advanced : IsEdge boundary seen.items n → HoldsLegal layout legal old → new ≡ after_advance n old
-      → HoldsLegal layout legal new
+  pub advanced : IsEdge boundary seen.items n → HoldsLegal layout legal old
+      → new ≡ after_advance n old → HoldsLegal layout legal new
   advanced edge held cut = (
     advanced_held layout n old new cut held.0,
     advanced_legal legal boundary part ends n old new cut

@@ -1,8 +1,7 @@
--- What both parts of a split hold, of one of several writers, and what is known of one who left a
--- vector and of two who were joined.
+-- What both parts of a split hold, of one of several writers, and that two who were joined have a
+-- legal list.
 use Rattle.std.proofs.Common.{◌≡◌, ℕ, Bool, true, false, List, ◌++◌, length, take, drop}
 use Rattle.std.proofs.Common.{Option, Some, None, refl, sym, ap, ◌∙◌, subst}
-use Rattle.std.specs.Prelude.{Result, Ok, Err, IfOk, OnErr}
 use Rattle.std.proofs.Math.Logic.{∥∥₁_elim, ∥∥₁_map, ∥∥₁_prop}
 use Rattle.arc_owners.specs.count.Calls.{Owner}
 use Rattle.arc_owners.specs.count.Invariant.{BlockId, Line}
@@ -11,7 +10,7 @@ use Rattle.arc_buffer.specs.Slice.{sub, IsEdge, IsRange}
 use Rattle.arc_block.specs.Block.{Sort, native, vector, buffer, raw}
 use Rattle.arc_block.specs.Layouts.{LayoutFacts}
 use Rattle.arc_block.specs.Place.{Place, nowhere, static_data, on_block}
-use Rattle.arc_parts.specs.Shared.{CanSplit, LeavesVector, StandsToSplit, StandsToSplitAt}
+use Rattle.arc_parts.specs.Shared.{CanSplit, StandsToSplit, StandsToSplitAt}
 use Rattle.arc_parts.specs.Shared.{SplitsWriterOff, SplitsWriterTo, front_of, joined_row}
 use Rattle.arc_parts.specs.Steps.{Shares}
 use Rattle.arc_parts.specs.Window.{PartsView, IsBlockHeld}
@@ -90,23 +89,6 @@ module _ {T M : Type 0} (layout : LayoutFacts) where
         same split.stays (advance-held at split.whole whole),
       )
 
-  -- a writer who moved off a vector, or was refused memory for that
-  pub left_held : {H E : Type 0} (one_pass : Bool) (w v : PartsView T M) (before left : Pass H)
-      (reply : Result (Pass H) E)
-      → IfOk reply (λ new. LeavesVector false one_pass w v before left new)
-      → OnErr reply ((v ≡ w) × (left ≡ before))
-      → IsBlockHeld layout w.place → IsBlockHeld layout v.place
-  left_held one_pass w v before left (Ok new) moved stays held = same moved.made refl
-  left_held one_pass w v before left (Err e) moved stays held = same stays.0 held
-
--- his items stay
-pub left_items : {T M H E : Type 0} (one_pass : Bool) (w v : PartsView T M) (before left : Pass H)
-    (reply : Result (Pass H) E)
-    → IfOk reply (λ new. LeavesVector false one_pass w v before left new)
-    → OnErr reply ((v ≡ w) × (left ≡ before)) → v.items ≡ w.items
-left_items one_pass w v before left (Ok new) moved stays = ap (λ p. p.items) moved.made
-left_items one_pass w v before left (Err e) moved stays = ap (λ p. p.items) stays.0
-
 module _ {T M H : Type 0} (real : BlockId → ℕ → List Line → Type 0) (one_pass : Bool) where
   -- a writer who moved to a native block has the items that he had
   by-sort : (w v : PartsView T M) (before after : Pass H) (sort : Sort)
@@ -173,7 +155,8 @@ module _ {T M H : Type 0} (layout : LayoutFacts)
       → HoldsLegal layout legal old
       → HoldsLegal layout legal front × HoldsLegal layout legal back
   off_holds split held =
-      let places = split-off-held layout real one_pass at old front back before after split held.0 in
+      let places = split-off-held layout real one_pass at old front back before after split held.0
+      in
       let lists = split-off-legal real one_pass legal boundary part ends at _ old front back before
       after may held.1 split in ((places.0, lists.0), (places.1, lists.1))
 

@@ -29,8 +29,8 @@ impl<
     H: Mark,
 > WriteWindow<S, L, R, B, M, A, H> {
     /// The items as their block's vector, moved to its front, where the block is a vector and no
-    /// other owner lives. Items that are dropped one by one have to be all of it. A sole writer asks
-    /// nobody: he is alone.
+    /// other owner lives. Items that are dropped one by one have to be all of it. A sole writer
+    /// asks nobody: he is alone.
     ///
     /// # Errors
     ///

@@ -1,24 +1,10 @@
 use Rattle.std.proofs.Common.{sym, subst}
 use Rattle.arc_block.specs.LayoutFacts.{layout_facts}
-use Rattle.arc_parts.specs.Shared.{IsOneBlock}
-use Rattle.arc_parts.specs.Steps.{IsPassAt}
 use Rattle.arc_parts.specs.Window.{PartsView, IsBlockHeld}
 use Rattle.arc_write.proofs.Parts.{HoldsLegal}
 use Rattle.arc_write.proofs.Splits.{joined_legal}
 use Rattle.arc_write.proofs.slice_mut.splits.ArcSliceMut+S+L+0+B+M+A+H.try_unsplit_as.Goals.{in-Ok, in-Err}
 use Rattle.arc_write.proofs.slice_mut.splits.ArcSliceMut+S+L+0+B+M+A+H.try_unsplit_as.Goals as goal
-
-pub try_unsplit_as-requires-clause-block : goal.try_unsplit_as-requires-clause-block
-try_unsplit_as-requires-clause-block g c =
-    subst (λ (v : PartsView g.row.S-Item.Denot g.row.M.Denot).
-    IsOneBlock c.self.inside.parts.place v.place) (sym c.into_parts.ensures.parts)
-    (subst (λ (w : PartsView g.row.S-Item.Denot g.row.M.Denot).
-    IsOneBlock w.place c.args.other.place) (sym c.self.view_is) c.requires.block)
-
-pub try_unsplit_as-requires-clause-pass : goal.try_unsplit_as-requires-clause-pass
-try_unsplit_as-requires-clause-pass g c =
-    subst (λ (w : PartsView g.row.S-Item.Denot g.row.M.Denot). IsPassAt w.place c.args.pass.now)
-    (sym c.self.view_is) c.requires.pass
 
 pub invariant_of-self : goal.invariant_of-self
 invariant_of-self g c =
