@@ -17,7 +17,8 @@ loop-item-preserved g c =
       next.1,
       pushed_more (PushesOne g.row.H.Denot g.H.Mark.real g.R.Parts.WriterParts.several
           g.S.Slice.DROPS g.H.Mark.whole (type_size g.row.S-Item) g.B.Buffer.list
-          g.B.Buffer.places g.B.BufferMut.grows g.B.BufferMut.refuses) at.yielded item c.args.self.now at.self c.try_push.new.self
+          g.B.Buffer.places g.B.BufferMut.grows g.B.BufferMut.refuses)
+          at.yielded item c.args.self.now at.self c.try_push.new.self
           said.2 (record { pushed = c.in-Ok.ensures.pushed; own = c.in-Ok.ensures.own }),
       items_more c.args.self.now.items at.yielded item at.self.items c.try_push.new.self.items
           said.3

@@ -26,4 +26,5 @@ returns-clause-within g c =
     (length c.args.items.now) w (of.seen call.new.self) (is_ok call.result)) c.self.view_is
     (extend_within of.several g.S.Slice.DROPS g.H.Mark.whole (type_size g.row.S-Item)
     (length c.args.items.now) (of.seen c.self.inside.parts) (of.seen call.new.self)
-    c.args.pass.now call.new.pass c.args.items.now (λ e. e) call.result call.ensures.extended call.ensures.refused)
+    c.args.pass.now call.new.pass c.args.items.now (λ e. e) call.result
+    call.ensures.extended call.ensures.refused)

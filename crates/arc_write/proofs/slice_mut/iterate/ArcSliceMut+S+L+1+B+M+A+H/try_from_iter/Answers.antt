@@ -13,9 +13,8 @@ returns-in-Ok-clause-made g c =
       did.2,
       did.3,
       subst (λ (w : PartsView g.row.S-Item.Denot g.row.M.Denot). PushesEach g.row.H.Denot
-          g.H.Mark.real false g.S.Slice.DROPS g.H.Mark.whole (type_size g.row.S-Item) g.B.Buffer.list
-          g.B.Buffer.places g.B.BufferMut.grows
-          g.B.BufferMut.refuses did.1 w
+          g.H.Mark.real false g.S.Slice.DROPS g.H.Mark.whole (type_size g.row.S-Item)
+          g.B.Buffer.list g.B.Buffer.places g.B.BufferMut.grows g.B.BufferMut.refuses did.1 w
           c.try_extend.new.self) c.new-window.ensures did.4,
     )
 
