@@ -9,6 +9,7 @@ pub mod editor;
 pub mod encoder;
 pub mod frames;
 pub mod generic;
+pub mod items;
 pub mod layouts;
 pub mod owners;
 pub mod page;
