@@ -6,7 +6,7 @@ use arc_owners::mark::Stepping;
 use arc_slice::buffer::{Buffer, BufferMut, CopySlice, Plain, Subsliceable};
 use arc_slice::error::{OwnerError, RangeError, TryReserveError};
 use arc_slice::layout::{DefaultLayoutMut, Layout, LayoutMut};
-use arc_slice::role::{CopyWriterParts, RoleOf};
+use arc_slice::role::CopyRole;
 use arc_slice::{ArcBytesMut, ArcBytesShared, ArcSlice, Open, WriteWindow};
 use bytes::BufMut;
 use std::alloc::{Allocator, Global};
@@ -36,13 +36,10 @@ pub fn part<
 }
 
 /// Whether a line and its end have places behind what a writer has, whichever his role.
-pub fn line_put<R: RoleOf<Plain<u8>, Vec<u8>, (), Global, Open>>(
+pub fn line_put<R: CopyRole<Plain<u8>, Vec<u8>, (), Global, Open>>(
     window: &mut WriteWindow<Plain<u8>, DefaultLayoutMut, R>,
     line: &[u8],
-) -> bool
-where
-    R::Parts: CopyWriterParts<Plain<u8>, Vec<u8>, (), Global, Open>,
-{
+) -> bool {
     window.put_slice(line).is_ok() && window.put_u8(10).is_ok()
 }
 
@@ -57,7 +54,7 @@ pub fn lines_put(sole: &mut ArcBytesMut, several: &mut ArcBytesShared, line: &[u
 pub fn counted_behind<
     S: CopySlice,
     L: LayoutMut,
-    R: RoleOf<S, B, M, A, H>,
+    R: CopyRole<S, B, M, A, H>,
     B: BufferMut<S::Item> + Drop,
     M: Drop,
     A: Allocator + Copy,
@@ -68,7 +65,6 @@ pub fn counted_behind<
 ) -> Result<usize, TryReserveError>
 where
     S::Item: Copy,
-    R::Parts: CopyWriterParts<S, B, M, A, H>,
     ensures items { OnOk result (window.new.items ≡ window.old.items ++ items.now) }
     ensures count { IfOk result (λ n. n ≡ length window.new.items) }
 {

@@ -10,7 +10,7 @@ use arc_block::layout::{DefaultLayoutMut, LayoutMut};
 use arc_buffer::buffer::BufferMut;
 use arc_buffer::kinds::{Emptyable, Plain, Slice, Text};
 use arc_owners::mark::{Mark, Open};
-use arc_writer_parts::role::{Role, RoleOf, WriterParts};
+use arc_writer_parts::role::{Role, RoleNumber, RoleOf, Sole};
 use arc_writer_parts::sole::SoleParts;
 pub use into_mut::IntoMut;
 use std::alloc::{Allocator, Global};
@@ -51,7 +51,7 @@ pub type ArcSliceMut<
     M = (),
     A = Global,
     H = Open,
-> = WriteWindow<S, L, Role<UNIQUE>, B, M, A, H>;
+> = WriteWindow<S, L, <Role<UNIQUE> as RoleNumber>::Role, B, M, A, H>;
 
 /// A window that writes bytes.
 pub type ArcBytesMut<L = DefaultLayoutMut, B = Vec<u8>, M = (), A = Global, H = Open> = ArcSliceMut<
@@ -97,10 +97,10 @@ impl<
 
     ghost Value = { PartsView S.Item M };
 
-    ghost view = { λ w. R.Parts.seen w.parts };
+    ghost view = { λ w. R.seen w.parts };
 
-    ghost invariant = { λ w. IsBlockHeld (layout_facts L.Layout) (R.Parts.seen w.parts).place
-        × ∥ S.is_legal (R.Parts.seen w.parts).items ∥₁ };
+    ghost invariant = { λ w. IsBlockHeld (layout_facts L.Layout) (R.seen w.parts).place
+        × ∥ S.is_legal (R.seen w.parts).items ∥₁ };
 }
 
 impl<
@@ -117,7 +117,7 @@ impl<
         ensures ended { H.whole ≡ false → EndsShownAt H H.real self.place }
     {
         let WriteWindow { parts, of: _ } = self;
-        parts.end();
+        R::end(parts);
     }
 }
 
@@ -134,9 +134,9 @@ impl<
     /// layout holds. It adds nothing.
     #[inline(always)]
     pub fn from_parts(parts: R::Parts) -> Self
-        requires held { IsBlockHeld (layout_facts L.Layout) (R.Parts.seen parts).place }
-        requires legal { ∥ S.is_legal (R.Parts.seen parts).items ∥₁ }
-        ensures { result ≡ R.Parts.seen parts }
+        requires held { IsBlockHeld (layout_facts L.Layout) (R.seen parts).place }
+        requires legal { ∥ S.is_legal (R.seen parts).items ∥₁ }
+        ensures { result ≡ R.seen parts }
     {
         WriteWindow {
             parts,
@@ -147,9 +147,9 @@ impl<
     /// What the window is made of. It adds nothing.
     #[inline(always)]
     pub fn into_parts(self) -> R::Parts
-        ensures parts { R.Parts.seen result ≡ self }
-        ensures held { IsBlockHeld (layout_facts L.Layout) (R.Parts.seen result).place }
-        ensures legal { ∥ S.is_legal (R.Parts.seen result).items ∥₁ }
+        ensures parts { R.seen result ≡ self }
+        ensures held { IsBlockHeld (layout_facts L.Layout) (R.seen result).place }
+        ensures legal { ∥ S.is_legal (R.seen result).items ∥₁ }
     {
         let WriteWindow { parts, of: _ } = self;
         parts
@@ -159,10 +159,10 @@ impl<
     /// of several writers stands on one that keeps its items in memory of ours. Does nothing: its
     /// contract is the law.
     pub fn known_place(&self)
-        ensures place { StandsAsWriter R.Parts.several self.now.place }
-        ensures role { HasWritersRole R.Parts.several self.now.role }
+        ensures place { StandsAsWriter R.several self.now.place }
+        ensures role { HasWritersRole R.several self.now.role }
     {
-        self.parts.known_place();
+        R::known_place(&self.parts);
     }
 }
 
@@ -173,7 +173,7 @@ impl<
     M: Drop,
     A: Allocator + Copy,
     H: Mark,
-> ArcSliceMut<S, L, 1, B, M, A, H> {
+> WriteWindow<S, L, Sole, B, M, A, H> {
     /// A window with no items and no places, which stands on nothing.
     pub fn new(alloc: A) -> Self
     where

@@ -20,8 +20,6 @@ ghost use Rattle.arc_writer_parts.specs.Roles.{AsksRoom, HasWritersRole, PushesI
 ghost use Rattle.arc_writer_parts.specs.Roles.{RefusesTakingOut, ReleasesAt, ReleasesHintedAt};
 ghost use Rattle.arc_writer_parts.specs.Roles.{StandsAsWriter, TakesOutAt};
 
-use crate::shared::SharedParts;
-use crate::sole::SoleParts;
 use arc_block::layout::Layout;
 use arc_buffer::buffer::{BorrowMetadata, BufferMut};
 use arc_buffer::kinds::Slice;
@@ -31,11 +29,32 @@ use arc_owners::owners::Pass;
 use arc_parts::parts::Parts;
 use std::alloc::Allocator;
 
-/// A writer's role: its block's only owner where `UNIQUE` is 1, and one of several writers where it
-/// is 0. There are no others.
+/// The role of a writer who is his block's only owner.
+pub struct Sole;
+
+/// The role of one of several writers.
+pub struct Several;
+
+/// A writer's role by its number: its block's only owner where `UNIQUE` is 1, and one of several
+/// writers where it is 0. There are no others.
 pub struct Role<const UNIQUE: u8>;
 
-/// The parts of a window whose writer has this role.
+/// What has a writer's role.
+pub trait RoleNumber {
+    /// It.
+    type Role;
+}
+
+impl RoleNumber for Role<1> {
+    type Role = Sole;
+}
+
+impl RoleNumber for Role<0> {
+    type Role = Several;
+}
+
+/// A writer's role: what the parts of a window are whose writer has it, and what both roles have in
+/// common.
 pub trait RoleOf<
     S: Slice,
     B: BufferMut<<S as Slice>::Item> + Drop,
@@ -43,82 +62,53 @@ pub trait RoleOf<
     A: Allocator + Copy,
     H: Mark,
 > {
-    /// They.
-    type Parts: WriterParts<S, B, M, A, H>;
-}
+    /// They: a row of the table of lists with its owner, who writes it. The items, where they stand,
+    /// and how many places they have: no other owner reaches these.
+    type Parts;
 
-impl<S: Slice, B: BufferMut<S::Item> + Drop, M: Drop, A: Allocator + Copy, H: Mark> RoleOf<
-    S,
-    B,
-    M,
-    A,
-    H,
-> for Role<1> {
-    type Parts = SoleParts<S, B, M, A, H>;
-}
-
-impl<S: Slice, B: BufferMut<S::Item> + Drop, M: Drop, A: Allocator + Copy, H: Mark> RoleOf<
-    S,
-    B,
-    M,
-    A,
-    H,
-> for Role<0> {
-    type Parts = SharedParts<S, B, M, A, H>;
-}
-
-/// A row of the table of lists with its owner, who writes it: the items, where they stand, and how
-/// many places they have. No other owner reaches these.
-pub trait WriterParts<
-    S: Slice,
-    B: BufferMut<<S as Slice>::Item> + Drop,
-    M: Drop,
-    A: Allocator + Copy,
-    H: Mark,
->: Sized {
     /// The row.
-    ghost seen: { Self → PartsView S.Item M };
+    ghost seen: { Self.Parts → PartsView S.Item M };
 
     /// Whether its owner is one of several writers, and not the only owner of his block.
     ghost several: { Bool };
 
     /// The same parts with other items in their places.
-    ghost with_list: { Self → List S.Item → Self };
+    ghost with_list: { Self.Parts → List S.Item → Self.Parts };
 
     /// They stand on nothing, or on a block that counts its owners and may be written; those of one
     /// of several writers on one that keeps its items in memory of ours. Does nothing: its contract
     /// is the law.
-    fn known_place(&self)
-        ensures place { StandsAsWriter several (seen self.now).place }
-        ensures role { HasWritersRole several (seen self.now).role };
+    fn known_place(parts: &Self::Parts)
+        ensures place { StandsAsWriter several (seen parts.now).place }
+        ensures role { HasWritersRole several (seen parts.now).role };
 
     /// How many items there are.
-    fn len(&self) -> usize
-        ensures { result ≡ length (seen self.now).items };
+    fn len(parts: &Self::Parts) -> usize
+        ensures { result ≡ length (seen parts.now).items };
 
     /// The items.
-    fn as_slice(&self) -> &[S::Item]
-        ensures { result.now ≡ (seen self.now).items };
+    fn as_slice(parts: &Self::Parts) -> &[S::Item]
+        ensures { result.now ≡ (seen parts.now).items };
 
     /// How many places there are for items, from the first of them on.
-    fn capacity(&self) -> usize
-        ensures capacity { result ≡ capacity_of (seen self.now).role }
-        ensures enough { length (seen self.now).items ≤ result };
+    fn capacity(parts: &Self::Parts) -> usize
+        ensures capacity { result ≡ capacity_of (seen parts.now).role }
+        ensures enough { length (seen parts.now).items ≤ result };
 
     /// The items, to be changed in their places: what is written there they are afterwards.
-    fn as_mut_slice(&mut self) -> &mut [S::Item]
-        ensures* writes_back { sem 𝓛 (Lends Self.row (Array S.Item.row 0) self.entry result
-            (with_list self.old)) }
-        ensures value { result.now ≡ (seen self.old).items };
+    fn as_mut_slice(parts: &mut Self::Parts) -> &mut [S::Item]
+        ensures* writes_back { sem 𝓛 (Lends Self.Parts.row (Array S.Item.row 0) parts.entry result
+            (with_list parts.old)) }
+        ensures value { result.now ≡ (seen parts.old).items };
 
     /// Takes so many items off the front; their places are none of the window's any more.
-    fn advance(&mut self, count: usize)
-        requires { count ≤ length (seen self.old).items }
-        ensures { seen self.new ≡ after_advance count (seen self.old) };
+    fn advance(parts: &mut Self::Parts, count: usize)
+        requires { count ≤ length (seen parts.old).items }
+        ensures { seen parts.new ≡ after_advance count (seen parts.old) };
 
     /// Leaves the first so many items, if there are more.
-    fn truncate(&mut self, len: usize)
-        ensures { seen self.new ≡ after_truncate S.DROPS len (seen self.old) };
+    fn truncate(parts: &mut Self::Parts, len: usize)
+        ensures { seen parts.new ≡ after_truncate S.DROPS len (seen parts.old) };
 
     /// Makes room for so many items more.
     ///
@@ -146,19 +136,19 @@ pub trait WriterParts<
     /// the places already, Alone with the answer. Where a first block is made, the pass, which was
     /// of none, becomes that block's.
     fn try_reserve_as(
-        &mut self,
+        parts: &mut Self::Parts,
         additional: usize,
         pass: &mut Pass<H>,
     ) -> Result<(), TryReserveError>
-        requires pass { IsPassAt (seen self.old).place pass.old }
+        requires pass { IsPassAt (seen parts.old).place pass.old }
         ensures room { AsksRoom several S.DROPS H.whole (type_size S.Item.row) additional
-            (seen self.old) (seen self.new) pass.old pass.new result }
-        ensures items { (seen self.new).items ≡ (seen self.old).items }
-        ensures enough { OnOk result (length (seen self.new).items + additional
-            ≤ capacity_of (seen self.new).role) }
-        ensures own { IfAsked (room_for S.DROPS (type_size S.Item.row) (seen self.old) additional)
-            (λ k. AsksForRoom B.list B.places B.grows B.refuses (seen self.old) k
-            (size_at (seen self.new).place) result) };
+            (seen parts.old) (seen parts.new) pass.old pass.new result }
+        ensures items { (seen parts.new).items ≡ (seen parts.old).items }
+        ensures enough { OnOk result (length (seen parts.new).items + additional
+            ≤ capacity_of (seen parts.new).role) }
+        ensures own { IfAsked (room_for S.DROPS (type_size S.Item.row) (seen parts.old) additional)
+            (λ k. AsksForRoom B.list B.places B.grows B.refuses (seen parts.old) k
+            (size_at (seen parts.new).place) result) };
 
     /// Whether there is room for so many items more without memory; then it is made.
     ///
@@ -166,11 +156,11 @@ pub trait WriterParts<
     ///
     /// Of a sole writer nothing is added; of one of several, on a block, where the window hasn't
     /// the places already, Alone with the answer.
-    fn try_reclaim_as(&mut self, additional: usize, pass: &mut Pass<H>) -> bool
-        requires pass { IsPassAt (seen self.old).place pass.old }
+    fn try_reclaim_as(parts: &mut Self::Parts, additional: usize, pass: &mut Pass<H>) -> bool
+        requires pass { IsPassAt (seen parts.old).place pass.old }
         ensures room { ReclaimsRoom several S.DROPS (type_size S.Item.row) additional
-            (seen self.old) (seen self.new) pass.old pass.new result }
-        ensures items { (seen self.new).items ≡ (seen self.old).items };
+            (seen parts.old) (seen parts.new) pass.old pass.new result }
+        ensures items { (seen parts.new).items ≡ (seen parts.old).items };
 
     /// An item more, behind the others, once there is room for it.
     ///
@@ -186,20 +176,20 @@ pub trait WriterParts<
     ///
     /// As `try_reserve_as`.
     fn try_push_as(
-        &mut self,
+        parts: &mut Self::Parts,
         item: S::Item,
         pass: &mut Pass<H>,
     ) -> Result<(), (TryReserveError, S::Item)>
-        requires pass { IsPassAt (seen self.old).place pass.old }
+        requires pass { IsPassAt (seen parts.old).place pass.old }
         ensures pushed { OnOk result (PushesItems several S.DROPS H.whole (type_size S.Item.row) 1
-            (item ∷ []) (seen self.old) (seen self.new) pass.old pass.new) }
-        ensures items { OnOk result ((seen self.new).items ≡ (seen self.old).items ++ item ∷ []) }
+            (item ∷ []) (seen parts.old) (seen parts.new) pass.old pass.new) }
+        ensures items { OnOk result ((seen parts.new).items ≡ (seen parts.old).items ++ item ∷ []) }
         ensures refused { IfErr result (λ r. (r.1 ≡ item)
             × AsksRoom several S.DROPS H.whole (type_size S.Item.row) 1
-            (seen self.old) (seen self.new) pass.old pass.new (Err r.0)) }
-        ensures own { IfAsked (room_for S.DROPS (type_size S.Item.row) (seen self.old) 1) (λ k.
-            AsksForRoom B.list B.places B.grows B.refuses (seen self.old) k
-            (size_at (seen self.new).place) (without_item result)) };
+            (seen parts.old) (seen parts.new) pass.old pass.new (Err r.0)) }
+        ensures own { IfAsked (room_for S.DROPS (type_size S.Item.row) (seen parts.old) 1) (λ k.
+            AsksForRoom B.list B.places B.grows B.refuses (seen parts.old) k
+            (size_at (seen parts.new).place) (without_item result)) };
 
     /// The items as the block's vector, moved to its front, where the block is a vector and no
     /// other owner lives. Items that are dropped one by one have to be all of it.
@@ -213,14 +203,14 @@ pub trait WriterParts<
     ///
     /// Taken, of a sole writer Down without a step, and of one of several Alone and Down. Refused,
     /// of one of several Alone with no, where only the count could decide, and else nothing.
-    fn try_into_vec_as(self, pass: &mut Pass<H>) -> Result<Vec<S::Item, A>, Self>
-        requires pass { IsPassAt (seen self).place pass.old }
-        ensures taken { IfOk result (λ v. IsVecPart S.DROPS (seen self).items (seen self).place
-            × (v.items ≡ (seen self).items) × (vec_capacity v ≡ size_at (seen self).place)) }
+    fn try_into_vec_as(parts: Self::Parts, pass: &mut Pass<H>) -> Result<Vec<S::Item, A>, Self::Parts>
+        requires pass { IsPassAt (seen parts).place pass.old }
+        ensures taken { IfOk result (λ v. IsVecPart S.DROPS (seen parts).items (seen parts).place
+            × (v.items ≡ (seen parts).items) × (vec_capacity v ≡ size_at (seen parts).place)) }
         ensures entries { IfOk result (λ _.
-            TakesOutAt several (seen self).place pass.old pass.new) }
-        ensures refused { IfErr result (λ back. (back ≡ self) × RefusesTakingOut several
-            (IsVecPart S.DROPS (seen self).items (seen self).place) (seen self).place
+            TakesOutAt several (seen parts).place pass.old pass.new) }
+        ensures refused { IfErr result (λ back. (back ≡ parts) × RefusesTakingOut several
+            (IsVecPart S.DROPS (seen parts).items (seen parts).place) (seen parts).place
             pass.old pass.new) };
 
     /// The items as the block's vector, where they are all of it, it has no places more, and no
@@ -234,20 +224,20 @@ pub trait WriterParts<
     /// # History
     ///
     /// As `try_into_vec_as`.
-    fn try_into_box_vec_as(self, pass: &mut Pass<H>) -> Result<Vec<S::Item, A>, Self>
-        requires pass { IsPassAt (seen self).place pass.old }
-        ensures taken { IfOk result (λ v. IsBoxWhole (seen self).items (seen self).place
-            × (v.items ≡ (seen self).items) × (vec_capacity v ≡ size_at (seen self).place)) }
+    fn try_into_box_vec_as(parts: Self::Parts, pass: &mut Pass<H>) -> Result<Vec<S::Item, A>, Self::Parts>
+        requires pass { IsPassAt (seen parts).place pass.old }
+        ensures taken { IfOk result (λ v. IsBoxWhole (seen parts).items (seen parts).place
+            × (v.items ≡ (seen parts).items) × (vec_capacity v ≡ size_at (seen parts).place)) }
         ensures entries { IfOk result (λ _.
-            TakesOutAt several (seen self).place pass.old pass.new) }
-        ensures refused { IfErr result (λ back. (back ≡ self) × RefusesTakingOut several
-            (IsBoxWhole (seen self).items (seen self).place) (seen self).place
+            TakesOutAt several (seen parts).place pass.old pass.new) }
+        ensures refused { IfErr result (λ back. (back ≡ parts) × RefusesTakingOut several
+            (IsBoxWhole (seen parts).items (seen parts).place) (seen parts).place
             pass.old pass.new) };
 
     /// The same items and places, which others may read from now on. It adds nothing and takes no
     /// memory.
-    fn freeze(self) -> Parts<S, B, M, A, H>
-        ensures { result ≡ as_reader (seen self) };
+    fn freeze(parts: Self::Parts) -> Parts<S, B, M, A, H>
+        ensures { result ≡ as_reader (seen parts) };
 
     /// The same items, which others may read from now on, as a window under the layout `L` is. On
     /// nothing they are what no items are made of: a native block of no places, of which the pass
@@ -261,20 +251,20 @@ pub trait WriterParts<
     /// # Allocates
     ///
     /// On nothing, where the layout has no static data.
-    fn try_freeze_as<L: Layout>(self, pass: &mut Pass<H>) -> Result<Parts<S, B, M, A, H>, Self>
-        requires pass { IsPassAt (seen self).place pass.old }
-        ensures frozen { IfOk result (λ parts. Freezes (layout_facts L.Layout) S.DROPS H.whole
-            (seen self) parts pass.old pass.new) }
-        ensures stays { IfOk result (λ parts. IsOnBlock (seen self).place
-            → (parts ≡ as_reader (seen self)) × (pass.new ≡ pass.old)) }
-        ensures made { IfOk result (λ parts. (¬ IsOnBlock (seen self).place)
-            → Makes L.STATIC S.DROPS H.whole (seen self).items (window_of parts)
-            × Begins (window_of parts) pass.old pass.new) }
-        ensures items { IfOk result (λ parts. parts.items ≡ (seen self).items) }
-        ensures role { IfOk result (λ parts. parts.role ≡ reader) }
-        ensures held { IfOk result (λ parts. IsHeld (layout_facts L.Layout) parts.place) }
-        ensures refused { IfErr result (λ back. (back ≡ self)
-            × IsRefused (layout_move (layout_facts L.Layout) (seen self).place)
+    fn try_freeze_as<L: Layout>(parts: Self::Parts, pass: &mut Pass<H>) -> Result<Parts<S, B, M, A, H>, Self::Parts>
+        requires pass { IsPassAt (seen parts).place pass.old }
+        ensures frozen { IfOk result (λ frozen. Freezes (layout_facts L.Layout) S.DROPS H.whole
+            (seen parts) frozen pass.old pass.new) }
+        ensures stays { IfOk result (λ frozen. IsOnBlock (seen parts).place
+            → (frozen ≡ as_reader (seen parts)) × (pass.new ≡ pass.old)) }
+        ensures made { IfOk result (λ frozen. (¬ IsOnBlock (seen parts).place)
+            → Makes L.STATIC S.DROPS H.whole (seen parts).items (window_of frozen)
+            × Begins (window_of frozen) pass.old pass.new) }
+        ensures items { IfOk result (λ frozen. frozen.items ≡ (seen parts).items) }
+        ensures role { IfOk result (λ frozen. frozen.role ≡ reader) }
+        ensures held { IfOk result (λ frozen. IsHeld (layout_facts L.Layout) frozen.place) }
+        ensures refused { IfErr result (λ back. (back ≡ parts)
+            × IsRefused (layout_move (layout_facts L.Layout) (seen parts).place)
             × (pass.new ≡ pass.old)) };
 
     /// The same parts, as those of a window under the layout `L`, where that holds their block. It
@@ -283,33 +273,33 @@ pub trait WriterParts<
     /// # Errors
     ///
     /// The parts, exactly where they stand on a block that the layout doesn't hold.
-    fn try_with_layout<L: Layout>(self) -> Result<Self, Self>
-        ensures moved { IfOk result (λ parts. (parts ≡ self)
-            × IsBlockHeld (layout_facts L.Layout) (seen self).place) }
-        ensures refused { IfErr result (λ back. (back ≡ self)
-            × (¬ IsBlockHeld (layout_facts L.Layout) (seen self).place)) };
+    fn try_with_layout<L: Layout>(parts: Self::Parts) -> Result<Self::Parts, Self::Parts>
+        ensures moved { IfOk result (λ moved. (moved ≡ parts)
+            × IsBlockHeld (layout_facts L.Layout) (seen parts).place) }
+        ensures refused { IfErr result (λ back. (back ≡ parts)
+            × (¬ IsBlockHeld (layout_facts L.Layout) (seen parts).place)) };
 
     /// The metadata of the block, where it was made with some.
-    fn metadata(&self) -> Option<&M>
-        ensures some { IfSome result (λ m. metadata_at (seen self.now).place ≡ Some m.now) }
-        ensures none { IfNone result (metadata_at (seen self.now).place ≡ None) };
+    fn metadata(parts: &Self::Parts) -> Option<&M>
+        ensures some { IfSome result (λ m. metadata_at (seen parts.now).place ≡ Some m.now) }
+        ensures none { IfNone result (metadata_at (seen parts.now).place ≡ None) };
 
     /// The metadata of the caller's buffer on which the parts stand.
-    fn borrowed_metadata(&self) -> Option<&B::Metadata>
+    fn borrowed_metadata(parts: &Self::Parts) -> Option<&B::Metadata>
     where
         B: BorrowMetadata,
         ensures some { IfSome result (λ m. IsMetadataAt B.list B.metadata
-            (seen self.now).place (seen self.now).items m.now) }
-        ensures none { IfNone result (¬ IsOnCallers (seen self.now).place) };
+            (seen parts.now).place (seen parts.now).items m.now) }
+        ensures none { IfNone result (¬ IsOnCallers (seen parts.now).place) };
 
     /// Ends the parts; the last owner gives the block back.
     ///
     /// # History
     ///
     /// On a block Down; of a sole writer and of a vector without a step.
-    fn release_as(self, pass: &mut Pass<H>)
-        requires pass { IsPassAt (seen self).place pass.old }
-        ensures entry { ReleasesAt several (seen self).place pass.old pass.new };
+    fn release_as(parts: Self::Parts, pass: &mut Pass<H>)
+        requires pass { IsPassAt (seen parts).place pass.old }
+        ensures entry { ReleasesAt several (seen parts).place pass.old pass.new };
 
     /// Ends the parts: one of several writers reads the count first, and where no other owner lives
     /// gives the block back without a further step.
@@ -318,9 +308,9 @@ pub trait WriterParts<
     ///
     /// On a block of a sole writer Down, without a step, and of one of several Alone with the
     /// answer, then Down.
-    fn release_with_unique_hint_as(self, pass: &mut Pass<H>)
-        requires pass { IsPassAt (seen self).place pass.old }
-        ensures entry { ReleasesHintedAt several (seen self).place pass.old pass.new };
+    fn release_with_unique_hint_as(parts: Self::Parts, pass: &mut Pass<H>)
+        requires pass { IsPassAt (seen parts).place pass.old }
+        ensures entry { ReleasesHintedAt several (seen parts).place pass.old pass.new };
 
     /// What a drop does: under `Open` the owner ends with a new pass, and the last one gives the
     /// block back with its items; under `Whole` it is forgotten, without a step, and its items
@@ -330,41 +320,41 @@ pub trait WriterParts<
     /// # History
     ///
     /// On a block Down under `Open`, of a sole writer without a step, and nothing under `Whole`.
-    fn let_go(self) -> Pass<H>
+    fn let_go(parts: Self::Parts) -> Pass<H>
         ensures forgotten { H.whole ≡ true → IsPassOfNone result }
-        ensures ended { H.whole ≡ false → EndsAt (seen self).place result };
+        ensures ended { H.whole ≡ false → EndsAt (seen parts).place result };
 
     /// Drops the parts, as a window that is dropped does with its own.
-    fn end(self)
-        ensures ended { H.whole ≡ false → EndsShownAt H H.real (seen self).place };
+    fn end(parts: Self::Parts)
+        ensures ended { H.whole ≡ false → EndsShownAt H H.real (seen parts).place };
 
     /// Afterwards the first pass has seen at least what the other had. It adds nothing.
-    fn learn(&self, pass: &mut Pass<H>, other: &Pass<H>)
-        requires pass { IsPassAt (seen self.now).place pass.old }
-        requires other { IsPassAt (seen self.now).place other.now }
-        ensures { at_owner (seen self.now).place (pass.new ≡ pass.old) (λ o.
+    fn learn(parts: &Self::Parts, pass: &mut Pass<H>, other: &Pass<H>)
+        requires pass { IsPassAt (seen parts.now).place pass.old }
+        requires other { IsPassAt (seen parts.now).place other.now }
+        ensures { at_owner (seen parts.now).place (pass.new ≡ pass.old) (λ o.
             Learns o.block pass.old other.now pass.new) };
 
     /// A new pass of the block, which has seen at least how this owner became one, and made
     /// nothing; on no block a pass of none. It adds nothing.
-    fn pass(&self) -> Pass<H>
+    fn pass(parts: &Self::Parts) -> Pass<H>
     where
         H: Stepping,
-        ensures { at_owner (seen self.now).place (IsPassOfNone result) (λ o. IsNewPass o result) };
+        ensures { at_owner (seen parts.now).place (IsPassOfNone result) (λ o. IsNewPass o result) };
 
     /// With other items they stand where they stood.
-    ghost keeps: { (parts : Self) (items : List S.Item)
+    ghost keeps: { (parts : Self.Parts) (items : List S.Item)
         → seen (with_list parts items) ≡ with_items (seen parts) items };
 }
 
-/// Parts of items that are copied.
-pub trait CopyWriterParts<
+/// The role of a writer whose items are copied.
+pub trait CopyRole<
     S: Slice,
     B: BufferMut<<S as Slice>::Item> + Drop,
     M: Drop,
     A: Allocator + Copy,
     H: Mark,
->: WriterParts<S, B, M, A, H>
+>: RoleOf<S, B, M, A, H>
 where
     S::Item: Copy,
 {
@@ -382,26 +372,26 @@ where
     ///
     /// As `try_reserve_as`.
     fn try_extend_from_slice_as(
-        &mut self,
+        parts: &mut Self::Parts,
         items: &[S::Item],
         pass: &mut Pass<H>,
     ) -> Result<(), TryReserveError>
-        requires pass { IsPassAt (Self.seen self.old).place pass.old }
+        requires pass { IsPassAt (Self.seen parts.old).place pass.old }
         ensures extended { OnOk result (PushesItems Self.several S.DROPS H.whole
             (type_size S.Item.row) (length items.now) items.now
-            (Self.seen self.old) (Self.seen self.new) pass.old pass.new) }
+            (Self.seen parts.old) (Self.seen parts.new) pass.old pass.new) }
         ensures items { OnOk result
-            ((Self.seen self.new).items ≡ (Self.seen self.old).items ++ items.now) }
+            ((Self.seen parts.new).items ≡ (Self.seen parts.old).items ++ items.now) }
         ensures refused { IfErr result (λ e. AsksRoom Self.several S.DROPS H.whole
             (type_size S.Item.row) (length items.now)
-            (Self.seen self.old) (Self.seen self.new) pass.old pass.new (Err e)) }
-        ensures own { IfAsked (room_for S.DROPS (type_size S.Item.row) (Self.seen self.old)
+            (Self.seen parts.old) (Self.seen parts.new) pass.old pass.new (Err e)) }
+        ensures own { IfAsked (room_for S.DROPS (type_size S.Item.row) (Self.seen parts.old)
             (length items.now)) (λ k. AsksForRoom B.list B.places B.grows B.refuses
-            (Self.seen self.old) k (size_at (Self.seen self.new).place) result) };
+            (Self.seen parts.old) k (size_at (Self.seen parts.new).place) result) };
 
     /// A copy of the items more, behind the others, where there are places for them.
-    fn extend_reserved(&mut self, items: &[S::Item])
-        requires { length (Self.seen self.old).items + length items.now
-            ≤ capacity_of (Self.seen self.old).role }
-        ensures { Self.seen self.new ≡ with_more items.now (Self.seen self.old) };
+    fn extend_reserved(parts: &mut Self::Parts, items: &[S::Item])
+        requires { length (Self.seen parts.old).items + length items.now
+            ≤ capacity_of (Self.seen parts.old).role }
+        ensures { Self.seen parts.new ≡ with_more items.now (Self.seen parts.old) };
 }

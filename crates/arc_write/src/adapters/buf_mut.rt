@@ -11,7 +11,7 @@ use arc_block::layout::LayoutMut;
 use arc_buffer::buffer::BufferMut;
 use arc_buffer::kinds::CopySlice;
 use arc_owners::mark::Mark;
-use arc_writer_parts::role::{CopyWriterParts, RoleOf};
+use arc_writer_parts::role::{CopyRole, RoleOf};
 use bytes::BufMut;
 use std::alloc::{AllocError, Allocator};
 
@@ -25,7 +25,7 @@ impl<
     H: Mark,
 > BufMut for WriteWindow<S, L, R, B, M, A, H>
 where
-    R::Parts: CopyWriterParts<S, B, M, A, H>,
+    R: CopyRole<S, B, M, A, H>,
 {
     ghost written = { λ w. w.items };
 
@@ -127,7 +127,7 @@ impl<
     H: Mark,
 > WriteWindow<S, L, R, B, M, A, H>
 where
-    R::Parts: CopyWriterParts<S, B, M, A, H>,
+    R: CopyRole<S, B, M, A, H>,
 {
     /// So many bytes of one value more, where the window has places for them.
     fn fill(&mut self, byte: u8, count: usize)

@@ -4,7 +4,7 @@ use arc_block::layout::LayoutMut;
 use arc_buffer::buffer::BufferMut;
 use arc_buffer::kinds::DebugSlice;
 use arc_owners::mark::Mark;
-use arc_writer_parts::role::{RoleOf, WriterParts};
+use arc_writer_parts::role::RoleOf;
 use std::alloc::Allocator;
 use std::fmt;
 
@@ -20,6 +20,6 @@ impl<
     ghost debug_output = { λ w. S.debug_items w.items };
 
     fn fmt<W: fmt::Write>(&self, f: &mut fmt::Formatter<W>) -> fmt::Result {
-        S::fmt_items(self.parts.as_slice(), f)
+        S::fmt_items(R::as_slice(&self.parts), f)
     }
 }

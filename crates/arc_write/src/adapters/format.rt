@@ -13,7 +13,7 @@ use arc_block::layout::LayoutMut;
 use arc_buffer::buffer::BufferMut;
 use arc_buffer::kinds::{ByteText, Plain, Text};
 use arc_owners::mark::Stepping;
-use arc_writer_parts::role::{CopyWriterParts, RoleOf};
+use arc_writer_parts::role::{CopyRole, RoleOf};
 use std::alloc::Allocator;
 use std::fmt;
 
@@ -26,7 +26,7 @@ impl<
     H: Stepping,
 > fmt::Write for WriteWindow<Text, L, R, B, M, A, H>
 where
-    R::Parts: CopyWriterParts<Text, B, M, A, H>,
+    R: CopyRole<Text, B, M, A, H>,
 {
     ghost write_str_gives = { λ w text v. v.items ≡ w.items ++ text };
 
@@ -46,11 +46,11 @@ where
     fn write_str(&mut self, text: &str) -> fmt::Result
         ensures ok { IsOk result → self.new.items ≡ self.old.items ++ text.now }
         ensures extended { OnOk result (WithNewPass {H = H} H.real self.old.place (λ first last.
-            PushesItems R.Parts.several false H.whole 1 (length text.now) text.now
+            PushesItems R.several false H.whole 1 (length text.now) text.now
             self.old self.new first last)) }
         ensures refused { OnErr result ((e : TryReserveError)
             × WithNewPass {H = H} H.real self.old.place (λ first last.
-            AsksRoom R.Parts.several false H.whole 1 (length text.now)
+            AsksRoom R.several false H.whole 1 (length text.now)
             self.old self.new first last (Err e))) }
         ensures own { IfAsked (room_for false 1 self.old (length text.now)) (λ additional.
             (reply : Result (Unit {0}) TryReserveError) × (is_ok reply ≡ is_ok result)
@@ -75,7 +75,7 @@ impl<
     H: Stepping,
 > fmt::Write for WriteWindow<ByteText, L, R, B, M, A, H>
 where
-    R::Parts: CopyWriterParts<ByteText, B, M, A, H>,
+    R: CopyRole<ByteText, B, M, A, H>,
 {
     ghost write_str_gives = { λ w text v. v.items ≡ w.items ++ text };
 
@@ -95,11 +95,11 @@ where
     fn write_str(&mut self, text: &str) -> fmt::Result
         ensures ok { IsOk result → self.new.items ≡ self.old.items ++ text.now }
         ensures extended { OnOk result (WithNewPass {H = H} H.real self.old.place (λ first last.
-            PushesItems R.Parts.several false H.whole 1 (length text.now) text.now
+            PushesItems R.several false H.whole 1 (length text.now) text.now
             self.old self.new first last)) }
         ensures refused { OnErr result ((e : TryReserveError)
             × WithNewPass {H = H} H.real self.old.place (λ first last.
-            AsksRoom R.Parts.several false H.whole 1 (length text.now)
+            AsksRoom R.several false H.whole 1 (length text.now)
             self.old self.new first last (Err e))) }
         ensures own { IfAsked (room_for false 1 self.old (length text.now)) (λ additional.
             (reply : Result (Unit {0}) TryReserveError) × (is_ok reply ≡ is_ok result)
@@ -124,7 +124,7 @@ impl<
     H: Stepping,
 > fmt::Write for WriteWindow<Plain<u8>, L, R, B, M, A, H>
 where
-    R::Parts: CopyWriterParts<Plain<u8>, B, M, A, H>,
+    R: CopyRole<Plain<u8>, B, M, A, H>,
 {
     ghost write_str_gives = { λ w text v. v.items ≡ w.items ++ text };
 
@@ -144,11 +144,11 @@ where
     fn write_str(&mut self, text: &str) -> fmt::Result
         ensures ok { IsOk result → self.new.items ≡ self.old.items ++ text.now }
         ensures extended { OnOk result (WithNewPass {H = H} H.real self.old.place (λ first last.
-            PushesItems R.Parts.several false H.whole 1 (length text.now) text.now
+            PushesItems R.several false H.whole 1 (length text.now) text.now
             self.old self.new first last)) }
         ensures refused { OnErr result ((e : TryReserveError)
             × WithNewPass {H = H} H.real self.old.place (λ first last.
-            AsksRoom R.Parts.several false H.whole 1 (length text.now)
+            AsksRoom R.several false H.whole 1 (length text.now)
             self.old self.new first last (Err e))) }
         ensures own { IfAsked (room_for false 1 self.old (length text.now)) (λ additional.
             (reply : Result (Unit {0}) TryReserveError) × (is_ok reply ≡ is_ok result)

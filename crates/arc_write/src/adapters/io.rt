@@ -12,7 +12,7 @@ use arc_block::layout::LayoutMut;
 use arc_buffer::buffer::BufferMut;
 use arc_buffer::kinds::Plain;
 use arc_owners::mark::Mark;
-use arc_writer_parts::role::{CopyWriterParts, RoleOf};
+use arc_writer_parts::role::{CopyRole, RoleOf};
 use std::alloc::Allocator;
 use std::io;
 use std::io::ErrorKind;
@@ -79,7 +79,7 @@ impl<
     H: Mark,
 > io::Write for WriteWindow<Plain<u8>, L, R, B, M, A, H>
 where
-    R::Parts: CopyWriterParts<Plain<u8>, B, M, A, H>,
+    R: CopyRole<Plain<u8>, B, M, A, H>,
 {
     ghost contents = { λ w. Some w.items };
 

@@ -78,7 +78,7 @@ impl<
 
     fn deref_mut(&mut self) -> &mut [S::Item]
         ensures* writes_back { sem 𝓛 (lends_items S.row L.row R.row B.row M.row A.row H.row
-            S.Item.row S.TryFromSliceError.row R.Parts.row S.Slice L.Layout R.Parts.WriterParts
+            S.Item.row S.TryFromSliceError.row R.Parts.row S.Slice L.Layout R.RoleOf
             B.BufferMut.own B.Buffer A.Allocator H.Mark self.entry result) }
         ensures value { result.now ≡ self.old.items }
     {

@@ -9,13 +9,13 @@ ghost use Rattle.arc_parts.specs.Window.{IsOfBuffer};
 ghost use Rattle.arc_parts.specs.Writers.{MakesBufferWriter};
 ghost use Rattle.arc_read.specs.Steps.{WithNewPass};
 
-use crate::slice_mut::{ArcSliceMut, WriteWindow};
+use crate::slice_mut::WriteWindow;
 use arc_block::layout::{AnyBufferLayout, LayoutMut};
 use arc_buffer::buffer::{BorrowMetadata, BufferMut};
 use arc_buffer::kinds::{AnyItems, Slice};
 use arc_owners::mark::{Mark, Stepping};
 use arc_owners::owners::Pass;
-use arc_writer_parts::role::{RoleOf, WriterParts};
+use arc_writer_parts::role::{RoleOf, Sole};
 use arc_writer_parts::sole::SoleParts;
 use std::alloc::Allocator;
 
@@ -33,7 +33,7 @@ impl<
         ensures some { IfSome result (λ m. metadata_at self.now.place ≡ Some m.now) }
         ensures none { IfNone result (metadata_at self.now.place ≡ None) }
     {
-        self.parts.metadata()
+        R::metadata(&self.parts)
     }
 
     /// The metadata of the caller's buffer on which the window stands.
@@ -44,7 +44,7 @@ impl<
             IsMetadataAt B.list B.metadata self.now.place self.now.items m.now) }
         ensures none { IfNone result (¬ IsOnCallers self.now.place) }
     {
-        self.parts.borrowed_metadata()
+        R::borrowed_metadata(&self.parts)
     }
 }
 
@@ -55,7 +55,7 @@ impl<
     M: Drop,
     A: Allocator + Copy,
     H: Mark,
-> ArcSliceMut<S, L, 1, B, M, A, H> {
+> WriteWindow<S, L, Sole, B, M, A, H> {
     /// A window over all items of a caller's buffer, on a block that keeps the buffer, with its
     /// metadata where there is some.
     #[tactic(auto, using(crate::proofs::Held::buffer_held))]

@@ -19,7 +19,7 @@ use arc_buffer::kinds::{ByteText, Plain, Slice, Text};
 use arc_owners::mark::{Mark, Stepping};
 use arc_owners::owners::Pass;
 use arc_read::slice::ArcSlice;
-use arc_writer_parts::role::{RoleOf, WriterParts};
+use arc_writer_parts::role::{RoleOf, Several, Sole};
 use std::alloc::Allocator;
 use std::convert::Infallible;
 use std::str::Utf8Error;
@@ -62,7 +62,7 @@ impl<
         ensures refused { IfErr result (λ back. (back ≡ self)
             × IsRefused (layout_move (layout_facts K.Layout) self.place) × (pass.new ≡ pass.old)) }
     {
-        match self.into_parts().try_freeze_as::<K>(pass) {
+        match R::try_freeze_as::<K>(self.into_parts(), pass) {
             Ok(parts) => Ok(ArcSlice::from_parts(parts)),
             Err(parts) => Err(Self::from_parts(parts)),
         }
@@ -90,8 +90,8 @@ impl<
             × WithNewPass {H = H} H.real self.place (λ first last. last ≡ first)) }
     {
         let parts = self.into_parts();
-        let mut pass = parts.pass();
-        let frozen = parts.try_freeze_as::<K>(&mut pass);
+        let mut pass = R::pass(&parts);
+        let frozen = R::try_freeze_as::<K>(parts, &mut pass);
         pass.show();
         match frozen {
             Ok(parts) => Ok(ArcSlice::from_parts(parts)),
@@ -122,7 +122,7 @@ impl<
             × (pass.new ≡ pass.old)) }
     {
         let _ = pass;
-        match self.into_parts().try_with_layout::<K>() {
+        match R::try_with_layout::<K>(self.into_parts()) {
             Ok(parts) => Ok(WriteWindow::from_parts(parts)),
             Err(parts) => Err(Self::from_parts(parts)),
         }
@@ -152,10 +152,10 @@ impl<
     }
 }
 
-impl<L: LayoutMut, B: BufferMut<u8> + Drop, M: Drop, A: Allocator + Copy, H: Mark> ArcSliceMut<
+impl<L: LayoutMut, B: BufferMut<u8> + Drop, M: Drop, A: Allocator + Copy, H: Mark> WriteWindow<
     Text,
     L,
-    1,
+    Sole,
     B,
     M,
     A,
@@ -182,17 +182,17 @@ impl<L: LayoutMut, B: BufferMut<u8> + Drop, M: Drop, A: Allocator + Copy, H: Mar
             × (error_len r.0 ≡ utf8_error_len (drop (valid_up_to r.0) bytes.items))) }
     {
         let parts = bytes.into_parts();
-        match Text::try_from_slice(parts.as_slice()) {
+        match Text::try_from_slice(Sole::as_slice(&parts)) {
             Ok(()) => Ok(Self::from_parts(parts.into_kind())),
             Err(error) => Err((error, ArcSliceMut::from_parts(parts))),
         }
     }
 }
 
-impl<L: LayoutMut, B: BufferMut<u8> + Drop, M: Drop, A: Allocator + Copy, H: Mark> ArcSliceMut<
+impl<L: LayoutMut, B: BufferMut<u8> + Drop, M: Drop, A: Allocator + Copy, H: Mark> WriteWindow<
     Text,
     L,
-    0,
+    Several,
     B,
     M,
     A,
@@ -219,17 +219,17 @@ impl<L: LayoutMut, B: BufferMut<u8> + Drop, M: Drop, A: Allocator + Copy, H: Mar
             × (error_len r.0 ≡ utf8_error_len (drop (valid_up_to r.0) bytes.items))) }
     {
         let parts = bytes.into_parts();
-        match Text::try_from_slice(parts.as_slice()) {
+        match Text::try_from_slice(Several::as_slice(&parts)) {
             Ok(()) => Ok(Self::from_parts(parts.into_kind())),
             Err(error) => Err((error, ArcSliceMut::from_parts(parts))),
         }
     }
 }
 
-impl<L: LayoutMut, B: BufferMut<u8> + Drop, M: Drop, A: Allocator + Copy, H: Mark> ArcSliceMut<
+impl<L: LayoutMut, B: BufferMut<u8> + Drop, M: Drop, A: Allocator + Copy, H: Mark> WriteWindow<
     ByteText,
     L,
-    1,
+    Sole,
     B,
     M,
     A,
@@ -252,10 +252,10 @@ impl<L: LayoutMut, B: BufferMut<u8> + Drop, M: Drop, A: Allocator + Copy, H: Mar
     }
 }
 
-impl<L: LayoutMut, B: BufferMut<u8> + Drop, M: Drop, A: Allocator + Copy, H: Mark> ArcSliceMut<
+impl<L: LayoutMut, B: BufferMut<u8> + Drop, M: Drop, A: Allocator + Copy, H: Mark> WriteWindow<
     ByteText,
     L,
-    0,
+    Several,
     B,
     M,
     A,

@@ -8,7 +8,7 @@ use arc_block::layout::LayoutMut;
 use arc_buffer::buffer::BufferMut;
 use arc_buffer::kinds::{Slice, Subsliceable};
 use arc_owners::mark::Mark;
-use arc_writer_parts::role::{RoleOf, WriterParts};
+use arc_writer_parts::role::RoleOf;
 use std::alloc::Allocator;
 
 impl<
@@ -28,7 +28,7 @@ impl<
         requires { IsEdge S.boundary self.old.items n }
         ensures { self.new ≡ after_advance n self.old }
     {
-        self.parts.advance(n);
+        R::advance(&mut self.parts, n);
     }
 
     /// Leaves the window's first `n` items, or all where it has no more. It stays on its block,
@@ -41,6 +41,6 @@ impl<
         requires { n < length self.old.items → IsEdge S.boundary self.old.items n }
         ensures { self.new ≡ after_truncate S.DROPS n self.old }
     {
-        self.parts.truncate(n);
+        R::truncate(&mut self.parts, n);
     }
 }

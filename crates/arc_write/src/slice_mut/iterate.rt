@@ -7,13 +7,13 @@ ghost use Rattle.arc_parts.specs.Window.{PartsView};
 ghost use Rattle.arc_parts.specs.Writers.{idle_writer};
 ghost use Rattle.arc_write.specs.Extend.{PushesEach, RefusesOne};
 
-use crate::slice_mut::{ArcSliceMut, WriteWindow};
+use crate::slice_mut::WriteWindow;
 use arc_block::layout::LayoutMut;
 use arc_buffer::buffer::BufferMut;
 use arc_buffer::kinds::{Emptyable, Extendable, Slice};
 use arc_owners::error::TryReserveError;
 use arc_owners::mark::{Mark, Stepping};
-use arc_writer_parts::role::{RoleOf, WriterParts};
+use arc_writer_parts::role::{RoleOf, Sole};
 use std::alloc::Allocator;
 
 impl<
@@ -50,14 +50,14 @@ impl<
             → I.IntoIter.can_next it × IsFinite (I.IntoIter.remaining it) }
         ensures extended { OnOk result ((it : I.IntoIter) × (xs : List S.Item)
             × I.into_iter_gives iter it × Drains I.IntoIter.next_gives it xs
-            × PushesEach H H.real R.Parts.several S.DROPS H.whole (type_size S.Item.row)
+            × PushesEach H H.real R.several S.DROPS H.whole (type_size S.Item.row)
             B.list B.places B.grows B.refuses xs self.old self.new) }
         ensures refused { IfErr result (λ r. (it : I.IntoIter) × (xs : List S.Item)
             × (rest : I.IntoIter) × (last : PartsView S.Item M) × I.into_iter_gives iter it
             × YieldsThen I.IntoIter.next_gives it xs (Some r.1) rest
-            × PushesEach H H.real R.Parts.several S.DROPS H.whole (type_size S.Item.row)
+            × PushesEach H H.real R.several S.DROPS H.whole (type_size S.Item.row)
             B.list B.places B.grows B.refuses xs self.old last
-            × RefusesOne H H.real R.Parts.several S.DROPS H.whole (type_size S.Item.row)
+            × RefusesOne H H.real R.several S.DROPS H.whole (type_size S.Item.row)
             B.list B.places B.grows B.refuses r.0 last self.new) }
         ensures items { ExtendsWithItems I.into_iter_gives I.IntoIter.next_gives
             (λ (old : PartsView S.Item M) xs (new : PartsView S.Item M).
@@ -83,7 +83,7 @@ impl<
     M: Drop,
     A: Allocator + Copy,
     H: Mark,
-> ArcSliceMut<S, L, 1, B, M, A, H> {
+> WriteWindow<S, L, Sole, B, M, A, H> {
     /// A window over the items that come: `try_extend` of a window on nothing.
     ///
     /// # Errors

@@ -6,13 +6,13 @@ ghost use Rattle.arc_parts.specs.Steps.{EndsAt, IsPassAt};
 ghost use Rattle.arc_writer_parts.specs.Roles.{ReleasesAt, ReleasesHintedAt};
 ghost use Rattle.arc_read.specs.Steps.{WithNewPass};
 
-use crate::slice_mut::{ArcSliceMut, WriteWindow};
+use crate::slice_mut::WriteWindow;
 use arc_block::layout::LayoutMut;
 use arc_buffer::buffer::BufferMut;
 use arc_buffer::kinds::Slice;
 use arc_owners::mark::{Mark, Stepping};
 use arc_owners::owners::Pass;
-use arc_writer_parts::role::{RoleOf, WriterParts};
+use arc_writer_parts::role::{RoleOf, Sole};
 use std::alloc::Allocator;
 
 impl<
@@ -31,9 +31,9 @@ impl<
     /// On a block Down; of a sole writer and of a vector without a step.
     pub fn release_as(self, pass: &mut Pass<H>)
         requires pass { IsPassAt self.place pass.old }
-        ensures entry { ReleasesAt R.Parts.several self.place pass.old pass.new }
+        ensures entry { ReleasesAt R.several self.place pass.old pass.new }
     {
-        self.into_parts().release_as(pass);
+        R::release_as(self.into_parts(), pass);
     }
 
     /// Ends the window: one of several writers reads the count first, and where no other owner
@@ -46,9 +46,9 @@ impl<
     /// answer, then Down.
     pub fn drop_with_unique_hint_as(self, pass: &mut Pass<H>)
         requires pass { IsPassAt self.place pass.old }
-        ensures entry { ReleasesHintedAt R.Parts.several self.place pass.old pass.new }
+        ensures entry { ReleasesHintedAt R.several self.place pass.old pass.new }
     {
-        self.into_parts().release_with_unique_hint_as(pass);
+        R::release_with_unique_hint_as(self.into_parts(), pass);
     }
 
     /// Ends the window: `drop_with_unique_hint_as` with a new pass.
@@ -60,7 +60,7 @@ impl<
     where
         H: Stepping,
         ensures entry { WithNewPass {H = H} H.real self.place (λ first last.
-            ReleasesHintedAt R.Parts.several self.place first last) }
+            ReleasesHintedAt R.several self.place first last) }
     {
         let mut pass = self.pass();
         self.drop_with_unique_hint_as(&mut pass);
@@ -74,7 +74,7 @@ impl<
         ensures { at_owner self.now.place (pass.new ≡ pass.old) (λ o.
             Learns o.block pass.old other.now pass.new) }
     {
-        self.parts.learn(pass, other);
+        R::learn(&self.parts, pass, other);
     }
 
     /// What a drop does: under `Open` the window ends with a new pass, and the last owner gives the
@@ -89,7 +89,7 @@ impl<
         ensures forgotten { H.whole ≡ true → IsPassOfNone result }
         ensures ended { H.whole ≡ false → EndsAt self.place result }
     {
-        self.into_parts().let_go()
+        R::let_go(self.into_parts())
     }
 
     /// A new pass of the window's block, which has seen at least how the window became an owner,
@@ -99,7 +99,7 @@ impl<
         H: Stepping,
         ensures { at_owner self.now.place (IsPassOfNone result) (λ o. IsNewPass o result) }
     {
-        self.parts.pass()
+        R::pass(&self.parts)
     }
 }
 
@@ -110,7 +110,7 @@ impl<
     M: Drop,
     A: Allocator + Copy,
     H: Mark,
-> ArcSliceMut<S, L, 1, B, M, A, H> {
+> WriteWindow<S, L, Sole, B, M, A, H> {
     /// Shows a pass the block's whole history so far, in which no other owner than this window
     /// lives. It adds nothing.
     pub fn only(&self, pass: &mut Pass<H>)

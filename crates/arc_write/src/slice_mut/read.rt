@@ -12,7 +12,7 @@ use arc_buffer::kinds::{Slice, Subsliceable};
 use arc_owners::error::RangeError;
 use arc_owners::mark::Mark;
 use arc_read::range;
-use arc_writer_parts::role::{RoleOf, WriterParts};
+use arc_writer_parts::role::RoleOf;
 use std::alloc::Allocator;
 
 impl<
@@ -29,7 +29,7 @@ impl<
     pub fn len(&self) -> usize
         ensures { result ≡ length self.now.items }
     {
-        self.parts.len()
+        R::len(&self.parts)
     }
 
     /// Whether the window has no items.
@@ -45,7 +45,7 @@ impl<
     pub fn as_slice(&self) -> &[S::Item]
         ensures { result.now ≡ self.now.items }
     {
-        self.parts.as_slice()
+        R::as_slice(&self.parts)
     }
 
     /// How many places the window has, from its first item on.
@@ -54,7 +54,7 @@ impl<
         ensures capacity { result ≡ capacity_of self.now.role }
         ensures enough { length self.now.items ≤ result }
     {
-        self.parts.capacity()
+        R::capacity(&self.parts)
     }
 
     /// How many items more the window has places for.

@@ -10,14 +10,14 @@ ghost use Rattle.arc_writer_parts.specs.Roles.{AsksRoom, ReclaimsRoom};
 ghost use Rattle.arc_read.specs.Steps.{WithNewPass};
 ghost use Rattle.arc_write.specs.Within.{StaysWithin};
 
-use crate::slice_mut::{ArcSliceMut, WriteWindow};
+use crate::slice_mut::WriteWindow;
 use arc_block::layout::LayoutMut;
 use arc_buffer::buffer::BufferMut;
 use arc_buffer::kinds::Slice;
 use arc_owners::error::TryReserveError;
 use arc_owners::mark::{Mark, Stepping};
 use arc_owners::owners::Pass;
-use arc_writer_parts::role::{RoleOf, WriterParts};
+use arc_writer_parts::role::{RoleOf, Several, Sole};
 use std::alloc::Allocator;
 
 impl<
@@ -60,7 +60,7 @@ impl<
         pass: &mut Pass<H>,
     ) -> Result<(), TryReserveError>
         requires pass { IsPassAt self.old.place pass.old }
-        ensures room { AsksRoom R.Parts.several S.DROPS H.whole (type_size S.Item.row) additional
+        ensures room { AsksRoom R.several S.DROPS H.whole (type_size S.Item.row) additional
             self.old self.new pass.old pass.new result }
         ensures items { self.new.items ≡ self.old.items }
         ensures enough { OnOk result
@@ -68,10 +68,10 @@ impl<
         ensures own { IfAsked (room_for S.DROPS (type_size S.Item.row) self.old additional) (λ k.
             AsksForRoom B.list B.places B.grows B.refuses self.old k (size_at self.new.place)
             result) }
-        ensures within { StaysWithin R.Parts.several additional
+        ensures within { StaysWithin R.several additional
             self.old self.new (is_ok result) }
     {
-        self.parts.try_reserve_as(additional, pass)
+        R::try_reserve_as(&mut self.parts, additional, pass)
     }
 
     /// Makes room for so many items more: `try_reserve_as` with a new pass.
@@ -91,7 +91,7 @@ impl<
     where
         H: Stepping,
         ensures room { WithNewPass {H = H} H.real self.old.place (λ first last.
-            AsksRoom R.Parts.several S.DROPS H.whole (type_size S.Item.row) additional
+            AsksRoom R.several S.DROPS H.whole (type_size S.Item.row) additional
             self.old self.new first last result) }
         ensures items { self.new.items ≡ self.old.items }
         ensures enough { OnOk result
@@ -99,7 +99,7 @@ impl<
         ensures own { IfAsked (room_for S.DROPS (type_size S.Item.row) self.old additional) (λ k.
             AsksForRoom B.list B.places B.grows B.refuses self.old k (size_at self.new.place)
             result) }
-        ensures within { StaysWithin R.Parts.several additional
+        ensures within { StaysWithin R.several additional
             self.old self.new (is_ok result) }
     {
         let mut pass = self.pass();
@@ -116,11 +116,11 @@ impl<
     /// the places already, Alone with the answer.
     pub fn try_reclaim_as(&mut self, additional: usize, pass: &mut Pass<H>) -> bool
         requires pass { IsPassAt self.old.place pass.old }
-        ensures room { ReclaimsRoom R.Parts.several S.DROPS (type_size S.Item.row) additional
+        ensures room { ReclaimsRoom R.several S.DROPS (type_size S.Item.row) additional
             self.old self.new pass.old pass.new result }
         ensures items { self.new.items ≡ self.old.items }
     {
-        self.parts.try_reclaim_as(additional, pass)
+        R::try_reclaim_as(&mut self.parts, additional, pass)
     }
 }
 
@@ -131,7 +131,7 @@ impl<
     M: Drop,
     A: Allocator + Copy,
     H: Mark,
-> ArcSliceMut<S, L, 1, B, M, A, H> {
+> WriteWindow<S, L, Sole, B, M, A, H> {
     /// Whether there is room for so many items more without memory; then it is made. It adds
     /// nothing.
     pub fn try_reclaim(&mut self, additional: usize) -> bool
@@ -149,7 +149,7 @@ impl<
     M: Drop,
     A: Allocator + Copy,
     H: Mark,
-> ArcSliceMut<S, L, 0, B, M, A, H> {
+> WriteWindow<S, L, Several, B, M, A, H> {
     /// Whether there is room for so many items more without memory; then it is made:
     /// `try_reclaim_as` with a new pass.
     ///

@@ -10,13 +10,13 @@ ghost use Rattle.arc_parts.specs.Writers.{IsWholeWriter};
 ghost use Rattle.arc_read.specs.Steps.{WithNewPass};
 ghost use Rattle.arc_writer_parts.specs.Roles.{RefusesTakingOut, TakesOutAt};
 
-use crate::slice_mut::{ArcSliceMut, WriteWindow};
+use crate::slice_mut::WriteWindow;
 use arc_block::layout::LayoutMut;
 use arc_buffer::buffer::BufferMut;
 use arc_buffer::kinds::{Slice, VecIn, Wraps};
 use arc_owners::mark::{Mark, Stepping};
 use arc_owners::owners::Pass;
-use arc_writer_parts::role::{RoleOf, WriterParts};
+use arc_writer_parts::role::{RoleOf, Several, Sole};
 use std::alloc::Allocator;
 
 impl<
@@ -50,11 +50,11 @@ impl<
         ensures places { IfOk result (λ v. (inner : Vec S.Item A) × S.Vec.wraps v inner
             × (vec_capacity inner ≡ size_at self.place)) }
         ensures entries { IfOk result (λ _.
-            TakesOutAt R.Parts.several self.place pass.old pass.new) }
-        ensures refused { IfErr result (λ back. (back ≡ self) × RefusesTakingOut R.Parts.several
+            TakesOutAt R.several self.place pass.old pass.new) }
+        ensures refused { IfErr result (λ back. (back ≡ self) × RefusesTakingOut R.several
             (IsVecPart S.DROPS self.items self.place) self.place pass.old pass.new) }
     {
-        match self.into_parts().try_into_vec_as(pass) {
+        match R::try_into_vec_as(self.into_parts(), pass) {
             Ok(inner) => Ok(S::Vec::from_inner(inner)),
             Err(parts) => Err(Self::from_parts(parts)),
         }
@@ -78,10 +78,10 @@ impl<
         ensures places { IfOk result (λ v. (inner : Vec S.Item A) × S.Vec.wraps v inner
             × (vec_capacity inner ≡ size_at self.place)) }
         ensures entries { IfOk result (λ _. WithNewPass {H = H} H.real self.place (λ first last.
-            TakesOutAt R.Parts.several self.place first last)) }
+            TakesOutAt R.several self.place first last)) }
         ensures refused { IfErr result (λ back. (back ≡ self)
             × WithNewPass {H = H} H.real self.place (λ first last.
-            RefusesTakingOut R.Parts.several (IsVecPart S.DROPS self.items self.place)
+            RefusesTakingOut R.several (IsVecPart S.DROPS self.items self.place)
             self.place first last)) }
     {
         let mut pass = self.pass();
@@ -108,11 +108,11 @@ impl<
         ensures taken { IfOk result (λ b. IsBoxWhole self.items self.place
             × (S.list_in_boxed b ≡ self.items)) }
         ensures entries { IfOk result (λ _.
-            TakesOutAt R.Parts.several self.place pass.old pass.new) }
-        ensures refused { IfErr result (λ back. (back ≡ self) × RefusesTakingOut R.Parts.several
+            TakesOutAt R.several self.place pass.old pass.new) }
+        ensures refused { IfErr result (λ back. (back ≡ self) × RefusesTakingOut R.several
             (IsBoxWhole self.items self.place) self.place pass.old pass.new) }
     {
-        match self.into_parts().try_into_box_vec_as(pass) {
+        match R::try_into_box_vec_as(self.into_parts(), pass) {
             Ok(inner) => Ok(S::Boxed::from_inner(inner.into_boxed_slice())),
             Err(parts) => Err(Self::from_parts(parts)),
         }
@@ -134,10 +134,10 @@ impl<
         ensures taken { IfOk result (λ b. IsBoxWhole self.items self.place
             × (S.list_in_boxed b ≡ self.items)) }
         ensures entries { IfOk result (λ _. WithNewPass {H = H} H.real self.place (λ first last.
-            TakesOutAt R.Parts.several self.place first last)) }
+            TakesOutAt R.several self.place first last)) }
         ensures refused { IfErr result (λ back. (back ≡ self)
             × WithNewPass {H = H} H.real self.place (λ first last.
-            RefusesTakingOut R.Parts.several (IsBoxWhole self.items self.place)
+            RefusesTakingOut R.several (IsBoxWhole self.items self.place)
             self.place first last)) }
     {
         let mut pass = self.pass();
@@ -154,7 +154,7 @@ impl<
     M: Drop,
     A: Allocator + Copy,
     H: Mark,
-> ArcSliceMut<S, L, 1, B, M, A, H> {
+> WriteWindow<S, L, Sole, B, M, A, H> {
     /// The items as an array, where the window has `N` of them, which on a block are all places of
     /// a native one. Else the window comes back.
     ///
@@ -263,7 +263,7 @@ impl<
     M: Drop,
     A: Allocator + Copy,
     H: Mark,
-> ArcSliceMut<S, L, 0, B, M, A, H> {
+> WriteWindow<S, L, Several, B, M, A, H> {
     /// The items as an array, where the window has `N` of them, which on a block are all places of
     /// a native one, and no other owner lives. Else the window comes back.
     ///

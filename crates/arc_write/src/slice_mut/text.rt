@@ -10,14 +10,14 @@ ghost use Rattle.arc_writer_parts.specs.Roles.{AsksRoom, PushesItems};
 ghost use Rattle.arc_read.specs.Steps.{WithNewPass};
 ghost use Rattle.arc_write.specs.Within.{StaysWithin};
 
-use crate::slice_mut::{ArcSliceMut, WriteWindow};
+use crate::slice_mut::WriteWindow;
 use arc_block::layout::LayoutMut;
 use arc_buffer::buffer::BufferMut;
 use arc_buffer::kinds::Text;
 use arc_owners::error::{AllocError, TryReserveError};
 use arc_owners::mark::{Mark, Stepping};
 use arc_owners::owners::Pass;
-use arc_writer_parts::role::{CopyWriterParts, RoleOf, WriterParts};
+use arc_writer_parts::role::{CopyRole, RoleOf, Sole};
 use arc_writer_parts::sole::SoleParts;
 use std::alloc::Allocator;
 use std::str;
@@ -34,7 +34,7 @@ impl<
     pub fn as_str(&self) -> &str
         ensures { result.now ≡ self.now.items }
     {
-        unsafe { str::from_utf8_unchecked(self.parts.as_slice()) }
+        unsafe { str::from_utf8_unchecked(R::as_slice(&self.parts)) }
     }
 
     /// A copy of the text more, behind what is there, once there is room for it.
@@ -56,20 +56,20 @@ impl<
         pass: &mut Pass<H>,
     ) -> Result<(), TryReserveError>
     where
-        R::Parts: CopyWriterParts<Text, B, M, A, H>,
+        R: CopyRole<Text, B, M, A, H>,
         requires pass { IsPassAt self.old.place pass.old }
-        ensures extended { OnOk result (PushesItems R.Parts.several false H.whole 1
+        ensures extended { OnOk result (PushesItems R.several false H.whole 1
             (length text.now) text.now self.old self.new pass.old pass.new) }
         ensures items { OnOk result (self.new.items ≡ self.old.items ++ text.now) }
-        ensures refused { IfErr result (λ e. AsksRoom R.Parts.several false H.whole 1
+        ensures refused { IfErr result (λ e. AsksRoom R.several false H.whole 1
             (length text.now) self.old self.new pass.old pass.new (Err e)) }
         ensures own { IfAsked (room_for false 1 self.old (length text.now)) (λ k.
             AsksForRoom B.list B.places B.grows B.refuses self.old k (size_at self.new.place)
             result) }
-        ensures within { StaysWithin R.Parts.several (length text.now)
+        ensures within { StaysWithin R.several (length text.now)
             self.old self.new (is_ok result) }
     {
-        self.parts.try_extend_from_slice_as(text.as_bytes(), pass)
+        R::try_extend_from_slice_as(&mut self.parts, text.as_bytes(), pass)
     }
 
     /// A copy of the text more, behind what is there: `try_extend_from_str_as` with a new pass.
@@ -88,19 +88,19 @@ impl<
     pub fn try_extend_from_str(&mut self, text: &str) -> Result<(), TryReserveError>
     where
         H: Stepping,
-        R::Parts: CopyWriterParts<Text, B, M, A, H>,
+        R: CopyRole<Text, B, M, A, H>,
         ensures extended { OnOk result (WithNewPass {H = H} H.real self.old.place (λ first last.
-            PushesItems R.Parts.several false H.whole 1 (length text.now) text.now
+            PushesItems R.several false H.whole 1 (length text.now) text.now
             self.old self.new first last)) }
         ensures items { OnOk result (self.new.items ≡ self.old.items ++ text.now) }
         ensures refused { IfErr result (λ e.
             WithNewPass {H = H} H.real self.old.place (λ first last.
-            AsksRoom R.Parts.several false H.whole 1 (length text.now)
+            AsksRoom R.several false H.whole 1 (length text.now)
             self.old self.new first last (Err e))) }
         ensures own { IfAsked (room_for false 1 self.old (length text.now)) (λ k.
             AsksForRoom B.list B.places B.grows B.refuses self.old k (size_at self.new.place)
             result) }
-        ensures within { StaysWithin R.Parts.several (length text.now)
+        ensures within { StaysWithin R.several (length text.now)
             self.old self.new (is_ok result) }
     {
         let mut pass = self.pass();
@@ -110,10 +110,10 @@ impl<
     }
 }
 
-impl<L: LayoutMut, B: BufferMut<u8> + Drop, M: Drop, A: Allocator + Copy, H: Mark> ArcSliceMut<
+impl<L: LayoutMut, B: BufferMut<u8> + Drop, M: Drop, A: Allocator + Copy, H: Mark> WriteWindow<
     Text,
     L,
-    1,
+    Sole,
     B,
     M,
     A,

@@ -7,12 +7,13 @@ ghost use Rattle.arc_block.specs.Place.{nowhere};
 ghost use Rattle.arc_parts.specs.Writers.{MakesVecWriter};
 ghost use Rattle.arc_read.specs.Steps.{WithNewPass};
 
-use crate::slice_mut::ArcSliceMut;
+use crate::slice_mut::WriteWindow;
 use arc_block::layout::{AnyBufferLayout, LayoutMut};
 use arc_buffer::buffer::BufferMut;
 use arc_buffer::kinds::{Slice, VecIn, Wraps};
 use arc_owners::mark::{Mark, Stepping};
 use arc_owners::owners::Pass;
+use arc_writer_parts::role::Sole;
 use arc_writer_parts::sole::SoleParts;
 use std::alloc::Allocator;
 
@@ -23,7 +24,7 @@ impl<
     M: Drop,
     A: Allocator + Copy,
     H: Mark,
-> ArcSliceMut<S, L, 1, B, M, A, H> {
+> WriteWindow<S, L, Sole, B, M, A, H> {
     /// A window over all items of a vector, which are legal.
     #[tactic(auto, using(crate::proofs::Held::vector_held))]
     fn try_from_legal_vec_as(

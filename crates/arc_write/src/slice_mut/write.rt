@@ -18,7 +18,7 @@ use arc_buffer::kinds::{AnyItems, CopySlice, Extendable, Slice};
 use arc_owners::error::TryReserveError;
 use arc_owners::mark::{Mark, Stepping};
 use arc_owners::owners::Pass;
-use arc_writer_parts::role::{CopyWriterParts, RoleOf, WriterParts};
+use arc_writer_parts::role::{CopyRole, RoleOf};
 use std::alloc::{AllocError, Allocator};
 
 impl<
@@ -39,11 +39,11 @@ impl<
     where
         S: AnyItems,
         ensures* writes_back { sem 𝓛 (lends_items S.row L.row R.row B.row M.row A.row H.row
-            S.Item.row S.TryFromSliceError.row R.Parts.row S.Slice L.Layout R.Parts.WriterParts
+            S.Item.row S.TryFromSliceError.row R.Parts.row S.Slice L.Layout R.RoleOf
             B.BufferMut.own B.Buffer A.Allocator H.Mark self.entry result) }
         ensures value { result.now ≡ self.old.items }
     {
-        self.parts.as_mut_slice()
+        R::as_mut_slice(&mut self.parts)
     }
 
     /// An item more, behind the others, once there is room for it.
@@ -68,18 +68,18 @@ impl<
     where
         S: Extendable,
         requires pass { IsPassAt self.old.place pass.old }
-        ensures pushed { OnOk result (PushesItems R.Parts.several S.DROPS H.whole
+        ensures pushed { OnOk result (PushesItems R.several S.DROPS H.whole
             (type_size S.Item.row) 1 (item ∷ []) self.old self.new pass.old pass.new) }
         ensures items { OnOk result (self.new.items ≡ self.old.items ++ item ∷ []) }
         ensures refused { IfErr result (λ r. (r.1 ≡ item)
-            × AsksRoom R.Parts.several S.DROPS H.whole (type_size S.Item.row) 1
+            × AsksRoom R.several S.DROPS H.whole (type_size S.Item.row) 1
             self.old self.new pass.old pass.new (Err r.0)) }
         ensures own { IfAsked (room_for S.DROPS (type_size S.Item.row) self.old 1) (λ k.
             AsksForRoom B.list B.places B.grows B.refuses self.old k (size_at self.new.place)
             (without_item result)) }
-        ensures within { StaysWithin R.Parts.several 1 self.old self.new (is_ok result) }
+        ensures within { StaysWithin R.several 1 self.old self.new (is_ok result) }
     {
-        self.parts.try_push_as(item, pass)
+        R::try_push_as(&mut self.parts, item, pass)
     }
 
     /// An item more, behind the others: `try_push_as` with a new pass.
@@ -101,17 +101,17 @@ impl<
         H: Stepping,
         S: Extendable,
         ensures pushed { OnOk result (WithNewPass {H = H} H.real self.old.place (λ first last.
-            PushesItems R.Parts.several S.DROPS H.whole (type_size S.Item.row) 1 (item ∷ [])
+            PushesItems R.several S.DROPS H.whole (type_size S.Item.row) 1 (item ∷ [])
             self.old self.new first last)) }
         ensures items { OnOk result (self.new.items ≡ self.old.items ++ item ∷ []) }
         ensures refused { IfErr result (λ r. (r.1 ≡ item)
             × WithNewPass {H = H} H.real self.old.place (λ first last.
-            AsksRoom R.Parts.several S.DROPS H.whole (type_size S.Item.row) 1
+            AsksRoom R.several S.DROPS H.whole (type_size S.Item.row) 1
             self.old self.new first last (Err r.0))) }
         ensures own { IfAsked (room_for S.DROPS (type_size S.Item.row) self.old 1) (λ k.
             AsksForRoom B.list B.places B.grows B.refuses self.old k (size_at self.new.place)
             (without_item result)) }
-        ensures within { StaysWithin R.Parts.several 1 self.old self.new (is_ok result) }
+        ensures within { StaysWithin R.several 1 self.old self.new (is_ok result) }
     {
         let mut pass = self.pass();
         let pushed = self.try_push_as(item, &mut pass);
@@ -141,22 +141,22 @@ impl<
     where
         S: CopySlice,
         S::Item: Copy,
-        R::Parts: CopyWriterParts<S, B, M, A, H>,
+        R: CopyRole<S, B, M, A, H>,
         requires pass { IsPassAt self.old.place pass.old }
-        ensures extended { OnOk result (PushesItems R.Parts.several S.DROPS H.whole
+        ensures extended { OnOk result (PushesItems R.several S.DROPS H.whole
             (type_size S.Item.row) (length items.now) items.now
             self.old self.new pass.old pass.new) }
         ensures items { OnOk result (self.new.items ≡ self.old.items ++ items.now) }
-        ensures refused { IfErr result (λ e. AsksRoom R.Parts.several S.DROPS H.whole
+        ensures refused { IfErr result (λ e. AsksRoom R.several S.DROPS H.whole
             (type_size S.Item.row) (length items.now)
             self.old self.new pass.old pass.new (Err e)) }
         ensures own { IfAsked (room_for S.DROPS (type_size S.Item.row) self.old
             (length items.now)) (λ k. AsksForRoom B.list B.places B.grows B.refuses self.old k
             (size_at self.new.place) result) }
-        ensures within { StaysWithin R.Parts.several (length items.now)
+        ensures within { StaysWithin R.several (length items.now)
             self.old self.new (is_ok result) }
     {
-        self.parts.try_extend_from_slice_as(items, pass)
+        R::try_extend_from_slice_as(&mut self.parts, items, pass)
     }
 
     /// A copy of the items more, behind the others: `try_extend_from_slice_as` with a new pass.
@@ -178,19 +178,19 @@ impl<
         H: Stepping,
         S: CopySlice,
         S::Item: Copy,
-        R::Parts: CopyWriterParts<S, B, M, A, H>,
+        R: CopyRole<S, B, M, A, H>,
         ensures extended { OnOk result (WithNewPass {H = H} H.real self.old.place (λ first last.
-            PushesItems R.Parts.several S.DROPS H.whole (type_size S.Item.row) (length items.now)
+            PushesItems R.several S.DROPS H.whole (type_size S.Item.row) (length items.now)
             items.now self.old self.new first last)) }
         ensures items { OnOk result (self.new.items ≡ self.old.items ++ items.now) }
         ensures refused { IfErr result (λ e.
             WithNewPass {H = H} H.real self.old.place (λ first last.
-            AsksRoom R.Parts.several S.DROPS H.whole (type_size S.Item.row) (length items.now)
+            AsksRoom R.several S.DROPS H.whole (type_size S.Item.row) (length items.now)
             self.old self.new first last (Err e))) }
         ensures own { IfAsked (room_for S.DROPS (type_size S.Item.row) self.old
             (length items.now)) (λ k. AsksForRoom B.list B.places B.grows B.refuses self.old k
             (size_at self.new.place) result) }
-        ensures within { StaysWithin R.Parts.several (length items.now)
+        ensures within { StaysWithin R.several (length items.now)
             self.old self.new (is_ok result) }
     {
         let mut pass = self.pass();
@@ -209,7 +209,7 @@ impl<
     where
         S: CopySlice,
         S::Item: Copy,
-        R::Parts: CopyWriterParts<S, B, M, A, H>,
+        R: CopyRole<S, B, M, A, H>,
         ensures done { OnOk result ((length items.now ≤ spare_places self.old)
             × (self.new ≡ with_more items.now self.old)) }
         ensures full { OnErr result ((spare_places self.old < length items.now)
@@ -218,7 +218,7 @@ impl<
         if items.len() > self.spare() {
             return Err(AllocError);
         }
-        self.parts.extend_reserved(items);
+        R::extend_reserved(&mut self.parts, items);
         Ok(())
     }
 }

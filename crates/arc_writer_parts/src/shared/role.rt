@@ -12,7 +12,7 @@ ghost use Rattle.arc_parts.specs.Window.{IsBoxWhole, IsHeld, IsVecPart, window_o
 ghost use Rattle.arc_parts.specs.Writers.{as_reader, Freezes, with_items};
 
 use super::{SharedParts, SharedStorage};
-use crate::role::{CopyWriterParts, WriterParts};
+use crate::role::{CopyRole, RoleOf, Several, Sole};
 use arc_block::layout::Layout;
 use arc_buffer::buffer::{BorrowMetadata, BufferMut};
 use arc_buffer::kinds::Slice;
@@ -23,114 +23,116 @@ use arc_parts::parts::Parts;
 use std::alloc::Allocator;
 use std::mem;
 
-impl<S: Slice, B: BufferMut<S::Item> + Drop, M: Drop, A: Allocator + Copy, H: Mark> WriterParts<
+impl<S: Slice, B: BufferMut<S::Item> + Drop, M: Drop, A: Allocator + Copy, H: Mark> RoleOf<
     S,
     B,
     M,
     A,
     H,
-> for SharedParts<S, B, M, A, H> {
+> for Several {
+    type Parts = SharedParts<S, B, M, A, H>;
+
     ghost seen = { λ parts. parts };
 
     ghost several = { true };
 
     ghost with_list = { with_items };
 
-    fn known_place(&self) {
-        match &self.on {
+    fn known_place(parts: &SharedParts<S, B, M, A, H>) {
+        match &parts.on {
             SharedStorage::Several(_) => (),
             SharedStorage::Alone(_) => (),
         }
     }
 
     #[inline(always)]
-    fn len(&self) -> usize {
-        match &self.on {
+    fn len(parts: &SharedParts<S, B, M, A, H>) -> usize {
+        match &parts.on {
             SharedStorage::Several(writer) => writer.len(),
-            SharedStorage::Alone(parts) => parts.len(),
+            SharedStorage::Alone(parts) => Sole::len(parts),
         }
     }
 
     #[inline(always)]
-    fn as_slice(&self) -> &[S::Item] {
-        match &self.on {
+    fn as_slice(parts: &SharedParts<S, B, M, A, H>) -> &[S::Item] {
+        match &parts.on {
             SharedStorage::Several(writer) => writer.as_slice(),
-            SharedStorage::Alone(parts) => parts.as_slice(),
+            SharedStorage::Alone(parts) => Sole::as_slice(parts),
         }
     }
 
     #[inline(always)]
-    fn capacity(&self) -> usize {
-        match &self.on {
+    fn capacity(parts: &SharedParts<S, B, M, A, H>) -> usize {
+        match &parts.on {
             SharedStorage::Several(writer) => writer.capacity(),
-            SharedStorage::Alone(parts) => parts.capacity(),
+            SharedStorage::Alone(parts) => Sole::capacity(parts),
         }
     }
 
     #[inline(always)]
-    fn as_mut_slice(&mut self) -> &mut [S::Item] {
-        match &mut self.on {
+    fn as_mut_slice(parts: &mut SharedParts<S, B, M, A, H>) -> &mut [S::Item] {
+        match &mut parts.on {
             SharedStorage::Several(writer) => writer.as_mut_slice(),
-            SharedStorage::Alone(parts) => parts.as_mut_slice(),
+            SharedStorage::Alone(parts) => Sole::as_mut_slice(parts),
         }
     }
 
     #[inline(always)]
-    fn advance(&mut self, count: usize) {
-        match &mut self.on {
+    fn advance(parts: &mut SharedParts<S, B, M, A, H>, count: usize) {
+        match &mut parts.on {
             SharedStorage::Several(writer) => writer.advance(count),
-            SharedStorage::Alone(parts) => parts.advance(count),
+            SharedStorage::Alone(parts) => Sole::advance(parts, count),
         }
     }
 
-    fn truncate(&mut self, len: usize) {
-        self.known_kind();
-        match &mut self.on {
+    fn truncate(parts: &mut SharedParts<S, B, M, A, H>, len: usize) {
+        parts.known_kind();
+        match &mut parts.on {
             SharedStorage::Several(writer) => {
                 if len < writer.len() {
                     writer.truncate(len);
                 }
             }
-            SharedStorage::Alone(parts) => parts.truncate(len),
+            SharedStorage::Alone(parts) => Sole::truncate(parts, len),
         }
     }
 
     #[inline(always)]
     #[tactic(auto, using(crate::proofs::Rooms::spare_shared))]
     fn try_reserve_as(
-        &mut self,
+        parts: &mut SharedParts<S, B, M, A, H>,
         additional: usize,
         pass: &mut Pass<H>,
     ) -> Result<(), TryReserveError> {
-        if additional <= self.spare() {
+        if additional <= parts.spare() {
             return Ok(());
         }
-        self.try_make_room(additional, pass)
+        parts.try_make_room(additional, pass)
     }
 
     #[tactic(auto, using(crate::proofs::Rooms::spare_reclaimed))]
-    fn try_reclaim_as(&mut self, additional: usize, pass: &mut Pass<H>) -> bool {
-        if additional <= self.spare() {
+    fn try_reclaim_as(parts: &mut SharedParts<S, B, M, A, H>, additional: usize, pass: &mut Pass<H>) -> bool {
+        if additional <= parts.spare() {
             return true;
         }
-        self.known_kind();
-        let nothing = Self::on_nothing(self.alloc);
-        let (parts, found) = mem::replace(self, nothing).with_places_as(additional, pass);
-        self.take_in(parts);
+        parts.known_kind();
+        let nothing = SharedParts::on_nothing(parts.alloc);
+        let (made, found) = mem::replace(parts, nothing).with_places_as(additional, pass);
+        parts.take_in(made);
         found
     }
 
     #[inline(always)]
     #[tactic(auto, using(crate::proofs::Rooms::shared_asked))]
     fn try_push_as(
-        &mut self,
+        parts: &mut SharedParts<S, B, M, A, H>,
         item: S::Item,
         pass: &mut Pass<H>,
     ) -> Result<(), (TryReserveError, S::Item)> {
-        self.known_place();
-        match self.try_reserve_as(1, pass) {
+        Several::known_place(parts);
+        match Several::try_reserve_as(parts, 1, pass) {
             Ok(()) => {
-                self.push_reserved(item);
+                parts.push_reserved(item);
                 Ok(())
             }
             Err(e) => Err((e, item)),
@@ -138,27 +140,27 @@ impl<S: Slice, B: BufferMut<S::Item> + Drop, M: Drop, A: Allocator + Copy, H: Ma
     }
 
     #[tactic(auto, using(crate::proofs::Takes::asked_taken, crate::proofs::Takes::asked_refused))]
-    fn try_into_vec_as(self, pass: &mut Pass<H>) -> Result<Vec<S::Item, A>, Self>
-        requires pass { IsPassAt self.place pass.old }
-        ensures taken { IfOk result (λ v. IsVecPart S.DROPS self.items self.place
-            × (v.items ≡ self.items) × (vec_capacity v ≡ size_at self.place)) }
-        ensures entries { IfOk result (λ _. TakesAt self.place pass.old pass.new) }
-        ensures refused { IfErr result (λ back. (back ≡ self) × RefusesTaking
-            (IsVecPart S.DROPS self.items self.place) self.place pass.old pass.new) }
+    fn try_into_vec_as(parts: SharedParts<S, B, M, A, H>, pass: &mut Pass<H>) -> Result<Vec<S::Item, A>, SharedParts<S, B, M, A, H>>
+        requires pass { IsPassAt parts.place pass.old }
+        ensures taken { IfOk result (λ v. IsVecPart S.DROPS parts.items parts.place
+            × (v.items ≡ parts.items) × (vec_capacity v ≡ size_at parts.place)) }
+        ensures entries { IfOk result (λ _. TakesAt parts.place pass.old pass.new) }
+        ensures refused { IfErr result (λ back. (back ≡ parts) × RefusesTaking
+            (IsVecPart S.DROPS parts.items parts.place) parts.place pass.old pass.new) }
     {
-        self.known_kind();
-        self.known_place();
-        let SharedParts { on, alloc } = self;
+        parts.known_kind();
+        Several::known_place(&parts);
+        let SharedParts { on, alloc } = parts;
         match on {
-            SharedStorage::Several(writer) => Err(Self::several(alloc, writer)),
+            SharedStorage::Several(writer) => Err(SharedParts::several(alloc, writer)),
             SharedStorage::Alone(parts) => {
                 if !parts.is_on_block() {
-                    return Err(Self::alone(alloc, parts));
+                    return Err(SharedParts::alone(alloc, parts));
                 }
                 if !parts.is_alone_as(pass) {
-                    return Err(Self::alone(alloc, parts));
+                    return Err(SharedParts::alone(alloc, parts));
                 }
-                match parts.try_into_vec_as(pass) {
+                match Sole::try_into_vec_as(parts, pass) {
                     Ok(items) => Ok(items),
                     Err(_) => unreachable!(),
                 }
@@ -167,27 +169,27 @@ impl<S: Slice, B: BufferMut<S::Item> + Drop, M: Drop, A: Allocator + Copy, H: Ma
     }
 
     #[tactic(auto, using(crate::proofs::Takes::asked_taken, crate::proofs::Takes::asked_refused))]
-    fn try_into_box_vec_as(self, pass: &mut Pass<H>) -> Result<Vec<S::Item, A>, Self>
-        requires pass { IsPassAt self.place pass.old }
-        ensures taken { IfOk result (λ v. IsBoxWhole self.items self.place
-            × (v.items ≡ self.items) × (vec_capacity v ≡ size_at self.place)) }
-        ensures entries { IfOk result (λ _. TakesAt self.place pass.old pass.new) }
-        ensures refused { IfErr result (λ back. (back ≡ self) × RefusesTaking
-            (IsBoxWhole self.items self.place) self.place pass.old pass.new) }
+    fn try_into_box_vec_as(parts: SharedParts<S, B, M, A, H>, pass: &mut Pass<H>) -> Result<Vec<S::Item, A>, SharedParts<S, B, M, A, H>>
+        requires pass { IsPassAt parts.place pass.old }
+        ensures taken { IfOk result (λ v. IsBoxWhole parts.items parts.place
+            × (v.items ≡ parts.items) × (vec_capacity v ≡ size_at parts.place)) }
+        ensures entries { IfOk result (λ _. TakesAt parts.place pass.old pass.new) }
+        ensures refused { IfErr result (λ back. (back ≡ parts) × RefusesTaking
+            (IsBoxWhole parts.items parts.place) parts.place pass.old pass.new) }
     {
-        self.known_kind();
-        self.known_place();
-        let SharedParts { on, alloc } = self;
+        parts.known_kind();
+        Several::known_place(&parts);
+        let SharedParts { on, alloc } = parts;
         match on {
-            SharedStorage::Several(writer) => Err(Self::several(alloc, writer)),
+            SharedStorage::Several(writer) => Err(SharedParts::several(alloc, writer)),
             SharedStorage::Alone(parts) => {
                 if !parts.is_box_whole() {
-                    return Err(Self::alone(alloc, parts));
+                    return Err(SharedParts::alone(alloc, parts));
                 }
                 if !parts.is_alone_as(pass) {
-                    return Err(Self::alone(alloc, parts));
+                    return Err(SharedParts::alone(alloc, parts));
                 }
-                match parts.try_into_box_vec_as(pass) {
+                match Sole::try_into_box_vec_as(parts, pass) {
                     Ok(items) => Ok(items),
                     Err(_) => unreachable!(),
                 }
@@ -195,145 +197,145 @@ impl<S: Slice, B: BufferMut<S::Item> + Drop, M: Drop, A: Allocator + Copy, H: Ma
         }
     }
 
-    fn freeze(self) -> Parts<S, B, M, A, H> {
-        self.known_kind();
-        let SharedParts { on, alloc } = self;
+    fn freeze(parts: SharedParts<S, B, M, A, H>) -> Parts<S, B, M, A, H> {
+        parts.known_kind();
+        let SharedParts { on, alloc } = parts;
         match on {
-            SharedStorage::Several(writer) => Self::freeze_several(alloc, writer),
-            SharedStorage::Alone(parts) => parts.freeze(),
+            SharedStorage::Several(writer) => SharedParts::freeze_several(alloc, writer),
+            SharedStorage::Alone(parts) => Sole::freeze(parts),
         }
     }
 
-    fn try_freeze_as<L: Layout>(self, pass: &mut Pass<H>) -> Result<Parts<S, B, M, A, H>, Self>
-        requires pass { IsPassAt self.place pass.old }
-        ensures frozen { IfOk result (λ parts.
-            Freezes (layout_facts L.Layout) S.DROPS H.whole self parts pass.old pass.new) }
-        ensures stays { IfOk result (λ parts. IsOnBlock self.place
-            → (parts ≡ as_reader self) × (pass.new ≡ pass.old)) }
-        ensures made { IfOk result (λ parts. (¬ IsOnBlock self.place)
-            → Makes L.STATIC S.DROPS H.whole self.items (window_of parts)
-            × Begins (window_of parts) pass.old pass.new) }
-        ensures items { IfOk result (λ parts. parts.items ≡ self.items) }
-        ensures role { IfOk result (λ parts. parts.role ≡ reader) }
-        ensures held { IfOk result (λ parts. IsHeld (layout_facts L.Layout) parts.place) }
-        ensures refused { IfErr result (λ back. (back ≡ self)
-            × IsRefused (layout_move (layout_facts L.Layout) self.place) × (pass.new ≡ pass.old)) }
+    fn try_freeze_as<L: Layout>(parts: SharedParts<S, B, M, A, H>, pass: &mut Pass<H>) -> Result<Parts<S, B, M, A, H>, SharedParts<S, B, M, A, H>>
+        requires pass { IsPassAt parts.place pass.old }
+        ensures frozen { IfOk result (λ frozen.
+            Freezes (layout_facts L.Layout) S.DROPS H.whole parts frozen pass.old pass.new) }
+        ensures stays { IfOk result (λ frozen. IsOnBlock parts.place
+            → (frozen ≡ as_reader parts) × (pass.new ≡ pass.old)) }
+        ensures made { IfOk result (λ frozen. (¬ IsOnBlock parts.place)
+            → Makes L.STATIC S.DROPS H.whole parts.items (window_of frozen)
+            × Begins (window_of frozen) pass.old pass.new) }
+        ensures items { IfOk result (λ frozen. frozen.items ≡ parts.items) }
+        ensures role { IfOk result (λ frozen. frozen.role ≡ reader) }
+        ensures held { IfOk result (λ frozen. IsHeld (layout_facts L.Layout) frozen.place) }
+        ensures refused { IfErr result (λ back. (back ≡ parts)
+            × IsRefused (layout_move (layout_facts L.Layout) parts.place) × (pass.new ≡ pass.old)) }
     {
-        self.known_kind();
-        let SharedParts { on, alloc } = self;
+        parts.known_kind();
+        let SharedParts { on, alloc } = parts;
         match on {
-            SharedStorage::Several(writer) => Ok(Self::freeze_several(alloc, writer)),
-            SharedStorage::Alone(parts) => match parts.try_freeze_as::<L>(pass) {
+            SharedStorage::Several(writer) => Ok(SharedParts::freeze_several(alloc, writer)),
+            SharedStorage::Alone(parts) => match Sole::try_freeze_as::<L>(parts, pass) {
                 Ok(parts) => Ok(parts),
-                Err(back) => Err(Self::alone(alloc, back)),
+                Err(back) => Err(SharedParts::alone(alloc, back)),
             },
         }
     }
 
-    fn try_with_layout<L: Layout>(self) -> Result<Self, Self> {
-        if self.is_held::<L>() {
-            return Ok(self);
+    fn try_with_layout<L: Layout>(parts: SharedParts<S, B, M, A, H>) -> Result<SharedParts<S, B, M, A, H>, SharedParts<S, B, M, A, H>> {
+        if parts.is_held::<L>() {
+            return Ok(parts);
         }
-        Err(self)
+        Err(parts)
     }
 
-    fn metadata(&self) -> Option<&M> {
-        match &self.on {
+    fn metadata(parts: &SharedParts<S, B, M, A, H>) -> Option<&M> {
+        match &parts.on {
             SharedStorage::Several(_) => None,
-            SharedStorage::Alone(parts) => parts.metadata(),
+            SharedStorage::Alone(parts) => Sole::metadata(parts),
         }
     }
 
-    fn borrowed_metadata(&self) -> Option<&B::Metadata>
+    fn borrowed_metadata(parts: &SharedParts<S, B, M, A, H>) -> Option<&B::Metadata>
     where
         B: BorrowMetadata,
     {
-        match &self.on {
+        match &parts.on {
             SharedStorage::Several(_) => None,
-            SharedStorage::Alone(parts) => parts.borrowed_metadata(),
+            SharedStorage::Alone(parts) => Sole::borrowed_metadata(parts),
         }
     }
 
-    fn release_as(self, pass: &mut Pass<H>)
-        requires pass { IsPassAt self.place pass.old }
-        ensures entry { LeavesAt self.place pass.old pass.new }
+    fn release_as(parts: SharedParts<S, B, M, A, H>, pass: &mut Pass<H>)
+        requires pass { IsPassAt parts.place pass.old }
+        ensures entry { LeavesAt parts.place pass.old pass.new }
     {
-        let SharedParts { on, alloc: _ } = self;
+        let SharedParts { on, alloc: _ } = parts;
         match on {
             SharedStorage::Several(writer) => writer.release_as(pass),
-            SharedStorage::Alone(parts) => parts.release_as(pass),
+            SharedStorage::Alone(parts) => Sole::release_as(parts, pass),
         }
     }
 
-    fn release_with_unique_hint_as(self, pass: &mut Pass<H>)
-        requires pass { IsPassAt self.place pass.old }
-        ensures entry { at_owner self.place (pass.new ≡ pass.old) (λ o.
+    fn release_with_unique_hint_as(parts: SharedParts<S, B, M, A, H>, pass: &mut Pass<H>)
+        requires pass { IsPassAt parts.place pass.old }
+        ensures entry { at_owner parts.place (pass.new ≡ pass.old) (λ o.
             AsksAndLeaves o pass.old pass.new) }
     {
-        let SharedParts { on, alloc: _ } = self;
+        let SharedParts { on, alloc: _ } = parts;
         match on {
             SharedStorage::Several(writer) => writer.release_with_unique_hint_as(pass),
             SharedStorage::Alone(parts) => {
                 let _ = parts.is_alone_as(pass);
-                parts.release_as(pass);
+                Sole::release_as(parts, pass);
             },
         }
     }
 
-    fn let_go(self) -> Pass<H> {
-        let SharedParts { on, alloc: _ } = self;
+    fn let_go(parts: SharedParts<S, B, M, A, H>) -> Pass<H> {
+        let SharedParts { on, alloc: _ } = parts;
         match on {
             SharedStorage::Several(writer) => writer.let_go(),
-            SharedStorage::Alone(parts) => parts.let_go(),
+            SharedStorage::Alone(parts) => Sole::let_go(parts),
         }
     }
 
-    fn end(self) {
-        drop(self)
+    fn end(parts: SharedParts<S, B, M, A, H>) {
+        drop(parts)
     }
 
-    fn learn(&self, pass: &mut Pass<H>, other: &Pass<H>) {
-        match &self.on {
+    fn learn(parts: &SharedParts<S, B, M, A, H>, pass: &mut Pass<H>, other: &Pass<H>) {
+        match &parts.on {
             SharedStorage::Several(writer) => writer.learn(pass, other),
-            SharedStorage::Alone(parts) => parts.learn(pass, other),
+            SharedStorage::Alone(parts) => Sole::learn(parts, pass, other),
         }
     }
 
-    fn pass(&self) -> Pass<H>
+    fn pass(parts: &SharedParts<S, B, M, A, H>) -> Pass<H>
     where
         H: Stepping,
     {
-        match &self.on {
+        match &parts.on {
             SharedStorage::Several(writer) => writer.pass(),
-            SharedStorage::Alone(parts) => parts.pass(),
+            SharedStorage::Alone(parts) => Sole::pass(parts),
         }
     }
 
     ghost keeps = { λ parts items. refl };
 }
 
-impl<S: Slice, B: BufferMut<S::Item> + Drop, M: Drop, A: Allocator + Copy, H: Mark> CopyWriterParts<
+impl<S: Slice, B: BufferMut<S::Item> + Drop, M: Drop, A: Allocator + Copy, H: Mark> CopyRole<
     S,
     B,
     M,
     A,
     H,
-> for SharedParts<S, B, M, A, H>
+> for Several
 where
     S::Item: Copy,
 {
     #[inline(always)]
     #[tactic(auto, using(crate::proofs::Rooms::more_extended, crate::proofs::Rooms::shared_asked))]
     fn try_extend_from_slice_as(
-        &mut self,
+        parts: &mut SharedParts<S, B, M, A, H>,
         items: &[S::Item],
         pass: &mut Pass<H>,
     ) -> Result<(), TryReserveError> {
-        self.known_place();
-        match self.try_reserve_as(items.len(), pass) {
+        Several::known_place(parts);
+        match Several::try_reserve_as(parts, items.len(), pass) {
             Ok(()) => {
-                self.known_uncounted();
-                self.extend_reserved(items);
+                parts.known_uncounted();
+                Several::extend_reserved(parts, items);
                 Ok(())
             }
             Err(e) => Err(e),
@@ -341,10 +343,10 @@ where
     }
 
     #[inline(always)]
-    fn extend_reserved(&mut self, items: &[S::Item]) {
-        match &mut self.on {
+    fn extend_reserved(parts: &mut SharedParts<S, B, M, A, H>, items: &[S::Item]) {
+        match &mut parts.on {
             SharedStorage::Several(writer) => writer.extend_reserved(items),
-            SharedStorage::Alone(parts) => parts.extend_reserved(items),
+            SharedStorage::Alone(parts) => Sole::extend_reserved(parts, items),
         }
     }
 }

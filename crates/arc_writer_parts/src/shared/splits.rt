@@ -8,7 +8,7 @@ ghost use Rattle.arc_parts.specs.Steps.{IsPassAt};
 ghost use Rattle.arc_parts.specs.Writers.{capacity_of};
 
 use super::{SharedParts, SharedStorage};
-use crate::role::WriterParts;
+use crate::role::{RoleOf, Several, Sole};
 use crate::sole::SoleParts;
 use arc_buffer::buffer::BufferMut;
 use arc_buffer::kinds::Slice;
@@ -126,8 +126,8 @@ where
         }
         let Ok((writer, mut new)) = SharedNative::try_copy(
             alloc,
-            parts.as_slice(),
-            parts.capacity(),
+            Sole::as_slice(&parts),
+            Sole::capacity(&parts),
         ) else {
             return Err(parts);
         };
@@ -235,8 +235,8 @@ where
         }
         let Ok((writer, mut new)) = SharedNative::try_copy(
             alloc,
-            parts.as_slice(),
-            parts.capacity(),
+            Sole::as_slice(&parts),
+            Sole::capacity(&parts),
         ) else {
             return Err(parts);
         };
@@ -274,9 +274,9 @@ where
             pass.old pass.new new) }
         ensures refused { OnErr result ((self.new ≡ self.old) × (pass.new ≡ pass.old)) }
     {
-        let (writer, new) = SharedNative::try_copy(self.alloc, self.as_slice(), self.capacity())?;
+        let (writer, new) = SharedNative::try_copy(self.alloc, Several::as_slice(self), Several::capacity(self))?;
         match mem::replace(&mut self.on, SharedStorage::Several(writer)) {
-            SharedStorage::Alone(parts) => parts.release_as(pass),
+            SharedStorage::Alone(parts) => Sole::release_as(parts, pass),
             SharedStorage::Several(_) => unreachable!(),
         }
         Ok(new)
@@ -291,7 +291,7 @@ where
         ensures left { at_owner parts.place ⊥ (λ o. LeavesShown H H.real o pass.old) }
     {
         let mut old = mem::replace(pass, new);
-        parts.release_as(&mut old);
+        Sole::release_as(parts, &mut old);
         old.show();
     }
 }

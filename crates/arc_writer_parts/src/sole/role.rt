@@ -11,7 +11,7 @@ ghost use Rattle.arc_parts.specs.Window.{IsBoxWhole, IsHeld, IsVecPart, window_o
 ghost use Rattle.arc_parts.specs.Writers.{as_reader, Freezes, with_items};
 
 use super::{SoleParts, SoleStorage};
-use crate::role::{CopyWriterParts, WriterParts};
+use crate::role::{CopyRole, RoleOf, Sole};
 use arc_block::layout::Layout;
 use arc_buffer::buffer::{BorrowMetadata, BufferMut};
 use arc_buffer::kinds::Slice;
@@ -21,22 +21,24 @@ use arc_owners::owners::Pass;
 use arc_parts::parts::Parts;
 use std::alloc::Allocator;
 
-impl<S: Slice, B: BufferMut<S::Item> + Drop, M: Drop, A: Allocator + Copy, H: Mark> WriterParts<
+impl<S: Slice, B: BufferMut<S::Item> + Drop, M: Drop, A: Allocator + Copy, H: Mark> RoleOf<
     S,
     B,
     M,
     A,
     H,
-> for SoleParts<S, B, M, A, H> {
+> for Sole {
+    type Parts = SoleParts<S, B, M, A, H>;
+
     ghost seen = { λ parts. parts };
 
     ghost several = { false };
 
     ghost with_list = { with_items };
 
-    fn known_place(&self) {
-        self.known_role();
-        match &self.on {
+    fn known_place(parts: &SoleParts<S, B, M, A, H>) {
+        parts.known_role();
+        match &parts.on {
             SoleStorage::Buffer(parts) => parts.known_place(),
             SoleStorage::Native(parts) => parts.known_place(),
             SoleStorage::Vector(parts) => parts.known_place(),
@@ -44,8 +46,8 @@ impl<S: Slice, B: BufferMut<S::Item> + Drop, M: Drop, A: Allocator + Copy, H: Ma
     }
 
     #[inline(always)]
-    fn len(&self) -> usize {
-        match &self.on {
+    fn len(parts: &SoleParts<S, B, M, A, H>) -> usize {
+        match &parts.on {
             SoleStorage::Buffer(parts) => parts.len(),
             SoleStorage::Native(parts) => parts.len(),
             SoleStorage::Vector(parts) => parts.len(),
@@ -53,8 +55,8 @@ impl<S: Slice, B: BufferMut<S::Item> + Drop, M: Drop, A: Allocator + Copy, H: Ma
     }
 
     #[inline(always)]
-    fn as_slice(&self) -> &[S::Item] {
-        match &self.on {
+    fn as_slice(parts: &SoleParts<S, B, M, A, H>) -> &[S::Item] {
+        match &parts.on {
             SoleStorage::Buffer(parts) => parts.as_slice(),
             SoleStorage::Native(parts) => parts.as_slice(),
             SoleStorage::Vector(parts) => parts.as_slice(),
@@ -62,8 +64,8 @@ impl<S: Slice, B: BufferMut<S::Item> + Drop, M: Drop, A: Allocator + Copy, H: Ma
     }
 
     #[inline(always)]
-    fn capacity(&self) -> usize {
-        match &self.on {
+    fn capacity(parts: &SoleParts<S, B, M, A, H>) -> usize {
+        match &parts.on {
             SoleStorage::Buffer(parts) => parts.capacity(),
             SoleStorage::Native(parts) => parts.capacity(),
             SoleStorage::Vector(parts) => parts.capacity(),
@@ -71,8 +73,8 @@ impl<S: Slice, B: BufferMut<S::Item> + Drop, M: Drop, A: Allocator + Copy, H: Ma
     }
 
     #[inline(always)]
-    fn as_mut_slice(&mut self) -> &mut [S::Item] {
-        match &mut self.on {
+    fn as_mut_slice(parts: &mut SoleParts<S, B, M, A, H>) -> &mut [S::Item] {
+        match &mut parts.on {
             SoleStorage::Buffer(parts) => parts.as_mut_slice(),
             SoleStorage::Native(parts) => parts.as_mut_slice(),
             SoleStorage::Vector(parts) => parts.as_mut_slice(),
@@ -80,8 +82,8 @@ impl<S: Slice, B: BufferMut<S::Item> + Drop, M: Drop, A: Allocator + Copy, H: Ma
     }
 
     #[inline(always)]
-    fn advance(&mut self, count: usize) {
-        match &mut self.on {
+    fn advance(parts: &mut SoleParts<S, B, M, A, H>, count: usize) {
+        match &mut parts.on {
             SoleStorage::Buffer(parts) => parts.advance(count),
             SoleStorage::Native(parts) => parts.advance(count),
             SoleStorage::Vector(parts) => parts.advance(count),
@@ -89,8 +91,8 @@ impl<S: Slice, B: BufferMut<S::Item> + Drop, M: Drop, A: Allocator + Copy, H: Ma
     }
 
     #[inline(always)]
-    fn truncate(&mut self, len: usize) {
-        match &mut self.on {
+    fn truncate(parts: &mut SoleParts<S, B, M, A, H>, len: usize) {
+        match &mut parts.on {
             SoleStorage::Buffer(parts) => parts.truncate(len),
             SoleStorage::Native(parts) => parts.truncate(len),
             SoleStorage::Vector(parts) => parts.truncate(len),
@@ -100,78 +102,78 @@ impl<S: Slice, B: BufferMut<S::Item> + Drop, M: Drop, A: Allocator + Copy, H: Ma
     #[inline(always)]
     #[tactic(auto, using(arc_sort_writers::proofs::Growth::never_asked))]
     fn try_reserve_as(
-        &mut self,
+        parts: &mut SoleParts<S, B, M, A, H>,
         additional: usize,
         pass: &mut Pass<H>,
     ) -> Result<(), TryReserveError> {
-        match &mut self.on {
+        match &mut parts.on {
             SoleStorage::Buffer(parts) => parts.try_reserve_as(additional, pass),
             SoleStorage::Native(parts) => parts.try_reserve_as(additional, pass),
             SoleStorage::Vector(parts) => parts.try_reserve_as(additional, pass),
         }
     }
 
-    fn try_reclaim_as(&mut self, additional: usize, pass: &mut Pass<H>) -> bool {
+    fn try_reclaim_as(parts: &mut SoleParts<S, B, M, A, H>, additional: usize, pass: &mut Pass<H>) -> bool {
         let _ = pass;
-        self.try_reclaim(additional)
+        parts.try_reclaim(additional)
     }
 
     #[inline(always)]
     #[tactic(auto, using(arc_sort_writers::proofs::Growth::never_asked))]
     fn try_push_as(
-        &mut self,
+        parts: &mut SoleParts<S, B, M, A, H>,
         item: S::Item,
         pass: &mut Pass<H>,
     ) -> Result<(), (TryReserveError, S::Item)> {
-        match &mut self.on {
+        match &mut parts.on {
             SoleStorage::Buffer(parts) => parts.try_push_as(item, pass),
             SoleStorage::Native(parts) => parts.try_push_as(item, pass),
             SoleStorage::Vector(parts) => parts.try_push_as(item, pass),
         }
     }
 
-    fn try_into_vec_as(self, pass: &mut Pass<H>) -> Result<Vec<S::Item, A>, Self>
-        requires pass { IsPassAt self.place pass.old }
-        ensures taken { IfOk result (λ v. IsVecPart S.DROPS self.items self.place
-            × (v.items ≡ self.items) × (vec_capacity v ≡ size_at self.place)) }
-        ensures entries { IfOk result (λ _. at_owner self.place ⊥ (λ o.
+    fn try_into_vec_as(parts: SoleParts<S, B, M, A, H>, pass: &mut Pass<H>) -> Result<Vec<S::Item, A>, SoleParts<S, B, M, A, H>>
+        requires pass { IsPassAt parts.place pass.old }
+        ensures taken { IfOk result (λ v. IsVecPart S.DROPS parts.items parts.place
+            × (v.items ≡ parts.items) × (vec_capacity v ≡ size_at parts.place)) }
+        ensures entries { IfOk result (λ _. at_owner parts.place ⊥ (λ o.
             Leaves o pass.old pass.new true)) }
-        ensures refused { IfErr result (λ back. (back ≡ self)
-            × (¬ IsVecPart S.DROPS self.items self.place) × (pass.new ≡ pass.old)) }
+        ensures refused { IfErr result (λ back. (back ≡ parts)
+            × (¬ IsVecPart S.DROPS parts.items parts.place) × (pass.new ≡ pass.old)) }
     {
-        let SoleParts { on } = self;
+        let SoleParts { on } = parts;
         match on {
-            SoleStorage::Native(parts) => Err(Self::in_native(parts.not_vector())),
+            SoleStorage::Native(parts) => Err(SoleParts::in_native(parts.not_vector())),
             SoleStorage::Vector(parts) => match parts.try_into_vec_as(pass) {
                 Ok(items) => Ok(items),
-                Err(back) => Err(Self::in_vector(back)),
+                Err(back) => Err(SoleParts::in_vector(back)),
             },
-            SoleStorage::Buffer(parts) => Err(Self::in_buffer(parts.not_memory())),
+            SoleStorage::Buffer(parts) => Err(SoleParts::in_buffer(parts.not_memory())),
         }
     }
 
-    fn try_into_box_vec_as(self, pass: &mut Pass<H>) -> Result<Vec<S::Item, A>, Self>
-        requires pass { IsPassAt self.place pass.old }
-        ensures taken { IfOk result (λ v. IsBoxWhole self.items self.place
-            × (v.items ≡ self.items) × (vec_capacity v ≡ size_at self.place)) }
-        ensures entries { IfOk result (λ _. at_owner self.place ⊥ (λ o.
+    fn try_into_box_vec_as(parts: SoleParts<S, B, M, A, H>, pass: &mut Pass<H>) -> Result<Vec<S::Item, A>, SoleParts<S, B, M, A, H>>
+        requires pass { IsPassAt parts.place pass.old }
+        ensures taken { IfOk result (λ v. IsBoxWhole parts.items parts.place
+            × (v.items ≡ parts.items) × (vec_capacity v ≡ size_at parts.place)) }
+        ensures entries { IfOk result (λ _. at_owner parts.place ⊥ (λ o.
             Leaves o pass.old pass.new true)) }
-        ensures refused { IfErr result (λ back. (back ≡ self)
-            × (¬ IsBoxWhole self.items self.place) × (pass.new ≡ pass.old)) }
+        ensures refused { IfErr result (λ back. (back ≡ parts)
+            × (¬ IsBoxWhole parts.items parts.place) × (pass.new ≡ pass.old)) }
     {
-        let SoleParts { on } = self;
+        let SoleParts { on } = parts;
         match on {
-            SoleStorage::Native(parts) => Err(Self::in_native(parts.not_vector())),
+            SoleStorage::Native(parts) => Err(SoleParts::in_native(parts.not_vector())),
             SoleStorage::Vector(parts) => match parts.try_into_box_vec_as(pass) {
                 Ok(items) => Ok(items),
-                Err(back) => Err(Self::in_vector(back)),
+                Err(back) => Err(SoleParts::in_vector(back)),
             },
-            SoleStorage::Buffer(parts) => Err(Self::in_buffer(parts.not_memory())),
+            SoleStorage::Buffer(parts) => Err(SoleParts::in_buffer(parts.not_memory())),
         }
     }
 
-    fn freeze(self) -> Parts<S, B, M, A, H> {
-        let SoleParts { on } = self;
+    fn freeze(parts: SoleParts<S, B, M, A, H>) -> Parts<S, B, M, A, H> {
+        let SoleParts { on } = parts;
         match on {
             SoleStorage::Native(parts) => parts.freeze(),
             SoleStorage::Vector(parts) => parts.freeze(),
@@ -179,70 +181,70 @@ impl<S: Slice, B: BufferMut<S::Item> + Drop, M: Drop, A: Allocator + Copy, H: Ma
         }
     }
 
-    fn try_freeze_as<L: Layout>(self, pass: &mut Pass<H>) -> Result<Parts<S, B, M, A, H>, Self>
-        requires pass { IsPassAt self.place pass.old }
-        ensures frozen { IfOk result (λ parts.
-            Freezes (layout_facts L.Layout) S.DROPS H.whole self parts pass.old pass.new) }
-        ensures stays { IfOk result (λ parts. IsOnBlock self.place
-            → (parts ≡ as_reader self) × (pass.new ≡ pass.old)) }
-        ensures made { IfOk result (λ parts. (¬ IsOnBlock self.place)
-            → Makes L.STATIC S.DROPS H.whole self.items (window_of parts)
-            × Begins (window_of parts) pass.old pass.new) }
-        ensures items { IfOk result (λ parts. parts.items ≡ self.items) }
-        ensures role { IfOk result (λ parts. parts.role ≡ reader) }
-        ensures held { IfOk result (λ parts. IsHeld (layout_facts L.Layout) parts.place) }
-        ensures refused { IfErr result (λ back. (back ≡ self)
-            × IsRefused (layout_move (layout_facts L.Layout) self.place) × (pass.new ≡ pass.old)) }
+    fn try_freeze_as<L: Layout>(parts: SoleParts<S, B, M, A, H>, pass: &mut Pass<H>) -> Result<Parts<S, B, M, A, H>, SoleParts<S, B, M, A, H>>
+        requires pass { IsPassAt parts.place pass.old }
+        ensures frozen { IfOk result (λ frozen.
+            Freezes (layout_facts L.Layout) S.DROPS H.whole parts frozen pass.old pass.new) }
+        ensures stays { IfOk result (λ frozen. IsOnBlock parts.place
+            → (frozen ≡ as_reader parts) × (pass.new ≡ pass.old)) }
+        ensures made { IfOk result (λ frozen. (¬ IsOnBlock parts.place)
+            → Makes L.STATIC S.DROPS H.whole parts.items (window_of frozen)
+            × Begins (window_of frozen) pass.old pass.new) }
+        ensures items { IfOk result (λ frozen. frozen.items ≡ parts.items) }
+        ensures role { IfOk result (λ frozen. frozen.role ≡ reader) }
+        ensures held { IfOk result (λ frozen. IsHeld (layout_facts L.Layout) frozen.place) }
+        ensures refused { IfErr result (λ back. (back ≡ parts)
+            × IsRefused (layout_move (layout_facts L.Layout) parts.place) × (pass.new ≡ pass.old)) }
     {
-        let SoleParts { on } = self;
+        let SoleParts { on } = parts;
         match on {
             SoleStorage::Native(parts) => match parts.try_freeze_as::<L, B>(pass) {
                 Ok(parts) => Ok(parts),
-                Err(back) => Err(Self::in_native(back)),
+                Err(back) => Err(SoleParts::in_native(back)),
             },
             SoleStorage::Vector(parts) => match parts.try_freeze_as::<L>(pass) {
                 Ok(parts) => Ok(parts),
-                Err(back) => Err(Self::in_vector(back)),
+                Err(back) => Err(SoleParts::in_vector(back)),
             },
             SoleStorage::Buffer(parts) => match parts.try_freeze_as::<L>(pass) {
                 Ok(parts) => Ok(parts),
-                Err(back) => Err(Self::in_buffer(back)),
+                Err(back) => Err(SoleParts::in_buffer(back)),
             },
         }
     }
 
-    fn try_with_layout<L: Layout>(self) -> Result<Self, Self> {
-        if self.is_held::<L>() {
-            return Ok(self);
+    fn try_with_layout<L: Layout>(parts: SoleParts<S, B, M, A, H>) -> Result<SoleParts<S, B, M, A, H>, SoleParts<S, B, M, A, H>> {
+        if parts.is_held::<L>() {
+            return Ok(parts);
         }
-        Err(self)
+        Err(parts)
     }
 
-    fn metadata(&self) -> Option<&M> {
-        match &self.on {
+    fn metadata(parts: &SoleParts<S, B, M, A, H>) -> Option<&M> {
+        match &parts.on {
             SoleStorage::Native(parts) => parts.metadata(),
             SoleStorage::Vector(parts) => parts.metadata(),
             SoleStorage::Buffer(parts) => parts.metadata(),
         }
     }
 
-    fn borrowed_metadata(&self) -> Option<&B::Metadata>
+    fn borrowed_metadata(parts: &SoleParts<S, B, M, A, H>) -> Option<&B::Metadata>
     where
         B: BorrowMetadata,
     {
-        match &self.on {
+        match &parts.on {
             SoleStorage::Native(parts) => parts.borrowed_metadata::<B>(),
             SoleStorage::Vector(parts) => parts.borrowed_metadata(),
             SoleStorage::Buffer(parts) => Some(parts.borrowed_metadata()),
         }
     }
 
-    fn release_as(self, pass: &mut Pass<H>)
-        requires pass { IsPassAt self.place pass.old }
-        ensures entry { at_owner self.place (pass.new ≡ pass.old) (λ o.
+    fn release_as(parts: SoleParts<S, B, M, A, H>, pass: &mut Pass<H>)
+        requires pass { IsPassAt parts.place pass.old }
+        ensures entry { at_owner parts.place (pass.new ≡ pass.old) (λ o.
             Leaves o pass.old pass.new true) }
     {
-        let SoleParts { on } = self;
+        let SoleParts { on } = parts;
         match on {
             SoleStorage::Native(parts) => parts.release_as(pass),
             SoleStorage::Vector(parts) => parts.release_as(pass),
@@ -250,16 +252,16 @@ impl<S: Slice, B: BufferMut<S::Item> + Drop, M: Drop, A: Allocator + Copy, H: Ma
         }
     }
 
-    fn release_with_unique_hint_as(self, pass: &mut Pass<H>)
-        requires pass { IsPassAt self.place pass.old }
-        ensures entry { at_owner self.place (pass.new ≡ pass.old) (λ o.
+    fn release_with_unique_hint_as(parts: SoleParts<S, B, M, A, H>, pass: &mut Pass<H>)
+        requires pass { IsPassAt parts.place pass.old }
+        ensures entry { at_owner parts.place (pass.new ≡ pass.old) (λ o.
             Leaves o pass.old pass.new true) }
     {
-        self.release_as(pass);
+        parts.release_as(pass);
     }
 
-    fn let_go(self) -> Pass<H> {
-        let SoleParts { on } = self;
+    fn let_go(parts: SoleParts<S, B, M, A, H>) -> Pass<H> {
+        let SoleParts { on } = parts;
         match on {
             SoleStorage::Native(parts) => parts.let_go(),
             SoleStorage::Vector(parts) => parts.let_go(),
@@ -267,23 +269,23 @@ impl<S: Slice, B: BufferMut<S::Item> + Drop, M: Drop, A: Allocator + Copy, H: Ma
         }
     }
 
-    fn end(self) {
-        drop(self)
+    fn end(parts: SoleParts<S, B, M, A, H>) {
+        drop(parts)
     }
 
-    fn learn(&self, pass: &mut Pass<H>, other: &Pass<H>) {
-        match &self.on {
+    fn learn(parts: &SoleParts<S, B, M, A, H>, pass: &mut Pass<H>, other: &Pass<H>) {
+        match &parts.on {
             SoleStorage::Native(parts) => parts.learn(pass, other),
             SoleStorage::Vector(parts) => parts.learn(pass, other),
             SoleStorage::Buffer(parts) => parts.learn(pass, other),
         }
     }
 
-    fn pass(&self) -> Pass<H>
+    fn pass(parts: &SoleParts<S, B, M, A, H>) -> Pass<H>
     where
         H: Stepping,
     {
-        match &self.on {
+        match &parts.on {
             SoleStorage::Native(parts) => parts.pass(),
             SoleStorage::Vector(parts) => parts.pass(),
             SoleStorage::Buffer(parts) => parts.pass(),
@@ -293,24 +295,24 @@ impl<S: Slice, B: BufferMut<S::Item> + Drop, M: Drop, A: Allocator + Copy, H: Ma
     ghost keeps = { λ parts items. refl };
 }
 
-impl<S: Slice, B: BufferMut<S::Item> + Drop, M: Drop, A: Allocator + Copy, H: Mark> CopyWriterParts<
+impl<S: Slice, B: BufferMut<S::Item> + Drop, M: Drop, A: Allocator + Copy, H: Mark> CopyRole<
     S,
     B,
     M,
     A,
     H,
-> for SoleParts<S, B, M, A, H>
+> for Sole
 where
     S::Item: Copy,
 {
     #[inline(always)]
     #[tactic(auto, using(arc_sort_writers::proofs::Growth::never_asked))]
     fn try_extend_from_slice_as(
-        &mut self,
+        parts: &mut SoleParts<S, B, M, A, H>,
         items: &[S::Item],
         pass: &mut Pass<H>,
     ) -> Result<(), TryReserveError> {
-        match &mut self.on {
+        match &mut parts.on {
             SoleStorage::Buffer(parts) => parts.try_extend_from_slice_as(items, pass),
             SoleStorage::Native(parts) => parts.try_extend_from_slice_as(items, pass),
             SoleStorage::Vector(parts) => parts.try_extend_from_slice_as(items, pass),
@@ -318,8 +320,8 @@ where
     }
 
     #[inline(always)]
-    fn extend_reserved(&mut self, items: &[S::Item]) {
-        match &mut self.on {
+    fn extend_reserved(parts: &mut SoleParts<S, B, M, A, H>, items: &[S::Item]) {
+        match &mut parts.on {
             SoleStorage::Buffer(parts) => parts.extend_reserved(items),
             SoleStorage::Native(parts) => parts.extend_reserved(items),
             SoleStorage::Vector(parts) => parts.extend_reserved(items),

@@ -15,7 +15,7 @@ loop-item-preserved g c =
     let next = c.in-Some.ensures.goes.on said.1 in (
       next.0,
       next.1,
-      pushed_more (PushesOne g.row.H.Denot g.H.Mark.real g.R.Parts.WriterParts.several
+      pushed_more (PushesOne g.row.H.Denot g.H.Mark.real g.R.RoleOf.several
           g.S.Slice.DROPS g.H.Mark.whole (type_size g.row.S-Item) g.B.Buffer.list
           g.B.Buffer.places g.B.BufferMut.grows g.B.BufferMut.refuses)
           at.yielded item c.args.self.now at.self c.try_push.new.self
@@ -32,7 +32,7 @@ returns-in-Err-clause-items g c =
       _,
       at.yielded,
       c.into_iter-item-iterator.ensures.into_iter_gives,
-      refused_items g.S.Slice.is_legal g.R.Parts.WriterParts.several g.S.Slice.DROPS
+      refused_items g.S.Slice.is_legal g.R.RoleOf.several g.S.Slice.DROPS
           g.H.Mark.whole (type_size g.row.S-Item) 1 at.self c.try_push.new.self _ _ _ refusal
           ∙ at.invariant.3,
       (_, at.yielded_by),

@@ -10,7 +10,7 @@ use Rattle.arc_write.proofs.slice_mut.WriteWindow.try_extend_from_slice_as.Goals
 
 pub invariant_of-self : goal.invariant_of-self
 invariant_of-self g c =
-    let of = g.R.Parts.WriterParts in let call = c.try_extend_from_slice_as in
+    let of = g.R.RoleOf in let call = c.try_extend_from_slice_as in
     let old = of.seen c.self.inside.parts in let new = of.seen call.new.self in (
       extend_held (layout_facts g.L.Layout) of.several g.S.Slice.DROPS g.H.Mark.whole
           (type_size g.row.S-Item) (length c.args.items.now) c.args.items.now old new
@@ -21,7 +21,7 @@ invariant_of-self g c =
 
 pub returns-clause-within : goal.returns-clause-within
 returns-clause-within g c =
-    let of = g.R.Parts.WriterParts in let call = c.try_extend_from_slice_as in
+    let of = g.R.RoleOf in let call = c.try_extend_from_slice_as in
     subst (λ (w : PartsView g.row.S-Item.Denot g.row.M.Denot). StaysWithin of.several
     (length c.args.items.now) w (of.seen call.new.self) (is_ok call.result)) c.self.view_is
     (extend_within of.several g.S.Slice.DROPS g.H.Mark.whole (type_size g.row.S-Item)

@@ -6,7 +6,7 @@ use Rattle.arc_write.proofs.slice_mut.WriteWindow.try_freeze_as.Goals as goal
 
 pub returns-in-Ok-clause-made : goal.returns-in-Ok-clause-made
 returns-in-Ok-clause-made g c =
-    let parts = g.R.Parts.WriterParts.seen c.into_parts.result in
+    let parts = g.R.RoleOf.seen c.into_parts.result in
     subst (λ s. ¬ IsOnBlock s.place → Makes g.K.Layout.STATIC g.S.Slice.DROPS g.H.Mark.whole s.items
     c.from_parts.result
     × Begins c.from_parts.result c.args.pass.now c.try_freeze_as.new.pass)

@@ -11,7 +11,7 @@ use Rattle.arc_write.proofs.slice_mut.WriteWindow.try_push_as.Goals as goal
 
 pub invariant_of-self : goal.invariant_of-self
 invariant_of-self g c =
-    let of = g.R.Parts.WriterParts in let call = c.try_push_as in
+    let of = g.R.RoleOf in let call = c.try_push_as in
     let old = of.seen c.self.inside.parts in let new = of.seen call.new.self in (
       push_held (layout_facts g.L.Layout) of.several g.S.Slice.DROPS g.H.Mark.whole
           (type_size g.row.S-Item) 1 c.args.item old new c.args.pass.now call.new.pass
@@ -24,7 +24,7 @@ invariant_of-self g c =
 
 pub returns-clause-within : goal.returns-clause-within
 returns-clause-within g c =
-    let of = g.R.Parts.WriterParts in let call = c.try_push_as in
+    let of = g.R.RoleOf in let call = c.try_push_as in
     subst (λ (w : PartsView g.row.S-Item.Denot g.row.M.Denot). StaysWithin of.several 1 w
     (of.seen call.new.self) (is_ok call.result)) c.self.view_is
     (push_within of.several g.S.Slice.DROPS g.H.Mark.whole (type_size g.row.S-Item) 1

@@ -6,7 +6,7 @@ use Rattle.arc_write.proofs.slice_mut.WriteWindow.try_reclaim_as.Goals as goal
 
 pub invariant_of-self : goal.invariant_of-self
 invariant_of-self g c =
-    let of = g.R.Parts.WriterParts in let call = c.try_reclaim_as in (
+    let of = g.R.RoleOf in let call = c.try_reclaim_as in (
       reclaimed_held (layout_facts g.L.Layout) of.several g.S.Slice.DROPS
           (type_size g.row.S-Item) c.args.additional (of.seen c.self.inside.parts)
           (of.seen call.new.self) c.args.pass.now call.new.pass call.result call.ensures.room

@@ -10,7 +10,7 @@ use Rattle.arc_write.proofs.slice_mut.WriteWindow.try_reserve_as.Goals as goal
 
 pub invariant_of-self : goal.invariant_of-self
 invariant_of-self g c =
-    let of = g.R.Parts.WriterParts in let call = c.try_reserve_as in (
+    let of = g.R.RoleOf in let call = c.try_reserve_as in (
       room_held (layout_facts g.L.Layout) of.several g.S.Slice.DROPS g.H.Mark.whole
           (type_size g.row.S-Item) c.args.additional (of.seen c.self.inside.parts)
           (of.seen call.new.self) c.args.pass.now call.new.pass call.result call.ensures.room
@@ -20,7 +20,7 @@ invariant_of-self g c =
 
 pub returns-clause-within : goal.returns-clause-within
 returns-clause-within g c =
-    let of = g.R.Parts.WriterParts in let call = c.try_reserve_as in
+    let of = g.R.RoleOf in let call = c.try_reserve_as in
     subst (λ (w : PartsView g.row.S-Item.Denot g.row.M.Denot). StaysWithin of.several
     c.args.additional w (of.seen call.new.self) (is_ok call.result)) c.self.view_is
     (room_within of.several g.S.Slice.DROPS g.H.Mark.whole (type_size g.row.S-Item)

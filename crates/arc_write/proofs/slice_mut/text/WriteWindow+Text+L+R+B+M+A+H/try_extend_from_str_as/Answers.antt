@@ -12,7 +12,7 @@ use Rattle.arc_write.proofs.slice_mut.text.WriteWindow+Text+L+R+B+M+A+H.try_exte
 
 pub invariant_of-self : goal.invariant_of-self
 invariant_of-self g c =
-    let of = g.R.Parts.WriterParts in let call = c.try_extend_from_slice_as in
+    let of = g.R.RoleOf in let call = c.try_extend_from_slice_as in
     let bytes = c.as_bytes.result.now in
     let old = of.seen c.self.inside.parts in let new = of.seen call.new.self in (
       extend_held (layout_facts g.L.Layout) of.several false g.H.Mark.whole 1 (length bytes)
@@ -26,7 +26,7 @@ invariant_of-self g c =
 
 pub returns-clause-within : goal.returns-clause-within
 returns-clause-within g c =
-    let of = g.R.Parts.WriterParts in let call = c.try_extend_from_slice_as in
+    let of = g.R.RoleOf in let call = c.try_extend_from_slice_as in
     let bytes = c.as_bytes.result.now in let new = of.seen call.new.self in
     subst (λ (text : List ℕ). StaysWithin of.several (length text) c.args.self.now new
     (is_ok call.result)) c.as_bytes.ensures.value
