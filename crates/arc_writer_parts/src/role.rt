@@ -62,8 +62,8 @@ pub trait RoleOf<
     A: Allocator + Copy,
     H: Mark,
 > {
-    /// They: a row of the table of lists with its owner, who writes it. The items, where they stand,
-    /// and how many places they have: no other owner reaches these.
+    /// They: a row of the table of lists with its owner, who writes it. That is the items, where
+    /// they stand, and how many places they have. No other owner reaches these.
     type Parts;
 
     /// The row.
@@ -203,7 +203,10 @@ pub trait RoleOf<
     ///
     /// Taken, of a sole writer Down without a step, and of one of several Alone and Down. Refused,
     /// of one of several Alone with no, where only the count could decide, and else nothing.
-    fn try_into_vec_as(parts: Self::Parts, pass: &mut Pass<H>) -> Result<Vec<S::Item, A>, Self::Parts>
+    fn try_into_vec_as(
+        parts: Self::Parts,
+        pass: &mut Pass<H>,
+    ) -> Result<Vec<S::Item, A>, Self::Parts>
         requires pass { IsPassAt (seen parts).place pass.old }
         ensures taken { IfOk result (λ v. IsVecPart S.DROPS (seen parts).items (seen parts).place
             × (v.items ≡ (seen parts).items) × (vec_capacity v ≡ size_at (seen parts).place)) }
@@ -224,7 +227,10 @@ pub trait RoleOf<
     /// # History
     ///
     /// As `try_into_vec_as`.
-    fn try_into_box_vec_as(parts: Self::Parts, pass: &mut Pass<H>) -> Result<Vec<S::Item, A>, Self::Parts>
+    fn try_into_box_vec_as(
+        parts: Self::Parts,
+        pass: &mut Pass<H>,
+    ) -> Result<Vec<S::Item, A>, Self::Parts>
         requires pass { IsPassAt (seen parts).place pass.old }
         ensures taken { IfOk result (λ v. IsBoxWhole (seen parts).items (seen parts).place
             × (v.items ≡ (seen parts).items) × (vec_capacity v ≡ size_at (seen parts).place)) }
@@ -251,7 +257,10 @@ pub trait RoleOf<
     /// # Allocates
     ///
     /// On nothing, where the layout has no static data.
-    fn try_freeze_as<L: Layout>(parts: Self::Parts, pass: &mut Pass<H>) -> Result<Parts<S, B, M, A, H>, Self::Parts>
+    fn try_freeze_as<L: Layout>(
+        parts: Self::Parts,
+        pass: &mut Pass<H>,
+    ) -> Result<Parts<S, B, M, A, H>, Self::Parts>
         requires pass { IsPassAt (seen parts).place pass.old }
         ensures frozen { IfOk result (λ frozen. Freezes (layout_facts L.Layout) S.DROPS H.whole
             (seen parts) frozen pass.old pass.new) }

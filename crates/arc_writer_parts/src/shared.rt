@@ -8,6 +8,7 @@ ghost use Rattle.arc_parts.specs.Steps.{EndsShownAt};
 ghost use Rattle.arc_block.specs.Table.{one_writer_of_several};
 ghost use Rattle.arc_parts.specs.Window.{IsBlockHeld};
 ghost use Rattle.arc_parts.specs.Writers.{with_full};
+ghost use Rattle.arc_writer_parts.specs.PartsOn.{IsSharedOn, shared_on};
 
 use crate::sole::SoleParts;
 use arc_block::layout::Layout;
@@ -91,6 +92,18 @@ impl<S: Slice, B: BufferMut<S::Item> + Drop, M: Drop, A: Allocator + Copy, H: Ma
             on: SharedStorage::Alone(SoleParts::on_nothing(alloc)),
             alloc,
         }
+    }
+
+    /// What they are, to be taken apart.
+    #[inline(always)]
+    pub(crate) fn into_storage(
+        self,
+    ) -> (SharedStorage<SharedNative<S::Item, A, H>, SoleParts<S, B, M, A, H>>, A)
+        ensures seen { shared_on result.0 ≡ self }
+        ensures alone { IsSharedOn result.0 }
+    {
+        let SharedParts { on, alloc } = self;
+        (on, alloc)
     }
 
     /// Takes these in the place of parts on nothing, which are forgotten: dropped, they would be

@@ -10,6 +10,7 @@ ghost use Rattle.std.specs.Prelude.{IsTrue};
 ghost use Rattle.std.specs.Prelude.{◌↔◌};
 ghost use Rattle.arc_parts.specs.Window.{IsOfBuffer};
 ghost use Rattle.arc_parts.specs.Shared.{is_vector_at};
+ghost use Rattle.arc_writer_parts.specs.PartsOn.{sole_on};
 
 use arc_buffer::buffer::BufferMut;
 use arc_buffer::kinds::{Slice, Zeroable};
@@ -107,6 +108,17 @@ impl<S: Slice, B: BufferMut<S::Item> + Drop, M: Drop, A: Allocator + Copy, H: Ma
         SoleParts {
             on: SoleStorage::Buffer(parts),
         }
+    }
+
+    /// What they are, to be taken apart.
+    #[inline(always)]
+    pub(crate) fn into_storage(
+        self,
+    ) -> SoleStorage<SoleNative<S, M, A, H>, SoleVector<S, B, M, A, H>, SoleBuffer<S, B, M, A, H>>
+        ensures { sole_on result ≡ self }
+    {
+        let SoleParts { on } = self;
+        on
     }
 
     /// No items and no places, on nothing.

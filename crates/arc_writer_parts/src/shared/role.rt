@@ -111,7 +111,11 @@ impl<S: Slice, B: BufferMut<S::Item> + Drop, M: Drop, A: Allocator + Copy, H: Ma
     }
 
     #[tactic(auto, using(crate::proofs::Rooms::spare_reclaimed))]
-    fn try_reclaim_as(parts: &mut SharedParts<S, B, M, A, H>, additional: usize, pass: &mut Pass<H>) -> bool {
+    fn try_reclaim_as(
+        parts: &mut SharedParts<S, B, M, A, H>,
+        additional: usize,
+        pass: &mut Pass<H>,
+    ) -> bool {
         if additional <= parts.spare() {
             return true;
         }
@@ -140,7 +144,10 @@ impl<S: Slice, B: BufferMut<S::Item> + Drop, M: Drop, A: Allocator + Copy, H: Ma
     }
 
     #[tactic(auto, using(crate::proofs::Takes::asked_taken, crate::proofs::Takes::asked_refused))]
-    fn try_into_vec_as(parts: SharedParts<S, B, M, A, H>, pass: &mut Pass<H>) -> Result<Vec<S::Item, A>, SharedParts<S, B, M, A, H>>
+    fn try_into_vec_as(
+        parts: SharedParts<S, B, M, A, H>,
+        pass: &mut Pass<H>,
+    ) -> Result<Vec<S::Item, A>, SharedParts<S, B, M, A, H>>
         requires pass { IsPassAt parts.place pass.old }
         ensures taken { IfOk result (λ v. IsVecPart S.DROPS parts.items parts.place
             × (v.items ≡ parts.items) × (vec_capacity v ≡ size_at parts.place)) }
@@ -150,7 +157,7 @@ impl<S: Slice, B: BufferMut<S::Item> + Drop, M: Drop, A: Allocator + Copy, H: Ma
     {
         parts.known_kind();
         Several::known_place(&parts);
-        let SharedParts { on, alloc } = parts;
+        let (on, alloc) = parts.into_storage();
         match on {
             SharedStorage::Several(writer) => Err(SharedParts::several(alloc, writer)),
             SharedStorage::Alone(parts) => {
@@ -169,7 +176,10 @@ impl<S: Slice, B: BufferMut<S::Item> + Drop, M: Drop, A: Allocator + Copy, H: Ma
     }
 
     #[tactic(auto, using(crate::proofs::Takes::asked_taken, crate::proofs::Takes::asked_refused))]
-    fn try_into_box_vec_as(parts: SharedParts<S, B, M, A, H>, pass: &mut Pass<H>) -> Result<Vec<S::Item, A>, SharedParts<S, B, M, A, H>>
+    fn try_into_box_vec_as(
+        parts: SharedParts<S, B, M, A, H>,
+        pass: &mut Pass<H>,
+    ) -> Result<Vec<S::Item, A>, SharedParts<S, B, M, A, H>>
         requires pass { IsPassAt parts.place pass.old }
         ensures taken { IfOk result (λ v. IsBoxWhole parts.items parts.place
             × (v.items ≡ parts.items) × (vec_capacity v ≡ size_at parts.place)) }
@@ -179,7 +189,7 @@ impl<S: Slice, B: BufferMut<S::Item> + Drop, M: Drop, A: Allocator + Copy, H: Ma
     {
         parts.known_kind();
         Several::known_place(&parts);
-        let SharedParts { on, alloc } = parts;
+        let (on, alloc) = parts.into_storage();
         match on {
             SharedStorage::Several(writer) => Err(SharedParts::several(alloc, writer)),
             SharedStorage::Alone(parts) => {
@@ -199,14 +209,17 @@ impl<S: Slice, B: BufferMut<S::Item> + Drop, M: Drop, A: Allocator + Copy, H: Ma
 
     fn freeze(parts: SharedParts<S, B, M, A, H>) -> Parts<S, B, M, A, H> {
         parts.known_kind();
-        let SharedParts { on, alloc } = parts;
+        let (on, alloc) = parts.into_storage();
         match on {
             SharedStorage::Several(writer) => SharedParts::freeze_several(alloc, writer),
             SharedStorage::Alone(parts) => Sole::freeze(parts),
         }
     }
 
-    fn try_freeze_as<L: Layout>(parts: SharedParts<S, B, M, A, H>, pass: &mut Pass<H>) -> Result<Parts<S, B, M, A, H>, SharedParts<S, B, M, A, H>>
+    fn try_freeze_as<L: Layout>(
+        parts: SharedParts<S, B, M, A, H>,
+        pass: &mut Pass<H>,
+    ) -> Result<Parts<S, B, M, A, H>, SharedParts<S, B, M, A, H>>
         requires pass { IsPassAt parts.place pass.old }
         ensures frozen { IfOk result (λ frozen.
             Freezes (layout_facts L.Layout) S.DROPS H.whole parts frozen pass.old pass.new) }
@@ -222,7 +235,7 @@ impl<S: Slice, B: BufferMut<S::Item> + Drop, M: Drop, A: Allocator + Copy, H: Ma
             × IsRefused (layout_move (layout_facts L.Layout) parts.place) × (pass.new ≡ pass.old)) }
     {
         parts.known_kind();
-        let SharedParts { on, alloc } = parts;
+        let (on, alloc) = parts.into_storage();
         match on {
             SharedStorage::Several(writer) => Ok(SharedParts::freeze_several(alloc, writer)),
             SharedStorage::Alone(parts) => match Sole::try_freeze_as::<L>(parts, pass) {
@@ -232,7 +245,9 @@ impl<S: Slice, B: BufferMut<S::Item> + Drop, M: Drop, A: Allocator + Copy, H: Ma
         }
     }
 
-    fn try_with_layout<L: Layout>(parts: SharedParts<S, B, M, A, H>) -> Result<SharedParts<S, B, M, A, H>, SharedParts<S, B, M, A, H>> {
+    fn try_with_layout<L: Layout>(
+        parts: SharedParts<S, B, M, A, H>,
+    ) -> Result<SharedParts<S, B, M, A, H>, SharedParts<S, B, M, A, H>> {
         if parts.is_held::<L>() {
             return Ok(parts);
         }
@@ -260,7 +275,7 @@ impl<S: Slice, B: BufferMut<S::Item> + Drop, M: Drop, A: Allocator + Copy, H: Ma
         requires pass { IsPassAt parts.place pass.old }
         ensures entry { LeavesAt parts.place pass.old pass.new }
     {
-        let SharedParts { on, alloc: _ } = parts;
+        let (on, _) = parts.into_storage();
         match on {
             SharedStorage::Several(writer) => writer.release_as(pass),
             SharedStorage::Alone(parts) => Sole::release_as(parts, pass),
@@ -272,7 +287,7 @@ impl<S: Slice, B: BufferMut<S::Item> + Drop, M: Drop, A: Allocator + Copy, H: Ma
         ensures entry { at_owner parts.place (pass.new ≡ pass.old) (λ o.
             AsksAndLeaves o pass.old pass.new) }
     {
-        let SharedParts { on, alloc: _ } = parts;
+        let (on, _) = parts.into_storage();
         match on {
             SharedStorage::Several(writer) => writer.release_with_unique_hint_as(pass),
             SharedStorage::Alone(parts) => {
@@ -283,7 +298,7 @@ impl<S: Slice, B: BufferMut<S::Item> + Drop, M: Drop, A: Allocator + Copy, H: Ma
     }
 
     fn let_go(parts: SharedParts<S, B, M, A, H>) -> Pass<H> {
-        let SharedParts { on, alloc: _ } = parts;
+        let (on, _) = parts.into_storage();
         match on {
             SharedStorage::Several(writer) => writer.let_go(),
             SharedStorage::Alone(parts) => Sole::let_go(parts),

@@ -274,7 +274,11 @@ where
             pass.old pass.new new) }
         ensures refused { OnErr result ((self.new ≡ self.old) × (pass.new ≡ pass.old)) }
     {
-        let (writer, new) = SharedNative::try_copy(self.alloc, Several::as_slice(self), Several::capacity(self))?;
+        let (writer, new) = SharedNative::try_copy(
+            self.alloc,
+            Several::as_slice(self),
+            Several::capacity(self),
+        )?;
         match mem::replace(&mut self.on, SharedStorage::Several(writer)) {
             SharedStorage::Alone(parts) => Sole::release_as(parts, pass),
             SharedStorage::Several(_) => unreachable!(),

@@ -113,7 +113,11 @@ impl<S: Slice, B: BufferMut<S::Item> + Drop, M: Drop, A: Allocator + Copy, H: Ma
         }
     }
 
-    fn try_reclaim_as(parts: &mut SoleParts<S, B, M, A, H>, additional: usize, pass: &mut Pass<H>) -> bool {
+    fn try_reclaim_as(
+        parts: &mut SoleParts<S, B, M, A, H>,
+        additional: usize,
+        pass: &mut Pass<H>,
+    ) -> bool {
         let _ = pass;
         parts.try_reclaim(additional)
     }
@@ -132,7 +136,10 @@ impl<S: Slice, B: BufferMut<S::Item> + Drop, M: Drop, A: Allocator + Copy, H: Ma
         }
     }
 
-    fn try_into_vec_as(parts: SoleParts<S, B, M, A, H>, pass: &mut Pass<H>) -> Result<Vec<S::Item, A>, SoleParts<S, B, M, A, H>>
+    fn try_into_vec_as(
+        parts: SoleParts<S, B, M, A, H>,
+        pass: &mut Pass<H>,
+    ) -> Result<Vec<S::Item, A>, SoleParts<S, B, M, A, H>>
         requires pass { IsPassAt parts.place pass.old }
         ensures taken { IfOk result (λ v. IsVecPart S.DROPS parts.items parts.place
             × (v.items ≡ parts.items) × (vec_capacity v ≡ size_at parts.place)) }
@@ -141,8 +148,7 @@ impl<S: Slice, B: BufferMut<S::Item> + Drop, M: Drop, A: Allocator + Copy, H: Ma
         ensures refused { IfErr result (λ back. (back ≡ parts)
             × (¬ IsVecPart S.DROPS parts.items parts.place) × (pass.new ≡ pass.old)) }
     {
-        let SoleParts { on } = parts;
-        match on {
+        match parts.into_storage() {
             SoleStorage::Native(parts) => Err(SoleParts::in_native(parts.not_vector())),
             SoleStorage::Vector(parts) => match parts.try_into_vec_as(pass) {
                 Ok(items) => Ok(items),
@@ -152,7 +158,10 @@ impl<S: Slice, B: BufferMut<S::Item> + Drop, M: Drop, A: Allocator + Copy, H: Ma
         }
     }
 
-    fn try_into_box_vec_as(parts: SoleParts<S, B, M, A, H>, pass: &mut Pass<H>) -> Result<Vec<S::Item, A>, SoleParts<S, B, M, A, H>>
+    fn try_into_box_vec_as(
+        parts: SoleParts<S, B, M, A, H>,
+        pass: &mut Pass<H>,
+    ) -> Result<Vec<S::Item, A>, SoleParts<S, B, M, A, H>>
         requires pass { IsPassAt parts.place pass.old }
         ensures taken { IfOk result (λ v. IsBoxWhole parts.items parts.place
             × (v.items ≡ parts.items) × (vec_capacity v ≡ size_at parts.place)) }
@@ -161,8 +170,7 @@ impl<S: Slice, B: BufferMut<S::Item> + Drop, M: Drop, A: Allocator + Copy, H: Ma
         ensures refused { IfErr result (λ back. (back ≡ parts)
             × (¬ IsBoxWhole parts.items parts.place) × (pass.new ≡ pass.old)) }
     {
-        let SoleParts { on } = parts;
-        match on {
+        match parts.into_storage() {
             SoleStorage::Native(parts) => Err(SoleParts::in_native(parts.not_vector())),
             SoleStorage::Vector(parts) => match parts.try_into_box_vec_as(pass) {
                 Ok(items) => Ok(items),
@@ -173,15 +181,17 @@ impl<S: Slice, B: BufferMut<S::Item> + Drop, M: Drop, A: Allocator + Copy, H: Ma
     }
 
     fn freeze(parts: SoleParts<S, B, M, A, H>) -> Parts<S, B, M, A, H> {
-        let SoleParts { on } = parts;
-        match on {
+        match parts.into_storage() {
             SoleStorage::Native(parts) => parts.freeze(),
             SoleStorage::Vector(parts) => parts.freeze(),
             SoleStorage::Buffer(parts) => parts.freeze(),
         }
     }
 
-    fn try_freeze_as<L: Layout>(parts: SoleParts<S, B, M, A, H>, pass: &mut Pass<H>) -> Result<Parts<S, B, M, A, H>, SoleParts<S, B, M, A, H>>
+    fn try_freeze_as<L: Layout>(
+        parts: SoleParts<S, B, M, A, H>,
+        pass: &mut Pass<H>,
+    ) -> Result<Parts<S, B, M, A, H>, SoleParts<S, B, M, A, H>>
         requires pass { IsPassAt parts.place pass.old }
         ensures frozen { IfOk result (λ frozen.
             Freezes (layout_facts L.Layout) S.DROPS H.whole parts frozen pass.old pass.new) }
@@ -196,8 +206,7 @@ impl<S: Slice, B: BufferMut<S::Item> + Drop, M: Drop, A: Allocator + Copy, H: Ma
         ensures refused { IfErr result (λ back. (back ≡ parts)
             × IsRefused (layout_move (layout_facts L.Layout) parts.place) × (pass.new ≡ pass.old)) }
     {
-        let SoleParts { on } = parts;
-        match on {
+        match parts.into_storage() {
             SoleStorage::Native(parts) => match parts.try_freeze_as::<L, B>(pass) {
                 Ok(parts) => Ok(parts),
                 Err(back) => Err(SoleParts::in_native(back)),
@@ -213,7 +222,9 @@ impl<S: Slice, B: BufferMut<S::Item> + Drop, M: Drop, A: Allocator + Copy, H: Ma
         }
     }
 
-    fn try_with_layout<L: Layout>(parts: SoleParts<S, B, M, A, H>) -> Result<SoleParts<S, B, M, A, H>, SoleParts<S, B, M, A, H>> {
+    fn try_with_layout<L: Layout>(
+        parts: SoleParts<S, B, M, A, H>,
+    ) -> Result<SoleParts<S, B, M, A, H>, SoleParts<S, B, M, A, H>> {
         if parts.is_held::<L>() {
             return Ok(parts);
         }
@@ -244,8 +255,7 @@ impl<S: Slice, B: BufferMut<S::Item> + Drop, M: Drop, A: Allocator + Copy, H: Ma
         ensures entry { at_owner parts.place (pass.new ≡ pass.old) (λ o.
             Leaves o pass.old pass.new true) }
     {
-        let SoleParts { on } = parts;
-        match on {
+        match parts.into_storage() {
             SoleStorage::Native(parts) => parts.release_as(pass),
             SoleStorage::Vector(parts) => parts.release_as(pass),
             SoleStorage::Buffer(parts) => parts.release_as(pass),
@@ -257,12 +267,11 @@ impl<S: Slice, B: BufferMut<S::Item> + Drop, M: Drop, A: Allocator + Copy, H: Ma
         ensures entry { at_owner parts.place (pass.new ≡ pass.old) (λ o.
             Leaves o pass.old pass.new true) }
     {
-        parts.release_as(pass);
+        Sole::release_as(parts, pass);
     }
 
     fn let_go(parts: SoleParts<S, B, M, A, H>) -> Pass<H> {
-        let SoleParts { on } = parts;
-        match on {
+        match parts.into_storage() {
             SoleStorage::Native(parts) => parts.let_go(),
             SoleStorage::Vector(parts) => parts.let_go(),
             SoleStorage::Buffer(parts) => parts.let_go(),

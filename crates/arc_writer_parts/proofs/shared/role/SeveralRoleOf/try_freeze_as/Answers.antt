@@ -10,16 +10,16 @@ pub returns-in-Several-clause-items : goal.returns-in-Several-clause-items
 returns-in-Several-clause-items g c =
     ap (λ (w : PartsView g.row.S-Item.Denot g.row.M.Denot). w.items)
     (c.freeze_several.ensures
-    ∙ ap as_reader (sym (ap shared_on c.in-Several.is) ∙ c.parts.view_is))
+    ∙ ap as_reader (sym (ap shared_on c.in-Several.is) ∙ c.into_storage.ensures.seen))
 
 pub returns-in-Ok-clause-items : goal.returns-in-Ok-clause-items
 returns-in-Ok-clause-items g c =
     c.in-Ok.ensures.items
     ∙ ap (λ (w : PartsView g.row.S-Item.Denot g.row.M.Denot). w.items)
-    (sym (ap shared_on c.in-Alone.is) ∙ c.parts.view_is)
+    (sym (ap shared_on c.in-Alone.is) ∙ c.into_storage.ensures.seen)
 
 pub returns-in-Ok-clause-made : goal.returns-in-Ok-clause-made
 returns-in-Ok-clause-made g c =
     made_alike g.L.Layout.STATIC g.S.Slice.DROPS g.H.Mark.whole _ c.args.parts
-    (sym (ap shared_on c.in-Alone.is) ∙ c.parts.view_is) (window_of c.in-Ok.parts) _ _
+    (sym (ap shared_on c.in-Alone.is) ∙ c.into_storage.ensures.seen) (window_of c.in-Ok.parts) _ _
     c.in-Ok.ensures.made

@@ -9,34 +9,34 @@ pub returns-in-Ok-clause-items : goal.returns-in-Ok-clause-items
 returns-in-Ok-clause-items g c =
     c.in-Ok.ensures.items
     ∙ ap (λ (w : PartsView g.row.S-Item.Denot g.row.M.Denot). w.items)
-    (sym (ap sole_on c.in-Native.is) ∙ c.parts.view_is)
+    (sym (ap sole_on c.in-Native.is) ∙ c.into_storage.ensures)
 
 pub returns-in-Ok-try_freeze_as-clause-items : goal.returns-in-Ok-try_freeze_as-clause-items
 returns-in-Ok-try_freeze_as-clause-items g c =
     c.in-Ok-try_freeze_as.ensures.items
     ∙ ap (λ (w : PartsView g.row.S-Item.Denot g.row.M.Denot). w.items)
-    (sym (ap sole_on c.in-Vector.is) ∙ c.parts.view_is)
+    (sym (ap sole_on c.in-Vector.is) ∙ c.into_storage.ensures)
 
 pub returns-in-Ok-try_freeze_as-2-clause-items : goal.returns-in-Ok-try_freeze_as-2-clause-items
 returns-in-Ok-try_freeze_as-2-clause-items g c =
     c.in-Ok-try_freeze_as-2.ensures.items
     ∙ ap (λ (w : PartsView g.row.S-Item.Denot g.row.M.Denot). w.items)
-    (sym (ap sole_on c.in-Buffer.is) ∙ c.parts.view_is)
+    (sym (ap sole_on c.in-Buffer.is) ∙ c.into_storage.ensures)
 
 pub returns-in-Ok-clause-made : goal.returns-in-Ok-clause-made
 returns-in-Ok-clause-made g c =
     made_alike g.L.Layout.STATIC g.S.Slice.DROPS g.H.Mark.whole _ c.args.parts
-    (sym (ap sole_on c.in-Native.is) ∙ c.parts.view_is) (window_of c.in-Ok.parts) _ _
+    (sym (ap sole_on c.in-Native.is) ∙ c.into_storage.ensures) (window_of c.in-Ok.parts) _ _
     c.in-Ok.ensures.made
 
 pub returns-in-Ok-try_freeze_as-clause-made : goal.returns-in-Ok-try_freeze_as-clause-made
 returns-in-Ok-try_freeze_as-clause-made g c =
     made_alike g.L.Layout.STATIC g.S.Slice.DROPS g.H.Mark.whole _ c.args.parts
-    (sym (ap sole_on c.in-Vector.is) ∙ c.parts.view_is) (window_of c.in-Ok-try_freeze_as.parts) _ _
+    (sym (ap sole_on c.in-Vector.is) ∙ c.into_storage.ensures) (window_of c.in-Ok-try_freeze_as.parts) _ _
     c.in-Ok-try_freeze_as.ensures.made
 
 pub returns-in-Ok-try_freeze_as-2-clause-made : goal.returns-in-Ok-try_freeze_as-2-clause-made
 returns-in-Ok-try_freeze_as-2-clause-made g c =
     made_alike g.L.Layout.STATIC g.S.Slice.DROPS g.H.Mark.whole _ c.args.parts
-    (sym (ap sole_on c.in-Buffer.is) ∙ c.parts.view_is) (window_of c.in-Ok-try_freeze_as-2.parts) _ _
+    (sym (ap sole_on c.in-Buffer.is) ∙ c.into_storage.ensures) (window_of c.in-Ok-try_freeze_as-2.parts) _ _
     c.in-Ok-try_freeze_as-2.ensures.made
