@@ -9,19 +9,19 @@ use Rattle.arc_buffer.specs.declared.kinds.Slice as kind
 use Rattle.arc_block.specs.declared.layout.Layout as layout
 use Rattle.arc_parts.specs.Window.{PartsView}
 use Rattle.arc_parts.specs.Writers.{with_items}
-use Rattle.arc_writer_parts.specs.declared.role.WriterParts as writer_parts
+use Rattle.arc_writer_parts.specs.declared.role.RoleOf as role_of
 use Rattle.arc_write.specs.contracts.slice_mut.WriteWindow.{the_row}
 
 module _ (S L R B M A H Item Error Parts : RattleType)
     (s : kind.Ghosts S.Denot Item.Denot Error.Denot) (l : layout.Ghosts L.Denot L.Denot)
-    (p : writer_parts.Ghosts Parts.Denot S.Denot B.Denot M.Denot A.Denot H.Denot Item.Denot
-    Error.Denot)
+    (r : role_of.Ghosts R.Denot S.Denot B.Denot M.Denot A.Denot H.Denot Item.Denot Error.Denot
+    Parts.Denot)
     (m : buffer_mut.Ghosts B.Denot Item.Denot) (b : buffer.Ghosts B.Denot Item.Denot)
     (a : allocator.Ghosts A.Denot)
     (h : mark.Ghosts H.Denot)
     (window : MutBor (PartsView Item.Denot M.Denot)) where
-  -- once the borrow r ends, the items are those that r shows last
+  -- once this borrow ends, the items are those that it shows last
   abbrev pub lends_items : MutBor (List Item.Denot) → Fml
-  lends_items r =
-      Lends (the_row S L R B M A H Item Error Parts s l p m b a h) (Array Item 0)
-      window r (with_items window.now)
+  lends_items lent =
+      Lends (the_row S L R B M A H Item Error Parts s l r m b a h) (Array Item 0)
+      window lent (with_items window.now)
