@@ -165,7 +165,7 @@ impl<L: LayoutMut, B: BufferMut<u8> + Drop, M: Drop, A: Allocator + Copy, H: Mar
     pub fn into_arc_slice_mut(self) -> ArcSliceMut<Plain<u8>, L, 1, B, M, A, H>
         ensures { result ≡ self }
     {
-        ArcSliceMut::from_parts(self.into_parts().into_kind())
+        WriteWindow::from_parts(self.into_parts().into_kind())
     }
 
     /// The same window, over text. It adds nothing.
@@ -184,7 +184,7 @@ impl<L: LayoutMut, B: BufferMut<u8> + Drop, M: Drop, A: Allocator + Copy, H: Mar
         let parts = bytes.into_parts();
         match Text::try_from_slice(Sole::as_slice(&parts)) {
             Ok(()) => Ok(Self::from_parts(parts.into_kind())),
-            Err(error) => Err((error, ArcSliceMut::from_parts(parts))),
+            Err(error) => Err((error, WriteWindow::from_parts(parts))),
         }
     }
 }
@@ -202,7 +202,7 @@ impl<L: LayoutMut, B: BufferMut<u8> + Drop, M: Drop, A: Allocator + Copy, H: Mar
     pub fn into_arc_slice_mut(self) -> ArcSliceMut<Plain<u8>, L, 0, B, M, A, H>
         ensures { result ≡ self }
     {
-        ArcSliceMut::from_parts(self.into_parts().into_kind())
+        WriteWindow::from_parts(self.into_parts().into_kind())
     }
 
     /// The same window, over text. It adds nothing.
@@ -221,7 +221,7 @@ impl<L: LayoutMut, B: BufferMut<u8> + Drop, M: Drop, A: Allocator + Copy, H: Mar
         let parts = bytes.into_parts();
         match Text::try_from_slice(Several::as_slice(&parts)) {
             Ok(()) => Ok(Self::from_parts(parts.into_kind())),
-            Err(error) => Err((error, ArcSliceMut::from_parts(parts))),
+            Err(error) => Err((error, WriteWindow::from_parts(parts))),
         }
     }
 }
@@ -239,7 +239,7 @@ impl<L: LayoutMut, B: BufferMut<u8> + Drop, M: Drop, A: Allocator + Copy, H: Mar
     pub fn into_arc_slice_mut(self) -> ArcSliceMut<Plain<u8>, L, 1, B, M, A, H>
         ensures { result ≡ self }
     {
-        ArcSliceMut::from_parts(self.into_parts().into_kind())
+        WriteWindow::from_parts(self.into_parts().into_kind())
     }
 
     /// The same window, over byte text. It adds nothing. Never refused.
@@ -265,7 +265,7 @@ impl<L: LayoutMut, B: BufferMut<u8> + Drop, M: Drop, A: Allocator + Copy, H: Mar
     pub fn into_arc_slice_mut(self) -> ArcSliceMut<Plain<u8>, L, 0, B, M, A, H>
         ensures { result ≡ self }
     {
-        ArcSliceMut::from_parts(self.into_parts().into_kind())
+        WriteWindow::from_parts(self.into_parts().into_kind())
     }
 
     /// The same window, over byte text. It adds nothing. Never refused.

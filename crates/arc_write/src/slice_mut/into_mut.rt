@@ -9,7 +9,7 @@ ghost use Rattle.arc_parts.specs.Writers.{RefusesSole};
 ghost use Rattle.arc_read.specs.Steps.{WithNewPass};
 ghost use Rattle.arc_write.specs.Moves.{BecomesWriter};
 
-use super::ArcSliceMut;
+use super::{ArcSliceMut, WriteWindow};
 use arc_block::layout::{Layout, LayoutMut};
 use arc_buffer::buffer::BufferMut;
 use arc_buffer::kinds::Slice;
@@ -135,7 +135,7 @@ impl<
             layout_move (layout_facts K.Layout) self.place ≡ HandedBack → pass.new ≡ pass.old) }
     {
         match SoleParts::try_from_parts_as::<K>(self.into_parts(), pass) {
-            Ok(parts) => Ok(ArcSliceMut::from_parts(parts)),
+            Ok(parts) => Ok(WriteWindow::from_parts(parts)),
             Err(parts) => Err(ArcSlice::from_parts(parts)),
         }
     }

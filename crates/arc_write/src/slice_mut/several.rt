@@ -38,7 +38,7 @@ impl<
         ensures refused { IfErr result (λ back. (back ≡ self) × IsOfBuffer self.place) }
     {
         match self.into_parts().into_shared() {
-            Ok(parts) => Ok(ArcSliceMut::from_parts(parts)),
+            Ok(parts) => Ok(WriteWindow::from_parts(parts)),
             Err(parts) => Err(Self::from_parts(parts)),
         }
     }
@@ -95,7 +95,7 @@ impl<
         ensures refused { IfErr result (λ back. back ≡ self) }
     {
         match self.into_parts().try_into_unique_as(pass) {
-            Ok(parts) => Ok(ArcSliceMut::from_parts(parts)),
+            Ok(parts) => Ok(WriteWindow::from_parts(parts)),
             Err(parts) => Err(Self::from_parts(parts)),
         }
     }
