@@ -1,2 +1,2 @@
 //! The roles of writers, for who is generic in them.
-pub use arc_writer_parts::role::{CopyRole, Role, RoleNumber, RoleOf, Several, Sole};
+pub use arc_writer_parts::role::{CopyRole, Role, RoleOf};

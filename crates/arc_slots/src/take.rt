@@ -21,7 +21,7 @@ use arc_owners::owners::Pass;
 use arc_parts::parts::Parts;
 use arc_read::slice::ArcSlice;
 use arc_write::slice_mut::ArcSliceMut;
-use arc_writer_parts::role::{RoleOf, Sole};
+use arc_writer_parts::role::{Role, RoleOf};
 use arc_writer_parts::sole::SoleParts;
 use std::alloc::Allocator;
 
@@ -123,7 +123,7 @@ fn try_sole_into_reply<S: Commands<A>, B: BufferMut<S::Item> + Drop, M: Drop, A:
         × (pass.new ≡ pass.old)) }
 {
     match what {
-        Taking::Vector => match Sole::try_into_vec_as(parts, pass) {
+        Taking::Vector => match Role::<1>::try_into_vec_as(parts, pass) {
             Ok(items) => Ok(Reply::Vec(items_of::<S, A>(items))),
             Err(parts) => Err(parts),
         },

@@ -10,7 +10,7 @@ use arc_block::layout::{DefaultLayoutMut, LayoutMut};
 use arc_buffer::buffer::BufferMut;
 use arc_buffer::kinds::{Emptyable, Plain, Slice, Text};
 use arc_owners::mark::{Mark, Open};
-use arc_writer_parts::role::{Role, RoleNumber, RoleOf, Sole};
+use arc_writer_parts::role::{Role, RoleOf};
 use arc_writer_parts::sole::SoleParts;
 pub use into_mut::IntoMut;
 use std::alloc::{Allocator, Global};
@@ -51,7 +51,7 @@ pub type ArcSliceMut<
     M = (),
     A = Global,
     H = Open,
-> = WriteWindow<S, L, <Role<UNIQUE> as RoleNumber>::Role, B, M, A, H>;
+> = WriteWindow<S, L, Role<UNIQUE>, B, M, A, H>;
 
 /// A window that writes bytes.
 pub type ArcBytesMut<L = DefaultLayoutMut, B = Vec<u8>, M = (), A = Global, H = Open> = ArcSliceMut<
@@ -173,7 +173,7 @@ impl<
     M: Drop,
     A: Allocator + Copy,
     H: Mark,
-> WriteWindow<S, L, Sole, B, M, A, H> {
+> ArcSliceMut<S, L, 1, B, M, A, H> {
     /// A window with no items and no places, which stands on nothing.
     pub fn new(alloc: A) -> Self
     where

@@ -29,29 +29,9 @@ use arc_owners::owners::Pass;
 use arc_parts::parts::Parts;
 use std::alloc::Allocator;
 
-/// The role of a writer who is his block's only owner.
-pub struct Sole;
-
-/// The role of one of several writers.
-pub struct Several;
-
-/// A writer's role by its number: its block's only owner where `UNIQUE` is 1, and one of several
+/// A writer's role: its block's only owner where `UNIQUE` is 1, and one of several
 /// writers where it is 0. There are no others.
 pub struct Role<const UNIQUE: u8>;
-
-/// What has a writer's role.
-pub trait RoleNumber {
-    /// It.
-    type Role;
-}
-
-impl RoleNumber for Role<1> {
-    type Role = Sole;
-}
-
-impl RoleNumber for Role<0> {
-    type Role = Several;
-}
 
 /// A writer's role: what the parts of a window are whose writer has it, and what both roles have in
 /// common.

@@ -9,13 +9,13 @@ ghost use Rattle.arc_parts.specs.Window.{IsOfBuffer};
 ghost use Rattle.arc_parts.specs.Writers.{MakesBufferWriter};
 ghost use Rattle.arc_read.specs.Steps.{WithNewPass};
 
-use crate::slice_mut::WriteWindow;
+use crate::slice_mut::{ArcSliceMut, WriteWindow};
 use arc_block::layout::{AnyBufferLayout, LayoutMut};
 use arc_buffer::buffer::{BorrowMetadata, BufferMut};
 use arc_buffer::kinds::{AnyItems, Slice};
 use arc_owners::mark::{Mark, Stepping};
 use arc_owners::owners::Pass;
-use arc_writer_parts::role::{RoleOf, Sole};
+use arc_writer_parts::role::RoleOf;
 use arc_writer_parts::sole::SoleParts;
 use std::alloc::Allocator;
 
@@ -55,7 +55,7 @@ impl<
     M: Drop,
     A: Allocator + Copy,
     H: Mark,
-> WriteWindow<S, L, Sole, B, M, A, H> {
+> ArcSliceMut<S, L, 1, B, M, A, H> {
     /// A window over all items of a caller's buffer, on a block that keeps the buffer, with its
     /// metadata where there is some.
     #[tactic(auto, using(crate::proofs::Held::buffer_held))]

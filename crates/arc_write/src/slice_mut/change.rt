@@ -19,7 +19,7 @@ use arc_buffer::kinds::{ByteText, Plain, Slice, Text};
 use arc_owners::mark::{Mark, Stepping};
 use arc_owners::owners::Pass;
 use arc_read::slice::ArcSlice;
-use arc_writer_parts::role::{RoleOf, Several, Sole};
+use arc_writer_parts::role::{Role, RoleOf};
 use std::alloc::Allocator;
 use std::convert::Infallible;
 use std::str::Utf8Error;
@@ -152,10 +152,10 @@ impl<
     }
 }
 
-impl<L: LayoutMut, B: BufferMut<u8> + Drop, M: Drop, A: Allocator + Copy, H: Mark> WriteWindow<
+impl<L: LayoutMut, B: BufferMut<u8> + Drop, M: Drop, A: Allocator + Copy, H: Mark> ArcSliceMut<
     Text,
     L,
-    Sole,
+    1,
     B,
     M,
     A,
@@ -182,17 +182,17 @@ impl<L: LayoutMut, B: BufferMut<u8> + Drop, M: Drop, A: Allocator + Copy, H: Mar
             × (error_len r.0 ≡ utf8_error_len (drop (valid_up_to r.0) bytes.items))) }
     {
         let parts = bytes.into_parts();
-        match Text::try_from_slice(Sole::as_slice(&parts)) {
+        match Text::try_from_slice(Role::<1>::as_slice(&parts)) {
             Ok(()) => Ok(Self::from_parts(parts.into_kind())),
             Err(error) => Err((error, WriteWindow::from_parts(parts))),
         }
     }
 }
 
-impl<L: LayoutMut, B: BufferMut<u8> + Drop, M: Drop, A: Allocator + Copy, H: Mark> WriteWindow<
+impl<L: LayoutMut, B: BufferMut<u8> + Drop, M: Drop, A: Allocator + Copy, H: Mark> ArcSliceMut<
     Text,
     L,
-    Several,
+    0,
     B,
     M,
     A,
@@ -219,17 +219,17 @@ impl<L: LayoutMut, B: BufferMut<u8> + Drop, M: Drop, A: Allocator + Copy, H: Mar
             × (error_len r.0 ≡ utf8_error_len (drop (valid_up_to r.0) bytes.items))) }
     {
         let parts = bytes.into_parts();
-        match Text::try_from_slice(Several::as_slice(&parts)) {
+        match Text::try_from_slice(Role::<0>::as_slice(&parts)) {
             Ok(()) => Ok(Self::from_parts(parts.into_kind())),
             Err(error) => Err((error, WriteWindow::from_parts(parts))),
         }
     }
 }
 
-impl<L: LayoutMut, B: BufferMut<u8> + Drop, M: Drop, A: Allocator + Copy, H: Mark> WriteWindow<
+impl<L: LayoutMut, B: BufferMut<u8> + Drop, M: Drop, A: Allocator + Copy, H: Mark> ArcSliceMut<
     ByteText,
     L,
-    Sole,
+    1,
     B,
     M,
     A,
@@ -252,10 +252,10 @@ impl<L: LayoutMut, B: BufferMut<u8> + Drop, M: Drop, A: Allocator + Copy, H: Mar
     }
 }
 
-impl<L: LayoutMut, B: BufferMut<u8> + Drop, M: Drop, A: Allocator + Copy, H: Mark> WriteWindow<
+impl<L: LayoutMut, B: BufferMut<u8> + Drop, M: Drop, A: Allocator + Copy, H: Mark> ArcSliceMut<
     ByteText,
     L,
-    Several,
+    0,
     B,
     M,
     A,

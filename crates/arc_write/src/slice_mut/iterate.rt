@@ -7,13 +7,13 @@ ghost use Rattle.arc_parts.specs.Window.{PartsView};
 ghost use Rattle.arc_parts.specs.Writers.{idle_writer};
 ghost use Rattle.arc_write.specs.Extend.{PushesEach, RefusesOne};
 
-use crate::slice_mut::WriteWindow;
+use crate::slice_mut::{ArcSliceMut, WriteWindow};
 use arc_block::layout::LayoutMut;
 use arc_buffer::buffer::BufferMut;
 use arc_buffer::kinds::{Emptyable, Extendable, Slice};
 use arc_owners::error::TryReserveError;
 use arc_owners::mark::{Mark, Stepping};
-use arc_writer_parts::role::{RoleOf, Sole};
+use arc_writer_parts::role::RoleOf;
 use std::alloc::Allocator;
 
 impl<
@@ -83,7 +83,7 @@ impl<
     M: Drop,
     A: Allocator + Copy,
     H: Mark,
-> WriteWindow<S, L, Sole, B, M, A, H> {
+> ArcSliceMut<S, L, 1, B, M, A, H> {
     /// A window over the items that come: `try_extend` of a window on nothing.
     ///
     /// # Errors

@@ -5,14 +5,13 @@ ghost use Rattle.arc_block.specs.Place.{nowhere};
 ghost use Rattle.arc_parts.specs.Writers.{MakesWriter};
 ghost use Rattle.arc_read.specs.Steps.{WithNewPass};
 
-use crate::slice_mut::WriteWindow;
+use crate::slice_mut::ArcSliceMut;
 use arc_block::layout::LayoutMut;
 use arc_buffer::buffer::BufferMut;
 use arc_buffer::kinds::{AnyItems, CopySlice, Emptyable, Slice, Zeroable};
 use arc_owners::error::AllocError;
 use arc_owners::mark::{Mark, Stepping};
 use arc_owners::owners::Pass;
-use arc_writer_parts::role::Sole;
 use arc_writer_parts::sole::SoleParts;
 use std::alloc::Allocator;
 
@@ -23,7 +22,7 @@ impl<
     M: Drop,
     A: Allocator + Copy,
     H: Mark,
-> WriteWindow<S, L, Sole, B, M, A, H> {
+> ArcSliceMut<S, L, 1, B, M, A, H> {
     /// A window with no items, and with so many places: for none on nothing, else on a new native
     /// block. The pass, which is of no block, becomes the block's; the window is owner 0.
     ///

@@ -6,13 +6,13 @@ ghost use Rattle.arc_parts.specs.Steps.{EndsAt, IsPassAt};
 ghost use Rattle.arc_writer_parts.specs.Roles.{ReleasesAt, ReleasesHintedAt};
 ghost use Rattle.arc_read.specs.Steps.{WithNewPass};
 
-use crate::slice_mut::WriteWindow;
+use crate::slice_mut::{ArcSliceMut, WriteWindow};
 use arc_block::layout::LayoutMut;
 use arc_buffer::buffer::BufferMut;
 use arc_buffer::kinds::Slice;
 use arc_owners::mark::{Mark, Stepping};
 use arc_owners::owners::Pass;
-use arc_writer_parts::role::{RoleOf, Sole};
+use arc_writer_parts::role::RoleOf;
 use std::alloc::Allocator;
 
 impl<
@@ -110,7 +110,7 @@ impl<
     M: Drop,
     A: Allocator + Copy,
     H: Mark,
-> WriteWindow<S, L, Sole, B, M, A, H> {
+> ArcSliceMut<S, L, 1, B, M, A, H> {
     /// Shows a pass the block's whole history so far, in which no other owner than this window
     /// lives. It adds nothing.
     pub fn only(&self, pass: &mut Pass<H>)

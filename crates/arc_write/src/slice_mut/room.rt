@@ -10,14 +10,14 @@ ghost use Rattle.arc_writer_parts.specs.Roles.{AsksRoom, ReclaimsRoom};
 ghost use Rattle.arc_read.specs.Steps.{WithNewPass};
 ghost use Rattle.arc_write.specs.Within.{StaysWithin};
 
-use crate::slice_mut::WriteWindow;
+use crate::slice_mut::{ArcSliceMut, WriteWindow};
 use arc_block::layout::LayoutMut;
 use arc_buffer::buffer::BufferMut;
 use arc_buffer::kinds::Slice;
 use arc_owners::error::TryReserveError;
 use arc_owners::mark::{Mark, Stepping};
 use arc_owners::owners::Pass;
-use arc_writer_parts::role::{RoleOf, Several, Sole};
+use arc_writer_parts::role::RoleOf;
 use std::alloc::Allocator;
 
 impl<
@@ -131,7 +131,7 @@ impl<
     M: Drop,
     A: Allocator + Copy,
     H: Mark,
-> WriteWindow<S, L, Sole, B, M, A, H> {
+> ArcSliceMut<S, L, 1, B, M, A, H> {
     /// Whether there is room for so many items more without memory; then it is made. It adds
     /// nothing.
     pub fn try_reclaim(&mut self, additional: usize) -> bool
@@ -149,7 +149,7 @@ impl<
     M: Drop,
     A: Allocator + Copy,
     H: Mark,
-> WriteWindow<S, L, Several, B, M, A, H> {
+> ArcSliceMut<S, L, 0, B, M, A, H> {
     /// Whether there is room for so many items more without memory; then it is made:
     /// `try_reclaim_as` with a new pass.
     ///

@@ -13,7 +13,6 @@ use arc_buffer::buffer::BufferMut;
 use arc_buffer::kinds::{Shareable, Slice};
 use arc_owners::mark::{Mark, Stepping};
 use arc_owners::owners::Pass;
-use arc_writer_parts::role::{Several, Sole};
 use std::alloc::Allocator;
 
 impl<
@@ -23,7 +22,7 @@ impl<
     M: Drop,
     A: Allocator + Copy,
     H: Mark,
-> WriteWindow<S, L, Sole, B, M, A, H> {
+> ArcSliceMut<S, L, 1, B, M, A, H> {
     /// The same window, as one of several writers from now on: it may be split, and others may
     /// write their own places of its block. It adds nothing and takes no memory.
     ///
@@ -51,7 +50,7 @@ impl<
     M: Drop,
     A: Allocator + Copy,
     H: Mark,
-> WriteWindow<S, L, Several, B, M, A, H> {
+> ArcSliceMut<S, L, 0, B, M, A, H> {
     /// Whether the window stands on a vector, whose places a split moves to a native block first.
     pub fn is_on_vector(&self) -> bool
         ensures { result ≡ is_vector_at self.now.place }

@@ -7,14 +7,13 @@ ghost use Rattle.arc_parts.specs.Steps.{IsPassAt};
 ghost use Rattle.arc_parts.specs.Writers.{capacity_of};
 ghost use Rattle.arc_read.specs.Steps.{WithNewPass};
 
-use crate::slice_mut::WriteWindow;
+use crate::slice_mut::ArcSliceMut;
 use arc_block::layout::LayoutMut;
 use arc_buffer::buffer::BufferMut;
 use arc_buffer::kinds::{Concatenable, Slice, Subsliceable};
 use arc_owners::error::{AllocError, OwnerError};
 use arc_owners::mark::{Mark, Stepping};
 use arc_owners::owners::Pass;
-use arc_writer_parts::role::Several;
 use std::alloc::Allocator;
 use std::sync::Wait;
 
@@ -25,7 +24,7 @@ impl<
     M: Drop,
     A: Allocator + Copy,
     H: Mark,
-> WriteWindow<S, L, Several, B, M, A, H> {
+> ArcSliceMut<S, L, 0, B, M, A, H> {
     /// Keeps the first `at` places and hands out those behind them, with the items that lie there:
     /// another owner of the same block. Where the items end before, it has none. The places of a
     /// vector are moved to a native block first, of which the pass becomes one. On nothing both

@@ -10,13 +10,13 @@ ghost use Rattle.arc_parts.specs.Writers.{IsWholeWriter};
 ghost use Rattle.arc_read.specs.Steps.{WithNewPass};
 ghost use Rattle.arc_writer_parts.specs.Roles.{RefusesTakingOut, TakesOutAt};
 
-use crate::slice_mut::WriteWindow;
+use crate::slice_mut::{ArcSliceMut, WriteWindow};
 use arc_block::layout::LayoutMut;
 use arc_buffer::buffer::BufferMut;
 use arc_buffer::kinds::{Slice, VecIn, Wraps};
 use arc_owners::mark::{Mark, Stepping};
 use arc_owners::owners::Pass;
-use arc_writer_parts::role::{RoleOf, Several, Sole};
+use arc_writer_parts::role::RoleOf;
 use std::alloc::Allocator;
 
 impl<
@@ -154,7 +154,7 @@ impl<
     M: Drop,
     A: Allocator + Copy,
     H: Mark,
-> WriteWindow<S, L, Sole, B, M, A, H> {
+> ArcSliceMut<S, L, 1, B, M, A, H> {
     /// The items as an array, where the window has `N` of them, which on a block are all places of
     /// a native one. Else the window comes back.
     ///
@@ -263,7 +263,7 @@ impl<
     M: Drop,
     A: Allocator + Copy,
     H: Mark,
-> WriteWindow<S, L, Several, B, M, A, H> {
+> ArcSliceMut<S, L, 0, B, M, A, H> {
     /// The items as an array, where the window has `N` of them, which on a block are all places of
     /// a native one, and no other owner lives. Else the window comes back.
     ///

@@ -10,14 +10,14 @@ ghost use Rattle.arc_writer_parts.specs.Roles.{AsksRoom, PushesItems};
 ghost use Rattle.arc_read.specs.Steps.{WithNewPass};
 ghost use Rattle.arc_write.specs.Within.{StaysWithin};
 
-use crate::slice_mut::WriteWindow;
+use crate::slice_mut::{ArcSliceMut, WriteWindow};
 use arc_block::layout::LayoutMut;
 use arc_buffer::buffer::BufferMut;
 use arc_buffer::kinds::Text;
 use arc_owners::error::{AllocError, TryReserveError};
 use arc_owners::mark::{Mark, Stepping};
 use arc_owners::owners::Pass;
-use arc_writer_parts::role::{CopyRole, RoleOf, Sole};
+use arc_writer_parts::role::{CopyRole, RoleOf};
 use arc_writer_parts::sole::SoleParts;
 use std::alloc::Allocator;
 use std::str;
@@ -110,10 +110,10 @@ impl<
     }
 }
 
-impl<L: LayoutMut, B: BufferMut<u8> + Drop, M: Drop, A: Allocator + Copy, H: Mark> WriteWindow<
+impl<L: LayoutMut, B: BufferMut<u8> + Drop, M: Drop, A: Allocator + Copy, H: Mark> ArcSliceMut<
     Text,
     L,
-    Sole,
+    1,
     B,
     M,
     A,

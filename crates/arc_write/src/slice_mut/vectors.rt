@@ -7,13 +7,12 @@ ghost use Rattle.arc_block.specs.Place.{nowhere};
 ghost use Rattle.arc_parts.specs.Writers.{MakesVecWriter};
 ghost use Rattle.arc_read.specs.Steps.{WithNewPass};
 
-use crate::slice_mut::WriteWindow;
+use crate::slice_mut::ArcSliceMut;
 use arc_block::layout::{AnyBufferLayout, LayoutMut};
 use arc_buffer::buffer::BufferMut;
 use arc_buffer::kinds::{Slice, VecIn, Wraps};
 use arc_owners::mark::{Mark, Stepping};
 use arc_owners::owners::Pass;
-use arc_writer_parts::role::Sole;
 use arc_writer_parts::sole::SoleParts;
 use std::alloc::Allocator;
 
@@ -24,7 +23,7 @@ impl<
     M: Drop,
     A: Allocator + Copy,
     H: Mark,
-> WriteWindow<S, L, Sole, B, M, A, H> {
+> ArcSliceMut<S, L, 1, B, M, A, H> {
     /// A window over all items of a vector, which are legal.
     #[tactic(auto, using(crate::proofs::Held::vector_held))]
     fn try_from_legal_vec_as(

@@ -12,7 +12,7 @@ ghost use Rattle.arc_parts.specs.Window.{IsBoxWhole, IsHeld, IsVecPart, window_o
 ghost use Rattle.arc_parts.specs.Writers.{as_reader, Freezes, with_items};
 
 use super::{SharedParts, SharedStorage};
-use crate::role::{CopyRole, RoleOf, Several, Sole};
+use crate::role::{CopyRole, Role, RoleOf};
 use arc_block::layout::Layout;
 use arc_buffer::buffer::{BorrowMetadata, BufferMut};
 use arc_buffer::kinds::Slice;
@@ -29,7 +29,7 @@ impl<S: Slice, B: BufferMut<S::Item> + Drop, M: Drop, A: Allocator + Copy, H: Ma
     M,
     A,
     H,
-> for Several {
+> for Role<0> {
     type Parts = SharedParts<S, B, M, A, H>;
 
     ghost seen = { λ parts. parts };
@@ -49,7 +49,7 @@ impl<S: Slice, B: BufferMut<S::Item> + Drop, M: Drop, A: Allocator + Copy, H: Ma
     fn len(parts: &SharedParts<S, B, M, A, H>) -> usize {
         match &parts.on {
             SharedStorage::Several(writer) => writer.len(),
-            SharedStorage::Alone(parts) => Sole::len(parts),
+            SharedStorage::Alone(parts) => Role::<1>::len(parts),
         }
     }
 
@@ -57,7 +57,7 @@ impl<S: Slice, B: BufferMut<S::Item> + Drop, M: Drop, A: Allocator + Copy, H: Ma
     fn as_slice(parts: &SharedParts<S, B, M, A, H>) -> &[S::Item] {
         match &parts.on {
             SharedStorage::Several(writer) => writer.as_slice(),
-            SharedStorage::Alone(parts) => Sole::as_slice(parts),
+            SharedStorage::Alone(parts) => Role::<1>::as_slice(parts),
         }
     }
 
@@ -65,7 +65,7 @@ impl<S: Slice, B: BufferMut<S::Item> + Drop, M: Drop, A: Allocator + Copy, H: Ma
     fn capacity(parts: &SharedParts<S, B, M, A, H>) -> usize {
         match &parts.on {
             SharedStorage::Several(writer) => writer.capacity(),
-            SharedStorage::Alone(parts) => Sole::capacity(parts),
+            SharedStorage::Alone(parts) => Role::<1>::capacity(parts),
         }
     }
 
@@ -73,7 +73,7 @@ impl<S: Slice, B: BufferMut<S::Item> + Drop, M: Drop, A: Allocator + Copy, H: Ma
     fn as_mut_slice(parts: &mut SharedParts<S, B, M, A, H>) -> &mut [S::Item] {
         match &mut parts.on {
             SharedStorage::Several(writer) => writer.as_mut_slice(),
-            SharedStorage::Alone(parts) => Sole::as_mut_slice(parts),
+            SharedStorage::Alone(parts) => Role::<1>::as_mut_slice(parts),
         }
     }
 
@@ -81,7 +81,7 @@ impl<S: Slice, B: BufferMut<S::Item> + Drop, M: Drop, A: Allocator + Copy, H: Ma
     fn advance(parts: &mut SharedParts<S, B, M, A, H>, count: usize) {
         match &mut parts.on {
             SharedStorage::Several(writer) => writer.advance(count),
-            SharedStorage::Alone(parts) => Sole::advance(parts, count),
+            SharedStorage::Alone(parts) => Role::<1>::advance(parts, count),
         }
     }
 
@@ -93,7 +93,7 @@ impl<S: Slice, B: BufferMut<S::Item> + Drop, M: Drop, A: Allocator + Copy, H: Ma
                     writer.truncate(len);
                 }
             }
-            SharedStorage::Alone(parts) => Sole::truncate(parts, len),
+            SharedStorage::Alone(parts) => Role::<1>::truncate(parts, len),
         }
     }
 
@@ -133,8 +133,8 @@ impl<S: Slice, B: BufferMut<S::Item> + Drop, M: Drop, A: Allocator + Copy, H: Ma
         item: S::Item,
         pass: &mut Pass<H>,
     ) -> Result<(), (TryReserveError, S::Item)> {
-        Several::known_place(parts);
-        match Several::try_reserve_as(parts, 1, pass) {
+        Role::<0>::known_place(parts);
+        match Role::<0>::try_reserve_as(parts, 1, pass) {
             Ok(()) => {
                 parts.push_reserved(item);
                 Ok(())
@@ -156,7 +156,7 @@ impl<S: Slice, B: BufferMut<S::Item> + Drop, M: Drop, A: Allocator + Copy, H: Ma
             (IsVecPart S.DROPS parts.items parts.place) parts.place pass.old pass.new) }
     {
         parts.known_kind();
-        Several::known_place(&parts);
+        Role::<0>::known_place(&parts);
         let (on, alloc) = parts.into_storage();
         match on {
             SharedStorage::Several(writer) => Err(SharedParts::several(alloc, writer)),
@@ -167,7 +167,7 @@ impl<S: Slice, B: BufferMut<S::Item> + Drop, M: Drop, A: Allocator + Copy, H: Ma
                 if !parts.is_alone_as(pass) {
                     return Err(SharedParts::alone(alloc, parts));
                 }
-                match Sole::try_into_vec_as(parts, pass) {
+                match Role::<1>::try_into_vec_as(parts, pass) {
                     Ok(items) => Ok(items),
                     Err(_) => unreachable!(),
                 }
@@ -188,7 +188,7 @@ impl<S: Slice, B: BufferMut<S::Item> + Drop, M: Drop, A: Allocator + Copy, H: Ma
             (IsBoxWhole parts.items parts.place) parts.place pass.old pass.new) }
     {
         parts.known_kind();
-        Several::known_place(&parts);
+        Role::<0>::known_place(&parts);
         let (on, alloc) = parts.into_storage();
         match on {
             SharedStorage::Several(writer) => Err(SharedParts::several(alloc, writer)),
@@ -199,7 +199,7 @@ impl<S: Slice, B: BufferMut<S::Item> + Drop, M: Drop, A: Allocator + Copy, H: Ma
                 if !parts.is_alone_as(pass) {
                     return Err(SharedParts::alone(alloc, parts));
                 }
-                match Sole::try_into_box_vec_as(parts, pass) {
+                match Role::<1>::try_into_box_vec_as(parts, pass) {
                     Ok(items) => Ok(items),
                     Err(_) => unreachable!(),
                 }
@@ -212,7 +212,7 @@ impl<S: Slice, B: BufferMut<S::Item> + Drop, M: Drop, A: Allocator + Copy, H: Ma
         let (on, alloc) = parts.into_storage();
         match on {
             SharedStorage::Several(writer) => SharedParts::freeze_several(alloc, writer),
-            SharedStorage::Alone(parts) => Sole::freeze(parts),
+            SharedStorage::Alone(parts) => Role::<1>::freeze(parts),
         }
     }
 
@@ -238,7 +238,7 @@ impl<S: Slice, B: BufferMut<S::Item> + Drop, M: Drop, A: Allocator + Copy, H: Ma
         let (on, alloc) = parts.into_storage();
         match on {
             SharedStorage::Several(writer) => Ok(SharedParts::freeze_several(alloc, writer)),
-            SharedStorage::Alone(parts) => match Sole::try_freeze_as::<L>(parts, pass) {
+            SharedStorage::Alone(parts) => match Role::<1>::try_freeze_as::<L>(parts, pass) {
                 Ok(parts) => Ok(parts),
                 Err(back) => Err(SharedParts::alone(alloc, back)),
             },
@@ -257,7 +257,7 @@ impl<S: Slice, B: BufferMut<S::Item> + Drop, M: Drop, A: Allocator + Copy, H: Ma
     fn metadata(parts: &SharedParts<S, B, M, A, H>) -> Option<&M> {
         match &parts.on {
             SharedStorage::Several(_) => None,
-            SharedStorage::Alone(parts) => Sole::metadata(parts),
+            SharedStorage::Alone(parts) => Role::<1>::metadata(parts),
         }
     }
 
@@ -267,7 +267,7 @@ impl<S: Slice, B: BufferMut<S::Item> + Drop, M: Drop, A: Allocator + Copy, H: Ma
     {
         match &parts.on {
             SharedStorage::Several(_) => None,
-            SharedStorage::Alone(parts) => Sole::borrowed_metadata(parts),
+            SharedStorage::Alone(parts) => Role::<1>::borrowed_metadata(parts),
         }
     }
 
@@ -278,7 +278,7 @@ impl<S: Slice, B: BufferMut<S::Item> + Drop, M: Drop, A: Allocator + Copy, H: Ma
         let (on, _) = parts.into_storage();
         match on {
             SharedStorage::Several(writer) => writer.release_as(pass),
-            SharedStorage::Alone(parts) => Sole::release_as(parts, pass),
+            SharedStorage::Alone(parts) => Role::<1>::release_as(parts, pass),
         }
     }
 
@@ -292,7 +292,7 @@ impl<S: Slice, B: BufferMut<S::Item> + Drop, M: Drop, A: Allocator + Copy, H: Ma
             SharedStorage::Several(writer) => writer.release_with_unique_hint_as(pass),
             SharedStorage::Alone(parts) => {
                 let _ = parts.is_alone_as(pass);
-                Sole::release_as(parts, pass);
+                Role::<1>::release_as(parts, pass);
             },
         }
     }
@@ -301,7 +301,7 @@ impl<S: Slice, B: BufferMut<S::Item> + Drop, M: Drop, A: Allocator + Copy, H: Ma
         let (on, _) = parts.into_storage();
         match on {
             SharedStorage::Several(writer) => writer.let_go(),
-            SharedStorage::Alone(parts) => Sole::let_go(parts),
+            SharedStorage::Alone(parts) => Role::<1>::let_go(parts),
         }
     }
 
@@ -312,7 +312,7 @@ impl<S: Slice, B: BufferMut<S::Item> + Drop, M: Drop, A: Allocator + Copy, H: Ma
     fn learn(parts: &SharedParts<S, B, M, A, H>, pass: &mut Pass<H>, other: &Pass<H>) {
         match &parts.on {
             SharedStorage::Several(writer) => writer.learn(pass, other),
-            SharedStorage::Alone(parts) => Sole::learn(parts, pass, other),
+            SharedStorage::Alone(parts) => Role::<1>::learn(parts, pass, other),
         }
     }
 
@@ -322,7 +322,7 @@ impl<S: Slice, B: BufferMut<S::Item> + Drop, M: Drop, A: Allocator + Copy, H: Ma
     {
         match &parts.on {
             SharedStorage::Several(writer) => writer.pass(),
-            SharedStorage::Alone(parts) => Sole::pass(parts),
+            SharedStorage::Alone(parts) => Role::<1>::pass(parts),
         }
     }
 
@@ -335,7 +335,7 @@ impl<S: Slice, B: BufferMut<S::Item> + Drop, M: Drop, A: Allocator + Copy, H: Ma
     M,
     A,
     H,
-> for Several
+> for Role<0>
 where
     S::Item: Copy,
 {
@@ -346,11 +346,11 @@ where
         items: &[S::Item],
         pass: &mut Pass<H>,
     ) -> Result<(), TryReserveError> {
-        Several::known_place(parts);
-        match Several::try_reserve_as(parts, items.len(), pass) {
+        Role::<0>::known_place(parts);
+        match Role::<0>::try_reserve_as(parts, items.len(), pass) {
             Ok(()) => {
                 parts.known_uncounted();
-                Several::extend_reserved(parts, items);
+                Role::<0>::extend_reserved(parts, items);
                 Ok(())
             }
             Err(e) => Err(e),
@@ -361,7 +361,7 @@ where
     fn extend_reserved(parts: &mut SharedParts<S, B, M, A, H>, items: &[S::Item]) {
         match &mut parts.on {
             SharedStorage::Several(writer) => writer.extend_reserved(items),
-            SharedStorage::Alone(parts) => Sole::extend_reserved(parts, items),
+            SharedStorage::Alone(parts) => Role::<1>::extend_reserved(parts, items),
         }
     }
 }

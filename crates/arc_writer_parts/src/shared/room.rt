@@ -8,7 +8,7 @@ ghost use Rattle.arc_parts.specs.Window.{IsOfBuffer};
 ghost use Rattle.arc_parts.specs.Writers.{capacity_of, room_for};
 
 use super::{SharedParts, SharedStorage};
-use crate::role::{RoleOf, Several, Sole};
+use crate::role::{Role, RoleOf};
 use crate::sole::SoleParts;
 use arc_buffer::buffer::BufferMut;
 use arc_buffer::kinds::Slice;
@@ -34,8 +34,8 @@ impl<S: Slice, B: BufferMut<S::Item> + Drop, M: Drop, A: Allocator + Copy, H: Ma
         ensures enough { length self.now.items ≤ capacity_of self.now.role }
         ensures place { IsSharedPlace self.now.place }
     {
-        Several::known_place(self);
-        Several::capacity(self) - Several::len(self)
+        Role::<0>::known_place(self);
+        Role::<0>::capacity(self) - Role::<0>::len(self)
     }
 
     /// An item more, behind the others, where there is a place for it.
@@ -106,7 +106,7 @@ impl<S: Slice, B: BufferMut<S::Item> + Drop, M: Drop, A: Allocator + Copy, H: Ma
             (length result.0.items + additional ≤ capacity_of result.0.role) }
     {
         self.known_kind();
-        Several::known_place(&self);
+        Role::<0>::known_place(&self);
         if self.is_on_block() {
             return match self.try_into_unique_as(pass) {
                 Ok(sole) => Self::room_alone_as(sole, additional, pass),
@@ -141,7 +141,7 @@ impl<S: Slice, B: BufferMut<S::Item> + Drop, M: Drop, A: Allocator + Copy, H: Ma
             (length result.0.items + additional ≤ capacity_of result.0.role) }
     {
         let mut sole = sole;
-        let made = Sole::try_reserve_as(&mut sole, additional, pass);
+        let made = Role::<1>::try_reserve_as(&mut sole, additional, pass);
         (sole.into_shared_memory(), made)
     }
 
@@ -157,7 +157,7 @@ impl<S: Slice, B: BufferMut<S::Item> + Drop, M: Drop, A: Allocator + Copy, H: Ma
         ensures items { result.0.items ≡ self.items }
     {
         self.known_kind();
-        Several::known_place(&self);
+        Role::<0>::known_place(&self);
         if self.is_on_block() {
             return match self.try_into_unique_as(pass) {
                 Ok(sole) => {

@@ -8,7 +8,7 @@ ghost use Rattle.arc_parts.specs.Steps.{IsPassAt};
 ghost use Rattle.arc_parts.specs.Writers.{capacity_of};
 
 use super::{SharedParts, SharedStorage};
-use crate::role::{RoleOf, Several, Sole};
+use crate::role::{Role, RoleOf};
 use crate::sole::SoleParts;
 use arc_buffer::buffer::BufferMut;
 use arc_buffer::kinds::Slice;
@@ -126,8 +126,8 @@ where
         }
         let Ok((writer, mut new)) = SharedNative::try_copy(
             alloc,
-            Sole::as_slice(&parts),
-            Sole::capacity(&parts),
+            Role::<1>::as_slice(&parts),
+            Role::<1>::capacity(&parts),
         ) else {
             return Err(parts);
         };
@@ -235,8 +235,8 @@ where
         }
         let Ok((writer, mut new)) = SharedNative::try_copy(
             alloc,
-            Sole::as_slice(&parts),
-            Sole::capacity(&parts),
+            Role::<1>::as_slice(&parts),
+            Role::<1>::capacity(&parts),
         ) else {
             return Err(parts);
         };
@@ -276,11 +276,11 @@ where
     {
         let (writer, new) = SharedNative::try_copy(
             self.alloc,
-            Several::as_slice(self),
-            Several::capacity(self),
+            Role::<0>::as_slice(self),
+            Role::<0>::capacity(self),
         )?;
         match mem::replace(&mut self.on, SharedStorage::Several(writer)) {
-            SharedStorage::Alone(parts) => Sole::release_as(parts, pass),
+            SharedStorage::Alone(parts) => Role::<1>::release_as(parts, pass),
             SharedStorage::Several(_) => unreachable!(),
         }
         Ok(new)
@@ -295,7 +295,7 @@ where
         ensures left { at_owner parts.place ⊥ (λ o. LeavesShown H H.real o pass.old) }
     {
         let mut old = mem::replace(pass, new);
-        Sole::release_as(parts, &mut old);
+        Role::<1>::release_as(parts, &mut old);
         old.show();
     }
 }

@@ -4,7 +4,7 @@ ghost use Rattle.arc_parts.specs.Steps.{IsPassAt, TakesAt, RefusesTaking};
 ghost use Rattle.arc_parts.specs.Writers.{IsWholeWriter};
 
 use super::{SharedParts, SharedStorage};
-use crate::role::{RoleOf, Several};
+use crate::role::{Role, RoleOf};
 use arc_buffer::buffer::BufferMut;
 use arc_buffer::kinds::Slice;
 use arc_owners::mark::Mark;
@@ -39,7 +39,7 @@ impl<S: Slice, B: BufferMut<S::Item> + Drop, M: Drop, A: Allocator + Copy, H: Ma
             (IsWholeWriter N self) self.place pass.old pass.new) }
     {
         self.known_kind();
-        Several::known_place(&self);
+        Role::<0>::known_place(&self);
         let SharedParts { on, alloc } = self;
         match on {
             SharedStorage::Several(writer) => match writer.try_into_array_as::<N>(pass) {

@@ -11,7 +11,7 @@ ghost use Rattle.arc_parts.specs.Window.{IsBoxWhole, IsHeld, IsVecPart, window_o
 ghost use Rattle.arc_parts.specs.Writers.{as_reader, Freezes, with_items};
 
 use super::{SoleParts, SoleStorage};
-use crate::role::{CopyRole, RoleOf, Sole};
+use crate::role::{CopyRole, Role, RoleOf};
 use arc_block::layout::Layout;
 use arc_buffer::buffer::{BorrowMetadata, BufferMut};
 use arc_buffer::kinds::Slice;
@@ -27,7 +27,7 @@ impl<S: Slice, B: BufferMut<S::Item> + Drop, M: Drop, A: Allocator + Copy, H: Ma
     M,
     A,
     H,
-> for Sole {
+> for Role<1> {
     type Parts = SoleParts<S, B, M, A, H>;
 
     ghost seen = { λ parts. parts };
@@ -267,7 +267,7 @@ impl<S: Slice, B: BufferMut<S::Item> + Drop, M: Drop, A: Allocator + Copy, H: Ma
         ensures entry { at_owner parts.place (pass.new ≡ pass.old) (λ o.
             Leaves o pass.old pass.new true) }
     {
-        Sole::release_as(parts, pass);
+        Role::<1>::release_as(parts, pass);
     }
 
     fn let_go(parts: SoleParts<S, B, M, A, H>) -> Pass<H> {
@@ -310,7 +310,7 @@ impl<S: Slice, B: BufferMut<S::Item> + Drop, M: Drop, A: Allocator + Copy, H: Ma
     M,
     A,
     H,
-> for Sole
+> for Role<1>
 where
     S::Item: Copy,
 {

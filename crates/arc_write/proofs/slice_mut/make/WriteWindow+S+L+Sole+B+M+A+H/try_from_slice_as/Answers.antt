@@ -1,5 +1,0 @@
--- Of these kinds each list is legal.
-use Rattle.arc_write.proofs.slice_mut.make.WriteWindow+S+L+Sole+B+M+A+H.try_from_slice_as.Goals as goal
-
-pub from_parts-requires-clause-legal : goal.from_parts-requires-clause-legal
-from_parts-requires-clause-legal g c = ∣ g.met.S.AnyItems.all_are_legal _ ∣₁
