@@ -1,7 +1,7 @@
 -- Who has the places gets no more.
 use Rattle.std.proofs.Common.{◌≤◌, subst, arith}
 use Rattle.arc_writer_parts.proofs.Rooms.{shared_asked, spare_shared}
-use Rattle.arc_writer_parts.proofs.shared.role.SeveralRoleOf.try_reserve_as.Goals as goal
+use Rattle.arc_writer_parts.proofs.shared.role.Role0RoleOf.try_reserve_as.Goals as goal
 
 pub returns-then-additional-spare-clause-room : goal.returns-then-additional-spare-clause-room
 returns-then-additional-spare-clause-room g c =

@@ -3,7 +3,7 @@ use Rattle.std.proofs.Common.{sym, ap, ◌∙◌}
 use Rattle.arc_parts.specs.Window.{PartsView, window_of}
 use Rattle.arc_writer_parts.specs.PartsOn.{sole_on}
 use Rattle.arc_writer_parts.proofs.Frozen.{made_alike}
-use Rattle.arc_writer_parts.proofs.sole.role.SoleRoleOf.try_freeze_as.Goals as goal
+use Rattle.arc_writer_parts.proofs.sole.role.Role1RoleOf.try_freeze_as.Goals as goal
 
 pub returns-in-Ok-clause-items : goal.returns-in-Ok-clause-items
 returns-in-Ok-clause-items g c =

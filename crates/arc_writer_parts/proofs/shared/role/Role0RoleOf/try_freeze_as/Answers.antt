@@ -4,7 +4,7 @@ use Rattle.arc_parts.specs.Window.{PartsView, window_of}
 use Rattle.arc_parts.specs.Writers.{as_reader}
 use Rattle.arc_writer_parts.specs.PartsOn.{shared_on}
 use Rattle.arc_writer_parts.proofs.Frozen.{made_alike}
-use Rattle.arc_writer_parts.proofs.shared.role.SeveralRoleOf.try_freeze_as.Goals as goal
+use Rattle.arc_writer_parts.proofs.shared.role.Role0RoleOf.try_freeze_as.Goals as goal
 
 pub returns-in-Several-clause-items : goal.returns-in-Several-clause-items
 returns-in-Several-clause-items g c =
