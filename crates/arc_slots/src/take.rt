@@ -274,7 +274,7 @@ where
             unreachable!()
         };
         let mut pass = passes.lend(block);
-        let taken = window.into_parts().try_into_vec_as(&mut pass);
+        let taken = Role::<0>::try_into_vec_as(window.into_parts(), &mut pass);
         passes.give_back(block, pass);
         match taken {
             Ok(items) => Ok(Reply::Vec(items_of::<S, A>(items))),
