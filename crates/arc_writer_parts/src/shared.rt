@@ -98,7 +98,10 @@ impl<S: Slice, B: BufferMut<S::Item> + Drop, M: Drop, A: Allocator + Copy, H: Ma
     #[inline(always)]
     pub(crate) fn into_storage(
         self,
-    ) -> (SharedStorage<SharedNative<S::Item, A, H>, SoleParts<S, B, M, A, H>>, A)
+    ) -> (
+        SharedStorage<SharedNative<S::Item, A, H>, SoleParts<S, B, M, A, H>>,
+        A,
+    )
         ensures seen { shared_on result.0 ≡ self }
         ensures alone { IsSharedOn result.0 }
     {
