@@ -52,7 +52,7 @@ READING = Table(
     [
         Row("clone", "clone and release, local window", wanted="20"),
         Row("clone_shared", "clone and release, behind `&`", wanted="27"),
-        Row("clone_hint", "the same, dropped by the hint"),
+        Row("clone_hint", "clone, dropped by the hint"),
         Row("empty_cut", "empty cut, local window"),
         Row("empty_cut_shared", "empty cut, behind `&`"),
         Row("short_cut", "short cut and release, local window", wanted="33"),
@@ -62,7 +62,7 @@ READING = Table(
         Row("unique", "`is_unique`", "loop"),
         Row("advance", "a byte less at the front (`advance`)"),
         Row("make", "128 bytes copied in, and release", wanted="205"),
-        Row("make_hint", "the same, dropped by the hint"),
+        Row("make_hint", "128 bytes copied in, dropped by the hint"),
         Row("array", "an array of 32 as a window, and back", "loop"),
         Row("back", "a vector or buffer as a window, and back", wanted="1,096"),
     ],

@@ -1,7 +1,7 @@
 //! The loops over windows that are read, under each layout and over all that one may stand on.
+use crate::Words;
 use crate::at_site;
 use crate::keep::{Keep, chosen, empty_loop, window_loop};
-use crate::Words;
 use arc_slice::ArcBytes;
 use arc_slice::buffer::Buffer;
 use arc_slice::error::AllocError;

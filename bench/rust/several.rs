@@ -180,11 +180,7 @@ fn reclaim<const SITE: usize>(window: &mut Shared, count: usize, keep: &dyn Keep
 
 /// A window that is read from then on, and back.
 #[inline(never)]
-fn freeze<const SITE: usize>(
-    window: Shared,
-    count: usize,
-    keep: &dyn Keep<Reader>,
-) -> Option<()> {
+fn freeze<const SITE: usize>(window: Shared, count: usize, keep: &dyn Keep<Reader>) -> Option<()> {
     let mut window = window;
     for _ in 0..count {
         let frozen: Reader = window.try_freeze().ok()?;
@@ -197,11 +193,7 @@ fn freeze<const SITE: usize>(
 
 /// The only writer, and one of several again.
 #[inline(never)]
-fn unique<const SITE: usize>(
-    window: Shared,
-    count: usize,
-    keep: &dyn Keep<Shared>,
-) -> Option<()> {
+fn unique<const SITE: usize>(window: Shared, count: usize, keep: &dyn Keep<Shared>) -> Option<()> {
     let mut window = window;
     for _ in 0..count {
         let sole: ArcBytesMut<Usual> = window.try_into_unique().ok()?;

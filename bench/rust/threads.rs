@@ -18,8 +18,12 @@ pub fn run(workers: usize, words: &Words) -> Option<()> {
     let window: ArcBytes<Usual> = ArcBytes::try_from_slice(&[42; 128]).ok()?;
     std::thread::scope(|scope| {
         let window = &window;
-        let started: Vec<_> =
-            (0..workers).map(|_| scope.spawn(move || work(window, words.count))).collect();
-        started.into_iter().all(|it| matches!(it.join(), Ok(Some(())))).then_some(())
+        let started: Vec<_> = (0..workers)
+            .map(|_| scope.spawn(move || work(window, words.count)))
+            .collect();
+        started
+            .into_iter()
+            .all(|it| matches!(it.join(), Ok(Some(()))))
+            .then_some(())
     })
 }

@@ -25,11 +25,7 @@ pub fn run(words: &Words) -> Option<()> {
 
 /// By `{:?}`, into a text that is there.
 #[inline(never)]
-fn debug(
-    window: &ArcBytes<Usual>,
-    count: usize,
-    keep: &dyn Keep<ArcBytes<Usual>>,
-) -> Option<()> {
+fn debug(window: &ArcBytes<Usual>, count: usize, keep: &dyn Keep<ArcBytes<Usual>>) -> Option<()> {
     let mut text = String::with_capacity(PLACES);
     for _ in 0..count {
         text.clear();
@@ -41,11 +37,7 @@ fn debug(
 
 /// By two hexadecimal digits a byte, into a text that is there.
 #[inline(never)]
-fn hex(
-    window: &ArcBytes<Usual>,
-    count: usize,
-    keep: &dyn Keep<ArcBytes<Usual>>,
-) -> Option<()> {
+fn hex(window: &ArcBytes<Usual>, count: usize, keep: &dyn Keep<ArcBytes<Usual>>) -> Option<()> {
     let mut text = String::with_capacity(PLACES);
     for _ in 0..count {
         text.clear();

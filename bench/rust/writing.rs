@@ -234,11 +234,7 @@ fn read_back<const SITE: usize>(window: &Writer, count: usize, keep: &dyn Keep<W
 
 /// A window that is read from then on, and back.
 #[inline(never)]
-fn freeze<const SITE: usize>(
-    window: Writer,
-    count: usize,
-    keep: &dyn Keep<Reader>,
-) -> Option<()> {
+fn freeze<const SITE: usize>(window: Writer, count: usize, keep: &dyn Keep<Reader>) -> Option<()> {
     let mut window = window;
     for _ in 0..count {
         let frozen: Reader = window.try_freeze().ok()?;
