@@ -1,5 +1,5 @@
 -- Lists that a window has in itself, on no block.
-use Rattle.std.proofs.Common.{◌≡◌, ℕ, ◌+◌, ◌≤◌, List, ◌++◌, length, take}
+use Rattle.std.proofs.Common.{◌≡◌, ℕ, ◌+◌, ◌≤◌, List, [], ◌++◌, length, take}
 use Rattle.std.proofs.Common.{drop, sym, ap, ◌∙◌, arith, length-drop}
 use Rattle.std.proofs.lemmas.List.{take-append-drop, length-take-le, take-take}
 use Rattle.arc_buffer.specs.Slice.{sub}
@@ -23,19 +23,22 @@ inlined bytes start end = record {
 abbrev pub all_bytes : Inlined → List ℕ
 all_bytes v = (v.front ++ v.items) ++ v.back
 
--- start to end lies within the array, which has thirty places, and is within the limit
-pub record IsInlined (limit : ℕ) (bytes : List ℕ) (start end : ℕ) : Type 0 where
+-- start to end lies within the array, which has thirty places, and is within the limit; in front of
+-- it stand no words
+pub record IsInlined (limit : ℕ) (words bytes : List ℕ) (start end : ℕ) : Type 0 where
+  pub aligned : words ≡ []
   pub places : length bytes ≡ 30
   pub ordered : start ≤ end
   pub within : end ≤ 30
   pub short : length (sub bytes start end) ≤ limit
 
 -- the array comes back from what is seen of it
-module _ {X : Type 0} (make : List ℕ → ℕ → ℕ → X) where
-  pub put_together : (limit : ℕ) (bytes : List ℕ) (start end : ℕ)
-      → IsInlined limit bytes start end → let v = inlined bytes start end in
-      make (all_bytes v) (length v.front) (length v.front + length v.items) ≡ make bytes start end
-  put_together limit bytes start end is =
+module _ {X : Type 0} (make : List ℕ → List ℕ → ℕ → ℕ → X) where
+  pub put_together : (limit : ℕ) (words bytes : List ℕ) (start end : ℕ)
+      → IsInlined limit words bytes start end → let v = inlined bytes start end in
+      make [] (all_bytes v) (length v.front) (length v.front + length v.items)
+      ≡ make words bytes start end
+  put_together limit words bytes start end is =
       let upto = length-take-le end bytes (omega (arith, is.within, is.places)) in
       let first = length-take-le start bytes (omega (arith, is.ordered, is.within, is.places)) in
       let last : length (take start bytes) + length (sub bytes start end) ≡ end =
@@ -44,6 +47,6 @@ module _ {X : Type 0} (make : List ℕ → ℕ → ℕ → X) where
       ∙ take-append-drop start (take end bytes) in
       let whole = ap (λ xs. xs ++ drop end bytes) cut ∙ take-append-drop end bytes in
       let front = take start bytes in
-      ap (λ xs. make xs (length front) (length front + length (sub bytes start end))) whole
-      ∙ ap (λ n. make bytes n (length front + length (sub bytes start end))) first
-      ∙ ap (λ n. make bytes start n) last
+      ap (λ xs. make [] xs (length front) (length front + length (sub bytes start end))) whole
+      ∙ ap (λ n. make [] bytes n (length front + length (sub bytes start end))) first
+      ∙ ap (λ n. make [] bytes start n) last ∙ ap (λ ws. make ws bytes start end) (sym is.aligned)

@@ -21,14 +21,16 @@ use std::str;
 /// `BoxedSliceLayout`, and 30 under `VecLayout` and `RawLayout`.
 #[derive_where(Clone, Copy)]
 pub struct SmallSlice<S: Slice<Item = u8>, L: Layout = DefaultLayout> {
-    bytes: [u8; 30],
+    // It has no bytes. With it the value begins where a word does, and a copy is one of four words.
+    words: [u64; 0],
     start: u8,
     end: u8,
+    bytes: [u8; 30],
     of: PhantomData<(S, L)>,
 }
 
 impl<S: Slice<Item = u8>, L: Layout> Model for SmallSlice<S, L> {
-    ghost use Rattle.std.specs.Prelude.{◌+◌, length};
+    ghost use Rattle.std.specs.Prelude.{◌+◌, [], length};
     ghost use Rattle.arc_buffer.specs.Slice.{sub};
     ghost use Rattle.arc_block.specs.Inline.{inline_limit};
     ghost use Rattle.arc_block.specs.LayoutFacts.{layout_facts};
@@ -39,19 +41,24 @@ impl<S: Slice<Item = u8>, L: Layout> Model for SmallSlice<S, L> {
 
     ghost view = { λ s. inlined s.bytes s.start s.end };
 
-    ghost invariant = { λ s. IsInlined (inline_limit (layout_facts L.Layout)) s.bytes s.start s.end
-        × ∥ S.is_legal (sub s.bytes s.start s.end) ∥₁ };
+    ghost invariant = { λ s. IsInlined (inline_limit (layout_facts L.Layout)) s.words s.bytes
+        s.start s.end × ∥ S.is_legal (sub s.bytes s.start s.end) ∥₁ };
 
     ghost inverse = { λ v. record {
+      words = [];
       bytes = all_bytes v;
       start = length v.front;
       end = length v.front + length v.items;
       of = record {};
     } };
 
-    ghost inverse_ok = { λ s h. put_together (λ bytes start end.
-        record { bytes = bytes; start = start; end = end; of = record {} })
-        (inline_limit (layout_facts L.Layout)) s.bytes s.start s.end h.0 };
+    ghost inverse_ok = { λ s h. put_together (λ words bytes start end. record {
+      words = words;
+      bytes = bytes;
+      start = start;
+      end = end;
+      of = record {};
+    }) (inline_limit (layout_facts L.Layout)) s.words s.bytes s.start s.end h.0 };
 }
 
 impl<S: Slice<Item = u8>, L: Layout> SmallSlice<S, L> {
@@ -62,6 +69,7 @@ impl<S: Slice<Item = u8>, L: Layout> SmallSlice<S, L> {
         ensures { result.items ≡ [] }
     {
         SmallSlice {
+            words: [],
             bytes: [0; 30],
             start: 0,
             end: 0,
@@ -81,6 +89,7 @@ impl<S: Slice<Item = u8>, L: Layout> SmallSlice<S, L> {
         let mut bytes = [0; 30];
         bytes[..items.len()].copy_from_slice(items);
         Some(SmallSlice {
+            words: [],
             bytes,
             start: 0,
             end: items.len() as u8,
@@ -114,9 +123,10 @@ impl<S: Slice<Item = u8>, L: Layout> SmallSlice<S, L> {
         ensures { result ≡ self.now }
     {
         SmallSlice {
-            bytes: self.bytes,
+            words: self.words,
             start: self.start,
             end: self.end,
+            bytes: self.bytes,
             of: PhantomData,
         }
     }
@@ -207,6 +217,7 @@ impl<S: Slice<Item = u8>, L: Layout> SmallSlice<S, L> {
     }
 
     /// The bytes from `start` to `end`.
+    #[inline(always)]
     pub fn subslice(&self, start: usize, end: usize) -> Self
     where
         S: Subsliceable,

@@ -1,6 +1,6 @@
 //! Clones, cuts and ends of a small window.
 ghost use Rattle.std.specs.Prelude.{◌≡◌, Bool, drop, slice_range, IfOk, IfErr};
-ghost use Rattle.arc_owners.specs.count.Calls.{Leaves, IsPassOfNone, IsNewPass};
+ghost use Rattle.arc_owners.specs.count.Calls.{Leaves};
 ghost use Rattle.arc_buffer.specs.Slice.{IsEdge, IsRange, sub};
 ghost use Rattle.arc_block.specs.Place.{at_owner, moved};
 ghost use Rattle.arc_parts.specs.Steps.{IsPassAt, Shares, Refuses};
@@ -85,10 +85,16 @@ impl<
         ensures refused { IfErr result (λ e. WithNewPass {H = H} H.real self.now.place
             (λ first last. Refuses L.clone_wants self.now.place first last e)) }
     {
-        let mut pass = self.pass();
-        let made = self.try_clone_as(rt, &mut pass);
-        pass.show();
-        made
+        match &self.either {
+            Left(small) => {
+                Pass::<H>::none().show();
+                Ok(Self::from(small.copied()))
+            }
+            Right(window) => match window.try_clone(rt) {
+                Ok(clone) => Ok(Self::from(clone)),
+                Err(e) => Err(e),
+            },
+        }
     }
 
     /// A window over the bytes from `start` to `end`: a copy of a part of a short list, without a
@@ -166,21 +172,15 @@ impl<
         ensures refused { IfErr result (λ e. WithNewPass {H = H} H.real self.now.place (λ old new.
             Refuses L.clone_wants (sub_place L.STATIC (window_of self.now) start end) old new e)) }
     {
-        let mut pass = self.pass();
-        let made = self.try_subslice_as(rt, start, end, &mut pass);
-        pass.show();
-        made
-    }
-
-    /// A new pass of the window's block, and on no block a pass of none. It adds nothing.
-    fn pass(&self) -> Pass<H>
-    where
-        H: Stepping,
-        ensures { at_owner self.now.place (IsPassOfNone result) (λ o. IsNewPass o result) }
-    {
         match &self.either {
-            Left(_) => Pass::none(),
-            Right(window) => window.pass(),
+            Left(small) => {
+                Pass::<H>::none().show();
+                Ok(Self::from(small.subslice(start, end)))
+            }
+            Right(window) => match window.try_subslice(rt, start, end) {
+                Ok(part) => Ok(Self::from(part)),
+                Err(e) => Err(e),
+            },
         }
     }
 

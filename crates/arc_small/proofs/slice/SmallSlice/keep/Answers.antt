@@ -15,7 +15,8 @@ invariant_of-self g c =
     let from = c.args.start in
     let to = c.args.end in
     part_inlined g.S.Slice.is_legal boundary g.met.S.Subsliceable.range_is_legal
-    (inline_limit (layout_facts g.L.Layout)) s.bytes s.start s.end from to c.self.invariant
+    (inline_limit (layout_facts g.L.Layout)) s.words s.bytes s.start s.end from to
+    c.self.invariant
     (subst (λ (v : Inlined). IsRange boundary v.items from to) (sym c.self.view_is) c.requires)
 
 pub returns : goal.returns
@@ -26,7 +27,7 @@ returns g c =
     let to = c.args.end in
     let range = subst (λ (v : Inlined). IsRange boundary v.items from to) (sym c.self.view_is)
     c.requires in
-    let long = inlined_long (inline_limit (layout_facts g.L.Layout)) s.bytes s.start s.end
-    c.self.invariant.0 in
+    let long = inlined_long (inline_limit (layout_facts g.L.Layout)) s.words s.bytes s.start
+    s.end c.self.invariant.0 in
     sym (sub-sub s.bytes s.start s.end from to (omega (arith, long, range.within)))
     ∙ ap (λ (v : Inlined). sub v.items from to) c.self.view_is
