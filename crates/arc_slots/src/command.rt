@@ -60,7 +60,7 @@ pub fn drop_at<
 >(place: &mut Option<Slot<S, L, B, M, A>>, passes: &mut Passes<A>) -> Reply<G>
 where
     L::Writable: LayoutMut,
-    S::Small: SmallOf<S, L, B, M, A>,
+    S::Small: SmallOf<S, L, M, A>,
     requires pass { HasBlockPass passes.old.of_blocks.items (stand_of place.old) }
     requires lives { LivesOn passes.old.of_blocks.items (stand_of place.old) }
     ensures dropped { IfSome place.old (λ s. (setting : Setting S.Item) (next i : ℕ)
@@ -100,7 +100,7 @@ fn turn<
 ) -> (TableReply<S, B, M, A>, Option<Slot<S, L, B, M, A>>)
 where
     L::Writable: LayoutMut,
-    S::Small: SmallOf<S, L, B, M, A>,
+    S::Small: SmallOf<S, L, M, A>,
     requires turns { is_turning command ≡ true }
     requires pass { HasPassFor passes.old.of_blocks.items (stand_of (Some slot)) }
     ensures { (next : ℕ) → Answers ⟦<S as TableUnder<L, A>>⟧.setting next
@@ -158,7 +158,7 @@ fn answer_there<
 ) -> Result<Slot<S, L, B, M, A>, TableReply<S, B, M, A>>
 where
     L::Writable: LayoutMut,
-    S::Small: SmallOf<S, L, B, M, A>,
+    S::Small: SmallOf<S, L, M, A>,
     requires stays { is_turning command ≡ false }
     requires pass { HasPassFor passes.old.of_blocks.items (stand_of (Some slot.old)) }
     ensures made { IfOk result (λ made. (next : ℕ) → Answers ⟦<S as TableUnder<L, A>>⟧.setting next
@@ -223,7 +223,7 @@ pub fn answer<
 ) -> Result<Slot<S, L, B, M, A>, TableReply<S, B, M, A>>
 where
     L::Writable: LayoutMut,
-    S::Small: SmallOf<S, L, B, M, A>,
+    S::Small: SmallOf<S, L, M, A>,
     requires pass { HasPassFor passes.old.of_blocks.items (stand_of place.old) }
     ensures made { IfOk result (λ made. IfSome place.old (λ s. (next : ℕ) → Answers
         ⟦<S as TableUnder<L, A>>⟧.setting next (map_command S.items_in S.static_in B.list command) s

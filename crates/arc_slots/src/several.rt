@@ -148,7 +148,7 @@ impl<S: TableKind, L: Layout, B: BufferMut<S::Item> + Drop, M: Drop, A: Allocato
 >
 where
     L::Writable: LayoutMut,
-    S::Small: SmallOf<S, L, B, M, A>,
+    S::Small: SmallOf<S, L, M, A>,
 {
     /// Items of the window, which is one of several, need no drop. Does nothing: its contract is
     /// the law.
@@ -269,7 +269,7 @@ impl<S: Commands<A>, L: Layout, B: BufferMut<S::Item> + Drop, M: Drop, A: Alloca
 >
 where
     L::Writable: LayoutMut,
-    S::Small: SmallOf<S, L, B, M, A>,
+    S::Small: SmallOf<S, L, M, A>,
 {
     /// The kind has calls for several writers, of whom this window is one. Does nothing: its
     /// contract is the law.

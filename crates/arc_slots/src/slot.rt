@@ -30,7 +30,7 @@ use std::sync::Wait;
 pub struct Slot<S: TableKind, L: Layout, B: BufferMut<S::Item> + Drop, M: Drop, A: Allocator + Copy>
 where
     L::Writable: LayoutMut,
-    S::Small: SmallOf<S, L, B, M, A>,
+    S::Small: SmallOf<S, L, M, A>,
 {
     /// The window, whatever its role.
     pub window: AnyWindow<S, L, L::Writable, B, M, A>,
@@ -42,7 +42,7 @@ impl<S: TableKind, L: Layout, B: BufferMut<S::Item> + Drop, M: Drop, A: Allocato
     for Slot<S, L, B, M, A>
 where
     L::Writable: LayoutMut,
-    S::Small: SmallOf<S, L, B, M, A>,
+    S::Small: SmallOf<S, L, M, A>,
 {
     ghost use Rattle.std.specs.Prelude.{◌≡◌, true};
     ghost use Rattle.arc_slots.specs.Stands.{is_numbered};
@@ -139,7 +139,7 @@ impl<S: TableKind, L: Layout, B: BufferMut<S::Item> + Drop, M: Drop, A: Allocato
 >
 where
     L::Writable: LayoutMut,
-    S::Small: SmallOf<S, L, B, M, A>,
+    S::Small: SmallOf<S, L, M, A>,
 {
     ghost use Rattle.std.specs.Prelude.{◌≡◌, ◌<◌, ◌≤◌, ◌↔◌, length, Bool, false, None, Some};
     ghost use Rattle.std.specs.Prelude.{IfOk, IfErr, IsOk, take, drop, true, is_some, MatchOption};

@@ -34,7 +34,7 @@ pub struct Table<
 >
 where
     L::Writable: LayoutMut,
-    S::Small: SmallOf<S, L, B, M, A>,
+    S::Small: SmallOf<S, L, M, A>,
 {
     slots: Slots<Slot<S, L, B, M, A>, A>,
     passes: Passes<A>,
@@ -50,7 +50,7 @@ impl<
 > Model for Table<S, L, B, M, A>
 where
     L::Writable: LayoutMut,
-    S::Small: SmallOf<S, L, B, M, A>,
+    S::Small: SmallOf<S, L, M, A>,
 {
     ghost use Rattle.arc_block.specs.declared.block.TheConstants.{MAX_OWNERS};
     ghost use Rattle.arc_block.specs.Owned.{IsKept};
@@ -81,7 +81,7 @@ impl<
 > Table<S, L, B, M, A>
 where
     L::Writable: LayoutMut,
-    S::Small: SmallOf<S, L, B, M, A>,
+    S::Small: SmallOf<S, L, M, A>,
 {
     ghost use Rattle.std.specs.Prelude.{◌≡◌, [], None, Some, length, slice_set};
     ghost use Rattle.arc_block.specs.declared.block.TheConstants.{MAX_OWNERS};

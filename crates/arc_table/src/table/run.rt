@@ -19,7 +19,7 @@ impl<
 > Table<S, L, B, M, A>
 where
     L::Writable: LayoutMut,
-    S::Small: SmallOf<S, L, B, M, A>,
+    S::Small: SmallOf<S, L, M, A>,
 {
     ghost use Rattle.arc_commands.specs.RunOf.{RunOf};
     ghost use Rattle.arc_commands.specs.Seen.{map_command, seen_reply};
