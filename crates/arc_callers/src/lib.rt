@@ -19,6 +19,7 @@ pub mod readers;
 pub mod readme;
 pub mod several_passes;
 pub mod several_writers;
+pub mod sizes;
 pub mod small;
 pub mod table;
 pub mod taking_back;
