@@ -377,11 +377,24 @@ where
         ensures row { row_of self.new ≡ after_advance by (row_of self.old) }
         ensures stand { stand_of (Some self.new) ≡ stand_of (Some self.old) }
     {
+        // An exit each: a join of the four has a goal of all.
         match &mut self.window {
-            Held::Read(window) => window.advance(by),
-            Held::Write(window) => window.advance(by),
-            Held::Several(window) => window.advance(by),
-            Held::Small(window) => S::Small::advance(window, by),
+            Held::Read(window) => {
+                window.advance(by);
+                return;
+            }
+            Held::Write(window) => {
+                window.advance(by);
+                return;
+            }
+            Held::Several(window) => {
+                window.advance(by);
+                return;
+            }
+            Held::Small(window) => {
+                S::Small::advance(window, by);
+                return;
+            }
         }
     }
 
