@@ -225,6 +225,7 @@ where
     L::Writable: LayoutMut,
     S::Small: SmallOf<S, L, M, A>,
     requires pass { HasPassFor passes.old.of_blocks.items (stand_of place.old) }
+    requires lives { LivesOn passes.old.of_blocks.items (stand_of place.old) }
     ensures made { IfOk result (λ made. IfSome place.old (λ s. (next : ℕ) → Answers
         ⟦<S as TableUnder<L, A>>⟧.setting next (map_command S.items_in S.static_in B.list command) s
         passes.old.of_blocks.items (reply.New next) place.new (Some made)
