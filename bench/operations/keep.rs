@@ -1,9 +1,15 @@
 //! Where results go that nothing else reads.
+use crate::owned::Item;
+use arc_slice::buffer::Owned;
 use arc_slice::inlined::SmallArcBytes;
-use arc_slice::{ArcBytes, ArcBytesMut};
+use arc_slice::layout::{BoxedSliceLayout, RawLayout, VecLayout};
+use arc_slice::{ArcBytes, ArcBytesMut, ArcBytesShared, ArcSlice};
 use bytes::{Bytes, BytesMut};
 use std::sync::atomic::AtomicU64;
 use std::sync::atomic::Ordering::Relaxed;
+
+/// A window over items that are dropped one by one.
+pub type OwnedReader = ArcSlice<Owned<Item>>;
 
 /// Takes results, so that the loops that make them aren't optimized away.
 pub trait Keep {
@@ -30,6 +36,21 @@ pub trait Keep {
 
     /// Takes a vector.
     fn vector(&self, vec: &Vec<u8>);
+
+    /// Takes a window under the layout of boxes.
+    fn boxed(&self, window: &ArcBytes<BoxedSliceLayout>);
+
+    /// Takes a window under the layout of vectors.
+    fn lone(&self, window: &ArcBytes<VecLayout>);
+
+    /// Takes a window under the layout of Arcs.
+    fn raw(&self, window: &ArcBytes<RawLayout>);
+
+    /// Takes a window of items that are dropped one by one.
+    fn owned(&self, window: &OwnedReader);
+
+    /// Takes a window of one of several writers.
+    fn shared(&self, writer: &ArcBytesShared);
 }
 
 /// Takes all and does nothing.
@@ -66,6 +87,26 @@ impl Keep for Silent {
 
     fn vector(&self, vec: &Vec<u8>) {
         let _ = vec;
+    }
+
+    fn boxed(&self, window: &ArcBytes<BoxedSliceLayout>) {
+        let _ = window;
+    }
+
+    fn lone(&self, window: &ArcBytes<VecLayout>) {
+        let _ = window;
+    }
+
+    fn raw(&self, window: &ArcBytes<RawLayout>) {
+        let _ = window;
+    }
+
+    fn owned(&self, window: &OwnedReader) {
+        let _ = window;
+    }
+
+    fn shared(&self, writer: &ArcBytesShared) {
+        let _ = writer;
     }
 }
 
@@ -106,5 +147,25 @@ impl Keep for Counting {
 
     fn vector(&self, vec: &Vec<u8>) {
         self.given.fetch_add(vec.len() as u64, Relaxed);
+    }
+
+    fn boxed(&self, window: &ArcBytes<BoxedSliceLayout>) {
+        self.given.fetch_add(window.len() as u64, Relaxed);
+    }
+
+    fn lone(&self, window: &ArcBytes<VecLayout>) {
+        self.given.fetch_add(window.len() as u64, Relaxed);
+    }
+
+    fn raw(&self, window: &ArcBytes<RawLayout>) {
+        self.given.fetch_add(window.len() as u64, Relaxed);
+    }
+
+    fn owned(&self, window: &OwnedReader) {
+        self.given.fetch_add(window.len() as u64, Relaxed);
+    }
+
+    fn shared(&self, writer: &ArcBytesShared) {
+        self.given.fetch_add(writer.len() as u64, Relaxed);
     }
 }

@@ -32,6 +32,7 @@ pub fn run(alloc: Global, operation: Operation, count: usize, keep: &dyn Keep) -
         Operation::Back => return vector_back(alloc, count, keep),
         Operation::Reading(reading) => return traits::run_kit(alloc, reading, count, keep),
         Operation::Writer(writing) => return kit_writers::run(alloc, writing, count, keep),
+        _ => return false,
     }
     .is_ok()
 }
@@ -127,7 +128,7 @@ fn cut_shared(
     Ok(())
 }
 
-/// The back of a clone, split off, and the release of both.
+/// The back of a clone, split off, and the release of both, which are handed on.
 #[inline(never)]
 fn split_off(window: &Bytes, count: usize, keep: &dyn Keep) -> Result<(), AllocError>
     requires { 7 ≤ length window.now }
@@ -136,6 +137,7 @@ fn split_off(window: &Bytes, count: usize, keep: &dyn Keep) -> Result<(), AllocE
         let mut front = window.clone()?;
         let back = front.split_off(7)?;
         keep.kit(&back);
+        keep.kit(&front);
     }
     Ok(())
 }

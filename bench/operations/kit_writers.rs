@@ -1,8 +1,8 @@
 //! The loops over the kit's `BytesMut`.
 use crate::keep::Keep;
-use crate::rounds::{LONG, PIECE, PLACES, ROUND, empty_rounds};
+use crate::rounds::{LONG, MILLION, PIECE, PLACES, ROUND, empty_rounds};
 use crate::words::Writing;
-use bytes::{BufMut, BytesMut};
+use bytes::{Buf, BufMut, BytesMut};
 use std::alloc::Global;
 
 /// Runs an operation so often, and answers whether all was done.
@@ -21,7 +21,8 @@ pub fn run(alloc: Global, writing: Writing, count: usize, keep: &dyn Keep) -> bo
         }
         Writing::Push => push(&mut window, count, keep),
         Writing::PushRow => push_row(&mut window, count, keep),
-        Writing::Grow => grow(alloc, count, keep),
+        Writing::Grow => grow(alloc, ROUND, count, keep),
+        Writing::GrowMillion => grow(alloc, MILLION, count, keep),
         Writing::Extend => extend(&mut window, piece, count, keep),
         Writing::ExtendOdd => extend(&mut window, &all[1..len], count, keep),
         Writing::ExtendLong => extend(&mut window, &all[..long], count, keep),
@@ -31,7 +32,8 @@ pub fn run(alloc: Global, writing: Writing, count: usize, keep: &dyn Keep) -> bo
         Writing::Write => window.put_u8(42).is_ok() && write(&mut window, count, keep),
         Writing::ReadBack => read_back(&window, count, keep),
         Writing::Back => vector_back(alloc, count, keep),
-        Writing::Split => window.put_slice(piece).is_ok() && split(window, count, keep),
+        Writing::Advance => advance(&mut window, piece, count, keep),
+        Writing::ReserveRoom => reserve_room(&mut window, count, keep),
         Writing::Reserve => reserve(alloc, piece, count, keep),
     }
 }
@@ -66,12 +68,12 @@ fn push_row(window: &mut BytesMut, count: usize, keep: &dyn Keep) -> bool {
     true
 }
 
-/// Bytes pushed into a window that has no places at first, and its release.
+/// So many bytes pushed into a window that has no places at first, and its release.
 #[inline(never)]
-fn grow(alloc: Global, count: usize, keep: &dyn Keep) -> bool {
+fn grow(alloc: Global, steps: usize, count: usize, keep: &dyn Keep) -> bool {
     for _ in 0..count {
         let mut window = BytesMut::new(alloc);
-        for _ in 0..ROUND {
+        for _ in 0..steps {
             if window.put_u8(42).is_err() {
                 return false;
             }
@@ -96,21 +98,14 @@ fn reserve(alloc: Global, piece: &[u8], count: usize, keep: &dyn Keep) -> bool {
     true
 }
 
-/// Places split between two, and joined.
+/// Room asked for that is there.
 #[inline(never)]
-fn split(window: BytesMut, count: usize, keep: &dyn Keep) -> bool {
-    let mut window = window;
+fn reserve_room(window: &mut BytesMut, count: usize, keep: &dyn Keep) -> bool {
     for _ in 0..count {
-        if window.len() < PIECE {
+        if window.reserve(PIECE).is_err() {
             return false;
         }
-        let Ok(back) = window.split_off(PIECE / 2) else {
-            return false;
-        };
-        keep.kit_writer(&back);
-        if window.unsplit(back).is_err() {
-            return false;
-        }
+        keep.kit_writer(window);
     }
     true
 }
@@ -137,6 +132,24 @@ fn truncate(window: &mut BytesMut, piece: &[u8], count: usize, keep: &dyn Keep) 
     }
     for len in (0..count).rev() {
         window.truncate(len);
+        keep.kit_writer(window);
+    }
+    true
+}
+
+/// Filled, and then a byte less each time, at the front.
+#[inline(never)]
+fn advance(window: &mut BytesMut, piece: &[u8], count: usize, keep: &dyn Keep) -> bool {
+    for _ in 0..ROUND {
+        if window.extend_from_slice(piece).is_err() {
+            return false;
+        }
+    }
+    for _ in 0..count {
+        if window.is_empty() {
+            return false;
+        }
+        window.advance(1);
         keep.kit_writer(window);
     }
     true

@@ -1,19 +1,20 @@
 //! Operations on windows, each run as often as the words say, for callgrind to count.
 //!
-//! `bench_ops SIDE OPERATION COUNT`, where SIDE is `ours`, `ours_vec`, `ours_buf`, `kit`, `vec`,
-//! `inline`, `shared` or `threads1`, `threads2`, `threads4`: the same loops over
-//! `ArcBytes` and `ArcBytesMut` of this repository, on blocks of their own, on vectors and on
-//! callers' buffers, over `Bytes` and `BytesMut` of the kit's `bytes`, of what is written over
-//! `Vec<u8>`, and over `SmallArcBytes` with their bytes in themselves or on a block.
+//! `bench_ops SIDE OPERATION COUNT [second]`: what the sides and operations are, `words` says. The
+//! loops run over windows of this repository, and over what they are compared with: `Bytes` and
+//! `BytesMut` of the kit's `bytes`, and of what is written `Vec<u8>`.
 #![tactic(auto)]
 
+mod at_site;
 mod back;
+mod handed;
 mod keep;
 mod kit;
 mod kit_writers;
 mod ours;
+mod owned;
 mod rounds;
-mod shared;
+mod several;
 mod small;
 mod threads;
 mod traits;
@@ -37,15 +38,20 @@ fn main(rt: HostRuntime) -> ExitCode {
     let keep: &dyn Keep = if words.count == 0 { &counting } else { &Silent };
     let (alloc, count) = (rt.alloc(), words.count);
     let done = match (words.side, words.operation) {
-        (Side::Ours(base), operation) => ours::run(&rt, alloc, base, operation, count, keep),
         (Side::Kit, operation) => kit::run(alloc, operation, count, keep),
         (Side::Vector, Operation::Writer(writing)) => vectors::run(alloc, writing, count, keep),
         (Side::Vector, _) => false,
-        (Side::Inline, operation) => small::run(&rt, alloc, &[42; 20], operation, count, keep),
-        (Side::Shared, operation) => small::run(&rt, alloc, &[42; 128], operation, count, keep),
         (Side::Threads(workers), operation) => {
             threads::run(&rt, alloc, workers, operation, count)
         }
+        (Side::Ours(layout, base), _) => ours::run(&rt, alloc, layout, base, words, keep),
+        (Side::Owned, Operation::Owning(owning)) => owned::run(&rt, alloc, owning, words, keep),
+        (Side::Several, Operation::Sharing(sharing)) => {
+            several::run(&rt, alloc, sharing, words, keep)
+        }
+        (Side::Inline, _) => small::run(&rt, alloc, &[42; 20], words, keep),
+        (Side::Small, _) => small::run(&rt, alloc, &[42; 128], words, keep),
+        (Side::Owned | Side::Several, _) => false,
     };
     ExitCode::from(if done { 0 } else { 1 })
 }

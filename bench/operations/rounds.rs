@@ -13,6 +13,9 @@ pub const LONG: usize = 1000;
 /// How many places hold all long pieces of a round.
 pub const PLACES: usize = 1_048_576;
 
+/// How many bytes growth to a million pushes.
+pub const MILLION: usize = 1_000_000;
+
 /// Nothing but the rounds and their steps.
 #[inline(never)]
 pub fn empty_rounds(count: usize, keep: &dyn Keep) {

@@ -1,35 +1,30 @@
 //! The loops over small windows, whose bytes lie in themselves or on a block.
 ghost use Rattle.std.specs.Prelude.{◌≤◌, length};
 
+use crate::at_site::at_site;
 use crate::keep::Keep;
-use crate::words::Operation;
+use crate::words::{Operation, Words};
 use arc_owners::error::OwnerError;
 use arc_slice::inlined::SmallArcBytes;
 use std::alloc::Global;
 use std::sync::Wait;
 
 /// Runs an operation so often on a window over these bytes, and answers whether all was done.
-pub fn run(
-    rt: &impl Wait,
-    alloc: Global,
-    bytes: &[u8],
-    operation: Operation,
-    count: usize,
-    keep: &dyn Keep,
-) -> bool {
+pub fn run<W: Wait>(rt: &W, alloc: Global, bytes: &[u8], words: Words, keep: &dyn Keep) -> bool {
+    let (count, second) = (words.count, words.second);
     let Ok(window) = SmallArcBytes::try_from_slice(alloc, bytes) else {
         return false;
     };
     if window.check_range(7, 15).is_err() {
         return false;
     }
-    match operation {
+    match words.operation {
         Operation::Loop => Ok(empty_loop(count, keep)),
         Operation::WindowLoop => Ok(window_loop(&window, count, keep)),
-        Operation::CloneShared => clone_shared(rt, &window, count, keep),
-        Operation::ShortCutShared => cut_shared(rt, &window, count, keep),
-        Operation::Make => make(alloc, bytes, count, keep),
-        Operation::Read => Ok(read(&window, count, keep)),
+        Operation::CloneShared => at_site!(second, clone_shared[W](rt, &window, count, keep)),
+        Operation::ShortCutShared => at_site!(second, cut_shared[W](rt, &window, count, keep)),
+        Operation::Make => at_site!(second, make[](alloc, bytes, count, keep)),
+        Operation::Read => Ok(at_site!(second, read[](&window, count, keep))),
         _ => return false,
     }
     .is_ok()
@@ -53,8 +48,8 @@ fn window_loop(window: &SmallArcBytes, count: usize, keep: &dyn Keep) {
 
 /// A clone of a window behind a reference, and its release.
 #[inline(never)]
-fn clone_shared(
-    rt: &impl Wait,
+fn clone_shared<W: Wait, const SITE: usize>(
+    rt: &W,
     window: &SmallArcBytes,
     count: usize,
     keep: &dyn Keep,
@@ -68,8 +63,8 @@ fn clone_shared(
 
 /// A cut of a window behind a reference, and its release.
 #[inline(never)]
-fn cut_shared(
-    rt: &impl Wait,
+fn cut_shared<W: Wait, const SITE: usize>(
+    rt: &W,
     window: &SmallArcBytes,
     count: usize,
     keep: &dyn Keep,
@@ -85,7 +80,12 @@ fn cut_shared(
 
 /// A window over a copy of bytes, and its release.
 #[inline(never)]
-fn make(alloc: Global, bytes: &[u8], count: usize, keep: &dyn Keep) -> Result<(), OwnerError> {
+fn make<const SITE: usize>(
+    alloc: Global,
+    bytes: &[u8],
+    count: usize,
+    keep: &dyn Keep,
+) -> Result<(), OwnerError> {
     for _ in 0..count {
         let window: SmallArcBytes = SmallArcBytes::try_from_slice(alloc, bytes)?;
         keep.small(&window);
@@ -95,7 +95,7 @@ fn make(alloc: Global, bytes: &[u8], count: usize, keep: &dyn Keep) -> Result<()
 
 /// The window's bytes.
 #[inline(never)]
-fn read(window: &SmallArcBytes, count: usize, keep: &dyn Keep) {
+fn read<const SITE: usize>(window: &SmallArcBytes, count: usize, keep: &dyn Keep) {
     for _ in 0..count {
         keep.bytes(window.as_slice());
     }

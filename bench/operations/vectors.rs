@@ -1,6 +1,6 @@
 //! The loops over std's vectors of bytes.
 use crate::keep::Keep;
-use crate::rounds::{LONG, PIECE, PLACES, ROUND, empty_rounds};
+use crate::rounds::{LONG, MILLION, PIECE, PLACES, ROUND, empty_rounds};
 use crate::words::Writing;
 use std::alloc::Global;
 
@@ -20,15 +20,17 @@ pub fn run(alloc: Global, writing: Writing, count: usize, keep: &dyn Keep) -> bo
         }
         Writing::Push => push(&mut vec, count, keep),
         Writing::PushRow => push_row(&mut vec, count, keep),
-        Writing::Grow => grow(alloc, count, keep),
+        Writing::Grow => grow(alloc, ROUND, count, keep),
+        Writing::GrowMillion => grow(alloc, MILLION, count, keep),
         Writing::Extend => extend(&mut vec, piece, count, keep),
         Writing::ExtendOdd => extend(&mut vec, &all[1..len], count, keep),
         Writing::ExtendLong => extend(&mut vec, &all[..long], count, keep),
         Writing::Truncate => truncate(&mut vec, piece, count, keep),
         Writing::Make => make(alloc, count, keep),
-        // A vector can't be frozen, and is one.
-        Writing::Freeze | Writing::Back | Writing::Split => false,
+        // A vector can't be frozen or lose bytes at its front, and is one.
+        Writing::Freeze | Writing::Back | Writing::Advance => false,
         Writing::Reserve => reserve(alloc, piece, count, keep),
+        Writing::ReserveRoom => reserve_room(&mut vec, count, keep),
         Writing::Write => vec.push(42).is_ok() && write(&mut vec, count, keep),
         Writing::ReadBack => read_back(&vec, count, keep),
     }
@@ -64,12 +66,12 @@ fn push_row(vec: &mut Vec<u8>, count: usize, keep: &dyn Keep) -> bool {
     true
 }
 
-/// Bytes pushed into a vector that has no places at first, and its release.
+/// So many bytes pushed into a vector that has no places at first, and its release.
 #[inline(never)]
-fn grow(alloc: Global, count: usize, keep: &dyn Keep) -> bool {
+fn grow(alloc: Global, steps: usize, count: usize, keep: &dyn Keep) -> bool {
     for _ in 0..count {
         let mut vec: Vec<u8> = Vec::new(alloc);
-        for _ in 0..ROUND {
+        for _ in 0..steps {
             if vec.push(42).is_err() {
                 return false;
             }
@@ -102,6 +104,18 @@ fn reserve(alloc: Global, piece: &[u8], count: usize, keep: &dyn Keep) -> bool {
             return false;
         }
         keep.vector(&vec);
+    }
+    true
+}
+
+/// Room asked for that is there.
+#[inline(never)]
+fn reserve_room(vec: &mut Vec<u8>, count: usize, keep: &dyn Keep) -> bool {
+    for _ in 0..count {
+        if vec.reserve(PIECE).is_err() {
+            return false;
+        }
+        keep.vector(vec);
     }
     true
 }

@@ -2,14 +2,14 @@
 ghost use Rattle.std.specs.Prelude.{◌≡◌, ℕ, ◌+◌, ◌≤◌, ◌↔◌, ◌==◌, if◌then◌else◌, Bool, IsOk, IfErr};
 ghost use Rattle.std.specs.Prelude.{false};
 ghost use Rattle.std.specs.Prelude.{List, [], ◌∷◌, ◌++◌, replicate, length};
-ghost use Rattle.std.specs.Mem.{FitsInMemory, type_size};
+ghost use Rattle.std.specs.Mem.{type_size};
 ghost use Rattle.arc_buffer.specs.Slice.{IsEdge, IsRange, sub};
 
+use arc_owners::sizes::type_bytes;
 pub use byte_text::ByteText;
 pub use debug::{DebugItem, DebugSlice};
 pub use owned::Owned;
 pub use plain::Plain;
-use std::alloc::Layout;
 pub use text::{Text, cuts_into_texts};
 pub use vec_in::VecIn;
 pub use wraps::Wraps;
@@ -53,10 +53,9 @@ pub trait Slice {
     /// How many places the first block of a window has that grows from nothing: 8 where an item is
     /// one byte, else 4.
     fn first() -> usize
-        requires { FitsInMemory Self.Item.row }
         ensures { result ≡ (if type_size Self.Item.row == 1 then 8 else 4) }
     {
-        if Layout::new::<Self::Item>().size() == 1 {
+        if type_bytes::<Self::Item>() == 1 {
             8
         } else {
             4

@@ -1,14 +1,15 @@
 //! Callers that are generic: in all parameters of a reader, and in the role of a writer.
-ghost use Rattle.std.specs.Prelude.{◌≡◌, IfOk};
+ghost use Rattle.std.specs.Prelude.{◌++◌, ◌≡◌, IfOk, length, OnOk};
 ghost use Rattle.arc_buffer.specs.Slice.{sub};
 
 use arc_owners::mark::Stepping;
-use arc_slice::buffer::{Buffer, Plain, Subsliceable};
-use arc_slice::error::{OwnerError, RangeError};
-use arc_slice::layout::{DefaultLayoutMut, Layout};
-use arc_slice::{ArcBytesMut, ArcBytesShared, ArcSlice, ArcSliceMut};
+use arc_slice::buffer::{Buffer, BufferMut, CopySlice, Plain, Subsliceable};
+use arc_slice::error::{OwnerError, RangeError, TryReserveError};
+use arc_slice::layout::{DefaultLayoutMut, Layout, LayoutMut};
+use arc_slice::role::{CopyWriterParts, RoleOf};
+use arc_slice::{ArcBytesMut, ArcBytesShared, ArcSlice, Open, WriteWindow};
 use bytes::BufMut;
-use std::alloc::Allocator;
+use std::alloc::{Allocator, Global};
 use std::sync::Wait;
 
 /// The items from `start` to `end`, of a window of any kind, under any layout, over any buffer and
@@ -35,14 +36,59 @@ pub fn part<
 }
 
 /// Whether a line and its end have places behind what a writer has, whichever his role.
-pub fn line_put<const UNIQUE: u8>(
-    window: &mut ArcSliceMut<Plain<u8>, DefaultLayoutMut, UNIQUE>,
+pub fn line_put<R: RoleOf<Plain<u8>, Vec<u8>, (), Global, Open>>(
+    window: &mut WriteWindow<Plain<u8>, DefaultLayoutMut, R>,
     line: &[u8],
-) -> bool {
+) -> bool
+where
+    R::Parts: CopyWriterParts<Plain<u8>, Vec<u8>, (), Global, Open>,
+{
     window.put_slice(line).is_ok() && window.put_u8(10).is_ok()
 }
 
 /// So a sole writer, and one of several.
 pub fn lines_put(sole: &mut ArcBytesMut, several: &mut ArcBytesShared, line: &[u8]) -> [bool; 2] {
     [line_put(sole, line), line_put(several, line)]
+}
+
+/// Puts a copy of the items behind those of a writer, and tells how many there are: items of any
+/// kind, under any layout, over any buffer and with any metadata, in any allocator's memory, and
+/// whichever his role.
+pub fn counted_behind<
+    S: CopySlice,
+    L: LayoutMut,
+    R: RoleOf<S, B, M, A, H>,
+    B: BufferMut<S::Item> + Drop,
+    M: Drop,
+    A: Allocator + Copy,
+    H: Stepping,
+>(
+    window: &mut WriteWindow<S, L, R, B, M, A, H>,
+    items: &[S::Item],
+) -> Result<usize, TryReserveError>
+where
+    S::Item: Copy,
+    R::Parts: CopyWriterParts<S, B, M, A, H>,
+    ensures items { OnOk result (window.new.items ≡ window.old.items ++ items.now) }
+    ensures count { IfOk result (λ n. n ≡ length window.new.items) }
+{
+    match window.try_extend_from_slice(items) {
+        Ok(()) => Ok(window.len()),
+        Err(e) => Err(e),
+    }
+}
+
+/// So with a sole writer, and with one of several.
+pub fn counted_twice(
+    sole: &mut ArcBytesMut,
+    several: &mut ArcBytesShared,
+    bytes: &[u8],
+) -> Result<[usize; 2], TryReserveError> {
+    match counted_behind(sole, bytes) {
+        Ok(first) => match counted_behind(several, bytes) {
+            Ok(second) => Ok([first, second]),
+            Err(e) => Err(e),
+        },
+        Err(e) => Err(e),
+    }
 }

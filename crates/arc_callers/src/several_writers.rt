@@ -38,7 +38,7 @@ pub fn sole(window: ArcBytesShared) -> Result<ArcBytesMut, ArcBytesShared>
 pub fn known(window: &ArcBytesShared)
     ensures { IsSharedPlace window.now.place }
 {
-    window.known_shared_place();
+    window.known_place();
     window.known_kind();
     window.known_uncounted();
 }
@@ -200,7 +200,7 @@ pub fn as_byte_text(bytes: ArcBytesShared) -> ArcBytesShared
 pub fn taken_apart(window: ArcBytesShared) -> ArcBytesShared
     ensures { result ≡ window }
 {
-    ArcSliceMut::from_shared_parts(window.into_shared_parts())
+    ArcSliceMut::from_parts(window.into_parts())
 }
 
 /// Ends a window, which asks first whether it is alone.

@@ -27,7 +27,7 @@ use arc_owners::owners::Pass;
 use arc_write::slice_mut::ArcSliceMut;
 pub use calls::{AllCalls, CallsOf, OwnedCalls, TextCalls};
 pub use setting::TableUnder;
-pub use smalls::{HasSmall, NoSmall, NoWindow, SmallKind, SmallOf, Smalls};
+pub use smalls::{HasSmall, NoSmall, SmallKind, SmallOf, SmallWindow, Smalls};
 use std::alloc::Allocator;
 use std::boxed::{BoxedSlice, BoxedStr};
 use std::sync::Arc;
@@ -38,8 +38,11 @@ pub trait TableKind: Subsliceable {
     /// Whether several may write one block.
     ghost SHARES: { Bool };
 
-    /// `HasSmall` where it has, else `NoSmall`.
+    /// `HasSmall` where it has small windows, else `NoSmall`.
     type Small: Smalls;
+
+    /// The kind of its small windows: itself where it has some, else any of bytes.
+    type Bytes: Emptyable<Item = u8>;
 }
 
 /// The kinds as a table over A has them: what its commands bring, and which of the calls that not
@@ -286,24 +289,32 @@ impl<T: TableItem> TableKind for Plain<T> {
     ghost SHARES = { true };
 
     type Small = T::Small;
+
+    type Bytes = Plain<u8>;
 }
 
 impl TableKind for ByteText {
     ghost SHARES = { true };
 
     type Small = HasSmall;
+
+    type Bytes = ByteText;
 }
 
 impl TableKind for Text {
     ghost SHARES = { true };
 
     type Small = HasSmall;
+
+    type Bytes = Text;
 }
 
 impl<T: Drop> TableKind for Owned<T> {
     ghost SHARES = { false };
 
     type Small = NoSmall;
+
+    type Bytes = Plain<u8>;
 }
 
 impl<T: TableItem, A: Allocator> Commands<A> for Plain<T> {

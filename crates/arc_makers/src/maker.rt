@@ -40,7 +40,7 @@ fn writer<S: Commands<A>, L: Layout, B: BufferMut<S::Item> + Drop, M: Drop, A: A
 ) -> Slot<S, L, B, M, A>
 where
     L::Writable: LayoutMut,
-    S::Small: SmallOf<S, L, B, M, A>,
+    S::Small: SmallOf<S, L, M, A>,
     requires idle { places ≡ 0 → window ≡ idle_writer }
     requires new { 1 ≤ places → IsNewWriter S.DROPS true window.items places window pass }
     requires room { 1 ≤ places
@@ -65,7 +65,7 @@ fn reader<S: Commands<A>, L: Layout, B: BufferMut<S::Item> + Drop, M: Drop, A: A
 ) -> Result<Slot<S, L, B, M, A>, AllocError>
 where
     L::Writable: LayoutMut,
-    S::Small: SmallOf<S, L, B, M, A>,
+    S::Small: SmallOf<S, L, M, A>,
     requires call { S.Calls.calls.copies ≡ true }
     requires legal { ∥ S.is_legal items.now ∥₁ }
     requires room { length passes.old.of_blocks.items < vec_capacity passes.old.of_blocks }
@@ -106,7 +106,7 @@ fn over_copy<S: Commands<A>, L: Layout, B: BufferMut<S::Item> + Drop, M: Drop, A
 ) -> (TableReply<S, B, M, A>, Option<Slot<S, L, B, M, A>>)
 where
     L::Writable: LayoutMut,
-    S::Small: SmallOf<S, L, B, M, A>,
+    S::Small: SmallOf<S, L, M, A>,
     ensures made { Makes ⟦<S as TableUnder<L, A>>⟧.setting next (command.Slice (S.items_in items))
         passes.old.of_blocks.items (seen_reply S.items_in S.items_in_box B.list result.0) result.1
         passes.new.of_blocks.items }
@@ -136,7 +136,7 @@ fn vector<S: Commands<A>, L: Layout, B: BufferMut<S::Item> + Drop, M: Drop, A: A
 ) -> Result<Slot<S, L, B, M, A>, AllocError>
 where
     L::Writable: LayoutMut,
-    S::Small: SmallOf<S, L, B, M, A>,
+    S::Small: SmallOf<S, L, M, A>,
     requires layout { L.ANY ≡ true }
     requires legal { ∥ S.is_legal items.items ∥₁ }
     requires room { length passes.old.of_blocks.items < vec_capacity passes.old.of_blocks }
@@ -173,7 +173,7 @@ fn over_vec<S: Commands<A>, L: Layout, B: BufferMut<S::Item> + Drop, M: Drop, A:
 ) -> (TableReply<S, B, M, A>, Option<Slot<S, L, B, M, A>>)
 where
     L::Writable: LayoutMut,
-    S::Small: SmallOf<S, L, B, M, A>,
+    S::Small: SmallOf<S, L, M, A>,
     ensures made { Makes ⟦<S as TableUnder<L, A>>⟧.setting next (command.Vec (S.items_in items))
         passes.old.of_blocks.items (seen_reply S.items_in S.items_in_box B.list result.0) result.1
         passes.new.of_blocks.items }
@@ -216,7 +216,7 @@ fn buffer_reader<
 ) -> Result<Slot<S, L, B, M, A>, AllocError>
 where
     L::Writable: LayoutMut,
-    S::Small: SmallOf<S, L, B, M, A>,
+    S::Small: SmallOf<S, L, M, A>,
     requires layout { L.ANY ≡ true }
     requires call { S.Calls.calls.any_list ≡ true }
     requires room { length passes.old.of_blocks.items < vec_capacity passes.old.of_blocks }
@@ -255,7 +255,7 @@ fn over_buffer<
 ) -> (TableReply<S, B, M, A>, Option<Slot<S, L, B, M, A>>)
 where
     L::Writable: LayoutMut,
-    S::Small: SmallOf<S, L, B, M, A>,
+    S::Small: SmallOf<S, L, M, A>,
     ensures made { Makes ⟦<S as TableUnder<L, A>>⟧.setting next
         (command.Buf (B.list given) metadata) passes.old.of_blocks.items
         (seen_reply S.items_in S.items_in_box B.list result.0) result.1 passes.new.of_blocks.items }
@@ -294,7 +294,7 @@ fn buffer_writer<
 ) -> Result<Slot<S, L, B, M, A>, AllocError>
 where
     L::Writable: LayoutMut,
-    S::Small: SmallOf<S, L, B, M, A>,
+    S::Small: SmallOf<S, L, M, A>,
     requires layout { L.Writable.ANY ≡ true }
     requires call { S.Calls.calls.any_list ≡ true }
     requires room { length passes.old.of_blocks.items < vec_capacity passes.old.of_blocks }
@@ -333,7 +333,7 @@ fn over_written_buffer<
 ) -> (TableReply<S, B, M, A>, Option<Slot<S, L, B, M, A>>)
 where
     L::Writable: LayoutMut,
-    S::Small: SmallOf<S, L, B, M, A>,
+    S::Small: SmallOf<S, L, M, A>,
     ensures made { Makes ⟦<S as TableUnder<L, A>>⟧.setting next
         (command.MBuf (B.list given) metadata) passes.old.of_blocks.items
         (seen_reply S.items_in S.items_in_box B.list result.0) result.1 passes.new.of_blocks.items }
@@ -367,7 +367,7 @@ fn raw_reader<
 >(alloc: A, shared: Arc<B, A>, passes: &mut Passes<A>) -> Result<Slot<S, L, B, M, A>, AllocError>
 where
     L::Writable: LayoutMut,
-    S::Small: SmallOf<S, L, B, M, A>,
+    S::Small: SmallOf<S, L, M, A>,
     requires layout { L.ANY ≡ true }
     requires call { S.Calls.calls.any_list ≡ true }
     requires room { length passes.old.of_blocks.items < vec_capacity passes.old.of_blocks }
@@ -403,7 +403,7 @@ fn over_raw<S: Commands<A>, L: Layout, B: BufferMut<S::Item> + Drop, M: Drop, A:
 ) -> (TableReply<S, B, M, A>, Option<Slot<S, L, B, M, A>>)
 where
     L::Writable: LayoutMut,
-    S::Small: SmallOf<S, L, B, M, A>,
+    S::Small: SmallOf<S, L, M, A>,
     ensures made { Makes ⟦<S as TableUnder<L, A>>⟧.setting next (command.Raw (B.list given))
         passes.old.of_blocks.items (seen_reply S.items_in S.items_in_box B.list result.0) result.1
         passes.new.of_blocks.items }
@@ -446,7 +446,7 @@ fn over_static<
 ) -> (TableReply<S, B, M, A>, Option<Slot<S, L, B, M, A>>)
 where
     L::Writable: LayoutMut,
-    S::Small: SmallOf<S, L, B, M, A>,
+    S::Small: SmallOf<S, L, M, A>,
     ensures made { Makes ⟦<S as TableUnder<L, A>>⟧.setting next (command.Static (S.static_in items))
         passes.old.of_blocks.items (seen_reply S.items_in S.items_in_box B.list result.0) result.1
         passes.new.of_blocks.items }
@@ -475,7 +475,7 @@ fn idle<S: Commands<A>, L: Layout, B: BufferMut<S::Item> + Drop, M: Drop, A: All
 ) -> (TableReply<S, B, M, A>, Option<Slot<S, L, B, M, A>>)
 where
     L::Writable: LayoutMut,
-    S::Small: SmallOf<S, L, B, M, A>,
+    S::Small: SmallOf<S, L, M, A>,
     ensures made { Makes ⟦<S as TableUnder<L, A>>⟧.setting next command.New
         passes.old.of_blocks.items (seen_reply S.items_in S.items_in_box B.list result.0) result.1
         passes.new.of_blocks.items }
@@ -508,7 +508,7 @@ fn with_places<
 ) -> (TableReply<S, B, M, A>, Option<Slot<S, L, B, M, A>>)
 where
     L::Writable: LayoutMut,
-    S::Small: SmallOf<S, L, B, M, A>,
+    S::Small: SmallOf<S, L, M, A>,
     ensures made { Makes ⟦<S as TableUnder<L, A>>⟧.setting next (command.Cap places)
         passes.old.of_blocks.items (seen_reply S.items_in S.items_in_box B.list result.0) result.1
         passes.new.of_blocks.items }
@@ -544,7 +544,7 @@ fn over_zeros<
 ) -> (TableReply<S, B, M, A>, Option<Slot<S, L, B, M, A>>)
 where
     L::Writable: LayoutMut,
-    S::Small: SmallOf<S, L, B, M, A>,
+    S::Small: SmallOf<S, L, M, A>,
     ensures made { Makes ⟦<S as TableUnder<L, A>>⟧.setting next (command.Zero count)
         passes.old.of_blocks.items (seen_reply S.items_in S.items_in_box B.list result.0) result.1
         passes.new.of_blocks.items }
@@ -586,7 +586,7 @@ fn over_written_copy<
 ) -> (TableReply<S, B, M, A>, Option<Slot<S, L, B, M, A>>)
 where
     L::Writable: LayoutMut,
-    S::Small: SmallOf<S, L, B, M, A>,
+    S::Small: SmallOf<S, L, M, A>,
     ensures made { Makes ⟦<S as TableUnder<L, A>>⟧.setting next (command.MSlice (S.items_in items))
         passes.old.of_blocks.items (seen_reply S.items_in S.items_in_box B.list result.0) result.1
         passes.new.of_blocks.items }
@@ -634,7 +634,7 @@ pub fn make<S: Commands<A>, L: Layout, B: BufferMut<S::Item> + Drop, M: Drop, A:
 ) -> (TableReply<S, B, M, A>, Option<Slot<S, L, B, M, A>>)
 where
     L::Writable: LayoutMut,
-    S::Small: SmallOf<S, L, B, M, A>,
+    S::Small: SmallOf<S, L, M, A>,
     ensures made { Makes ⟦<S as TableUnder<L, A>>⟧.setting next
         (map_command S.items_in S.static_in B.list command) passes.old.of_blocks.items
         (seen_reply S.items_in S.items_in_box B.list result.0) result.1 passes.new.of_blocks.items }

@@ -6,8 +6,8 @@
 //! writers (`LentPlaces`), who may freeze their items for readers (`FrozenPlaces`). Memory that is
 //! lent for the lease of a block's owners has several writers (`WriterPart`) and readers
 //! (`FrozenReader`), and leaves in the counted box what is kept for its end (`Kept`). Memory of our
-//! own is one piece (`Piece`): in front the room for a header, in which that box lies, and behind it
-//! the places. It is one writer's (`WriterMemory`), who lends its places and has them back, and
+//! own is one piece (`Piece`): in front the room for a header, in which that box lies, and behind
+//! it the places. It is one writer's (`WriterMemory`), who lends its places and has them back, and
 //! moves no item for it.
 #![tactic(auto)]
 

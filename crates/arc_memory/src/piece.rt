@@ -2,7 +2,6 @@
 ghost use Rattle.std.specs.Prelude.{◌≡◌, ◌*◌, ◌^◌, ◌<◌, [], IfOk, IfSome};
 ghost use Rattle.core.specs.Mem.{type_size};
 ghost use Rattle.arc_memory.specs.Pieces.{head_size, in_units};
-ghost use prog.Memory.{capped};
 
 use crate::head_size::HeadSize;
 use crate::header_block::HeaderBlock;
@@ -10,8 +9,8 @@ use crate::piece_right::PieceRight;
 use crate::places::Places;
 use arc_owners::error::AllocError;
 use arc_owners::owners::HeaderRoom;
+use arc_owners::sizes::type_bytes;
 use std::alloc::Allocator;
-use std::mem::size_of;
 
 /// The right to free one piece of memory, whose header's room and whose places are owned apart.
 /// Neither copied nor dropped.
@@ -46,7 +45,7 @@ impl<T, A: Allocator> Piece<T, A> {
         ensures places { IfOk result (λ r. IsAllOfPiece r.3 r.2 × (r.3.items ≡ [])
             × (r.1 ≡ piece_base r.2) × (r.2.count ≡ count)) }
     {
-        let Some(front) = rounded(header_bytes::<X>()) else {
+        let Some(front) = rounded(type_bytes::<X>()) else {
             return Err(AllocError);
         };
         let Some(places) = places_bytes::<T>(count) else {
@@ -94,8 +93,7 @@ impl<T, A: Allocator> Piece<T, A> {
             alloc,
         } = self;
         let block = right.whole(room, head, places);
-        let bytes = (header_bytes::<X>() + 15) / 16 * 16
-            + (count * header_bytes::<T>() + 15) / 16 * 16;
+        let bytes = (type_bytes::<X>() + 15) / 16 * 16 + (count * type_bytes::<T>() + 15) / 16 * 16;
         block.free(&alloc, bytes);
     }
 }
@@ -119,12 +117,5 @@ fn places_bytes<T>(count: usize) -> Option<usize>
     if count > isize::MAX as usize {
         return None;
     }
-    rounded(count.checked_mul(header_bytes::<T>())?)
-}
-
-/// How many bytes a value takes.
-fn header_bytes<X>() -> usize
-    ensures { result ≡ capped (type_size X.row) }
-{
-    size_of::<X>()
+    rounded(count.checked_mul(type_bytes::<T>())?)
 }

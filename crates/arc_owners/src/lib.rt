@@ -11,3 +11,4 @@ pub mod lifetime;
 pub mod mark;
 mod memory;
 pub mod owners;
+pub mod sizes;

@@ -1,13 +1,13 @@
 //! Room for more items: where it comes from.
 ghost use Rattle.std.specs.Prelude.{◌≡◌, ◌≤◌, ◌+◌, ◌-◌, true, false, not};
-ghost use Rattle.std.specs.Mem.{FitsInMemory, type_size};
+ghost use Rattle.std.specs.Mem.{type_size};
 ghost use Rattle.arc_block.specs.Block.{memory_info, memory_sort};
 ghost use Rattle.arc_parts.specs.Room.{growth, vector_room, is_too_large, room_in as room_by};
 ghost use Rattle.arc_parts.specs.Room.{IfBehind, IfGrowth, IfFront, IfOwn};
 
 use arc_buffer::kinds::Slice;
 use arc_owners::error::TryReserveError;
-use std::alloc::Layout;
+use arc_owners::sizes::type_bytes;
 
 /// Where room for more items comes from.
 #[derive(Drop)]
@@ -33,10 +33,9 @@ pub const MOST: usize = 9223372036854775807;
 
 /// Whether so many places are no more than a block has at most, also in bytes.
 fn has_room<T>(places: usize) -> bool
-    requires { FitsInMemory T.row }
     ensures { result ≡ not (is_too_large (type_size T.row) places) }
 {
-    match places.checked_mul(Layout::new::<T>().size()) {
+    match places.checked_mul(type_bytes::<T>()) {
         Some(bytes) => places <= MOST && bytes <= MOST,
         None => false,
     }
@@ -44,7 +43,6 @@ fn has_room<T>(places: usize) -> bool
 
 /// Room by growth of a block of `size` places, for so many items behind `end`.
 fn growth_to<T>(is_vector: bool, size: usize, end: usize, additional: usize) -> Room
-    requires { FitsInMemory T.row }
     ensures room { result ≡ growth (memory_sort is_vector) (type_size T.row) size end additional }
     ensures memory { IfOwn result ⊥ }
 {
@@ -56,7 +54,7 @@ fn growth_to<T>(is_vector: bool, size: usize, end: usize, additional: usize) -> 
     if is_vector {
         return vector_growth::<T>(places, needed);
     }
-    match places.checked_mul(Layout::new::<T>().size()) {
+    match places.checked_mul(type_bytes::<T>()) {
         Some(bytes) if needed <= MOST && bytes <= MOST => Room::Growth(places),
         _ => Room::Refused(TryReserveError::CapacityOverflow),
     }
@@ -65,7 +63,6 @@ fn growth_to<T>(is_vector: bool, size: usize, end: usize, additional: usize) -> 
 /// Room by growth of a vector, to so many places, or to those that are needed where that is too
 /// much.
 fn vector_growth<T>(places: usize, needed: usize) -> Room
-    requires { FitsInMemory T.row }
     ensures room { result ≡ vector_room (type_size T.row) places needed }
     ensures memory { IfOwn result ⊥ }
 {
@@ -89,7 +86,6 @@ pub fn room_in<S: Slice>(
     len: usize,
     additional: usize,
 ) -> Room
-    requires item { FitsInMemory S.Item.row }
     requires within { (offset + len ≤ full) × (full ≤ size) }
     ensures room { result ≡ room_by {M = Unit {0}} S.DROPS (type_size S.Item.row)
         (memory_info (memory_sort is_vector) S.DROPS size full) offset len additional }

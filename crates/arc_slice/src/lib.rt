@@ -7,7 +7,7 @@ pub use arc_owners::owners::Pass;
 pub use arc_read::borrow::ArcSliceBorrow;
 pub use arc_read::slice::ArcSlice;
 pub use arc_write::slice_mut::{
-    ArcBytesMut, ArcBytesShared, ArcSliceMut, ArcStrMut, ArcStrShared, IntoMut,
+    ArcBytesMut, ArcBytesShared, ArcSliceMut, ArcStrMut, ArcStrShared, IntoMut, WriteWindow,
 };
 pub use borrow::{ArcByteTextBorrow, ArcBytesBorrow, ArcStrBorrow};
 pub use slice::{ArcByteText, ArcBytes, ArcStr};
@@ -17,4 +17,5 @@ pub mod buffer;
 pub mod error;
 pub mod inlined;
 pub mod layout;
+pub mod role;
 mod slice;

@@ -1,6 +1,5 @@
 //! What the window of a slot is answered to a command: each call of its window, with the tests that
 //! come before it.
-ghost use Rattle.std.specs.Mem.{FitsInMemory};
 
 use crate::passes::Passes;
 use crate::slot::{Slot, Writing};
@@ -21,7 +20,7 @@ impl<S: Commands<A>, L: Layout, B: BufferMut<S::Item> + Drop, M: Drop, A: Alloca
 >
 where
     L::Writable: LayoutMut,
-    S::Small: SmallOf<S, L, B, M, A>,
+    S::Small: SmallOf<S, L, M, A>,
 {
     ghost use Rattle.std.specs.Prelude.{◌≡◌, ℕ, None, Some, true, is_some, length, IfOk};
     ghost use Rattle.arc_commands.specs.Seen.{seen_reply};
@@ -129,7 +128,6 @@ where
         additional: usize,
         passes: &mut Passes<A>,
     ) -> TableReply<S, B, M, A>
-        requires item { FitsInMemory S.Item.row }
         requires pass { HasPassFor passes.old.of_blocks.items (stand_of (Some self.old)) }
         ensures { (next i : ℕ) → Answers ⟦<S as TableUnder<L, A>>⟧.setting next
             (command.Res i additional) self.old passes.old.of_blocks.items
@@ -142,7 +140,6 @@ where
     /// Puts an item behind those of the window.
     #[inline(never)]
     pub(crate) fn push(&mut self, item: S::Item, passes: &mut Passes<A>) -> TableReply<S, B, M, A>
-        requires item { FitsInMemory S.Item.row }
         requires pass { HasPassFor passes.old.of_blocks.items (stand_of (Some self.old)) }
         ensures { (next i : ℕ) → Answers ⟦<S as TableUnder<L, A>>⟧.setting next
             (command.Push i item) self.old passes.old.of_blocks.items
@@ -159,7 +156,6 @@ where
         items: Vec<S::Item, A>,
         passes: &mut Passes<A>,
     ) -> TableReply<S, B, M, A>
-        requires item { FitsInMemory S.Item.row }
         requires legal { ∥ S.is_legal items.items ∥₁ }
         requires pass { HasPassFor passes.old.of_blocks.items (stand_of (Some self.old)) }
         ensures { (next i : ℕ) → Answers ⟦<S as TableUnder<L, A>>⟧.setting next
@@ -178,7 +174,6 @@ where
         what: Writing<Vec<S::Item, A>, S::Item>,
         passes: &mut Passes<A>,
     ) -> TableReply<S, B, M, A>
-        requires item { FitsInMemory S.Item.row }
         requires legal { IsLegal S.is_legal (seen_writing what) }
         requires pass { HasPassFor passes.old.of_blocks.items (stand_of (Some self.old)) }
         ensures { (next i : ℕ) → Answers ⟦<S as TableUnder<L, A>>⟧.setting next
@@ -211,7 +206,6 @@ where
         additional: usize,
         passes: &mut Passes<A>,
     ) -> TableReply<S, B, M, A>
-        requires item { FitsInMemory S.Item.row }
         requires pass { HasPassFor passes.old.of_blocks.items (stand_of (Some self.old)) }
         ensures { (next i : ℕ) → Answers ⟦<S as TableUnder<L, A>>⟧.setting next
             (command.Rec i additional) self.old passes.old.of_blocks.items
@@ -323,7 +317,7 @@ impl<S: TableKind, L: Layout, B: BufferMut<S::Item> + Drop, M: Drop, A: Allocato
 >
 where
     L::Writable: LayoutMut,
-    S::Small: SmallOf<S, L, B, M, A>,
+    S::Small: SmallOf<S, L, M, A>,
 {
     ghost use Rattle.std.specs.Prelude.{◌≡◌, ℕ, None, Some, length};
     ghost use Rattle.arc_commands.specs.Changes.{Setting};

@@ -1,5 +1,4 @@
 //! What the window of one of several writers is answered to a command, or who is to be one.
-ghost use Rattle.std.specs.Mem.{FitsInMemory};
 
 use crate::part::Part;
 use crate::passes::Passes;
@@ -22,7 +21,7 @@ impl<S: Commands<A>, L: Layout, B: BufferMut<S::Item> + Drop, M: Drop, A: Alloca
 >
 where
     L::Writable: LayoutMut,
-    S::Small: SmallOf<S, L, B, M, A>,
+    S::Small: SmallOf<S, L, M, A>,
 {
     ghost use Rattle.std.specs.Prelude.{◌≡◌, ◌<◌, ℕ, None, Some, true, length};
     ghost use Rattle.std.specs.Prelude.{IfErr, IfOk, IsOk};
@@ -181,7 +180,6 @@ where
         what: Writing<Vec<S::Item, A>, S::Item>,
         passes: &mut Passes<A>,
     ) -> TableReply<S, B, M, A>
-        requires item { FitsInMemory S.Item.row }
         requires legal { IsLegal S.is_legal (seen_writing what) }
         requires role { is_several self.old.role ≡ true }
         requires pass { HasPassFor passes.old.of_blocks.items (stand_of (Some self.old)) }
@@ -211,7 +209,6 @@ where
         additional: usize,
         passes: &mut Passes<A>,
     ) -> TableReply<S, B, M, A>
-        requires item { FitsInMemory S.Item.row }
         requires role { is_several self.old.role ≡ true }
         requires pass { HasPassFor passes.old.of_blocks.items (stand_of (Some self.old)) }
         ensures { (next i : ℕ) → Answers ⟦<S as TableUnder<L, A>>⟧.setting next

@@ -1,7 +1,6 @@
 //! A command on the window under one number of a table.
 ghost use Rattle.std.specs.Prelude.{◌≡◌, ℕ, None, Some, false, true, length, IfSome};
 ghost use Rattle.std.specs.Prelude.{Err, IfErr, IfOk, IsOk};
-ghost use Rattle.std.specs.Mem.{FitsInMemory};
 ghost use Rattle.arc_commands.specs.Seen.{map_command, seen_reply};
 ghost use Rattle.arc_commands.specs.Changes.{Setting};
 ghost use Rattle.arc_commands.specs.declared.command.Cmd.TheVariants as command;
@@ -61,7 +60,7 @@ pub fn drop_at<
 >(place: &mut Option<Slot<S, L, B, M, A>>, passes: &mut Passes<A>) -> Reply<G>
 where
     L::Writable: LayoutMut,
-    S::Small: SmallOf<S, L, B, M, A>,
+    S::Small: SmallOf<S, L, M, A>,
     requires pass { HasBlockPass passes.old.of_blocks.items (stand_of place.old) }
     requires lives { LivesOn passes.old.of_blocks.items (stand_of place.old) }
     ensures dropped { IfSome place.old (λ s. (setting : Setting S.Item) (next i : ℕ)
@@ -101,7 +100,7 @@ fn turn<
 ) -> (TableReply<S, B, M, A>, Option<Slot<S, L, B, M, A>>)
 where
     L::Writable: LayoutMut,
-    S::Small: SmallOf<S, L, B, M, A>,
+    S::Small: SmallOf<S, L, M, A>,
     requires turns { is_turning command ≡ true }
     requires pass { HasPassFor passes.old.of_blocks.items (stand_of (Some slot)) }
     ensures { (next : ℕ) → Answers ⟦<S as TableUnder<L, A>>⟧.setting next
@@ -159,9 +158,8 @@ fn answer_there<
 ) -> Result<Slot<S, L, B, M, A>, TableReply<S, B, M, A>>
 where
     L::Writable: LayoutMut,
-    S::Small: SmallOf<S, L, B, M, A>,
+    S::Small: SmallOf<S, L, M, A>,
     requires stays { is_turning command ≡ false }
-    requires item { FitsInMemory S.Item.row }
     requires pass { HasPassFor passes.old.of_blocks.items (stand_of (Some slot.old)) }
     ensures made { IfOk result (λ made. (next : ℕ) → Answers ⟦<S as TableUnder<L, A>>⟧.setting next
         (map_command S.items_in S.static_in B.list command) slot.old passes.old.of_blocks.items
@@ -225,9 +223,9 @@ pub fn answer<
 ) -> Result<Slot<S, L, B, M, A>, TableReply<S, B, M, A>>
 where
     L::Writable: LayoutMut,
-    S::Small: SmallOf<S, L, B, M, A>,
-    requires item { FitsInMemory S.Item.row }
+    S::Small: SmallOf<S, L, M, A>,
     requires pass { HasPassFor passes.old.of_blocks.items (stand_of place.old) }
+    requires lives { LivesOn passes.old.of_blocks.items (stand_of place.old) }
     ensures made { IfOk result (λ made. IfSome place.old (λ s. (next : ℕ) → Answers
         ⟦<S as TableUnder<L, A>>⟧.setting next (map_command S.items_in S.static_in B.list command) s
         passes.old.of_blocks.items (reply.New next) place.new (Some made)

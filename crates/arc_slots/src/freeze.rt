@@ -36,7 +36,7 @@ fn freeze_window<
 ) -> Result<ArcSlice<S, L, B, M, A, Whole>, AnyWindow<S, L, L::Writable, B, M, A>>
 where
     L::Writable: LayoutMut,
-    S::Small: SmallOf<S, L, B, M, A>,
+    S::Small: SmallOf<S, L, M, A>,
     requires writes { is_writer (role_in window) ≡ true }
     requires pass { IsPassAt (window_in S.Small.seen window).place pass.old }
     ensures frozen { IfOk result (λ made. Freezes (layout_facts L.Layout) S.DROPS true
@@ -56,7 +56,7 @@ where
             }
         }
         Held::Several(window) => {
-            window.known_shared_place();
+            window.known_place();
             match window.try_freeze_as::<L>(pass) {
                 Ok(made) => Ok(made),
                 Err(window) => Err(Held::Several(window)),
@@ -76,7 +76,7 @@ impl<S: TableKind, L: Layout, B: BufferMut<S::Item> + Drop, M: Drop, A: Allocato
 >
 where
     L::Writable: LayoutMut,
-    S::Small: SmallOf<S, L, B, M, A>,
+    S::Small: SmallOf<S, L, M, A>,
 {
     /// Whether a first block has to be made for the window, which is written, to be read: it stands
     /// on none, and the layout has no static data.
@@ -87,7 +87,7 @@ where
     {
         match &self.window {
             Held::Write(window) => window.known_place(),
-            Held::Several(window) => window.known_shared_place(),
+            Held::Several(window) => window.known_place(),
             Held::Read(_) | Held::Small(_) => unreachable!(),
         }
         self.block.is_none() && !L::STATIC

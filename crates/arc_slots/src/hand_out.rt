@@ -20,7 +20,7 @@ impl<S: Commands<A>, L: Layout, B: BufferMut<S::Item> + Drop, M: Drop, A: Alloca
 >
 where
     L::Writable: LayoutMut,
-    S::Small: SmallOf<S, L, B, M, A>,
+    S::Small: SmallOf<S, L, M, A>,
 {
     ghost use Rattle.std.specs.Prelude.{◌≡◌, ℕ, None, Some, true, IfErr, IfOk, IsOk};
     ghost use Rattle.arc_commands.specs.Seen.{seen_reply};

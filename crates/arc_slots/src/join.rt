@@ -42,7 +42,7 @@ pub fn join_at<
 ) -> TableReply<S, B, M, A>
 where
     L::Writable: LayoutMut,
-    S::Small: SmallOf<S, L, B, M, A>,
+    S::Small: SmallOf<S, L, M, A>,
     requires pass { HasPassFor passes.old.of_blocks.items (stand_of place.old) }
     requires other_pass { HasPassFor passes.old.of_blocks.items (stand_of other.old) }
     ensures joined { IfSome place.old (λ s. IfSome other.old (λ o. (i j : ℕ) → (i == j) ≡ false
@@ -74,7 +74,7 @@ impl<S: Commands<A>, L: Layout, B: BufferMut<S::Item> + Drop, M: Drop, A: Alloca
 >
 where
     L::Writable: LayoutMut,
-    S::Small: SmallOf<S, L, B, M, A>,
+    S::Small: SmallOf<S, L, M, A>,
 {
     /// Whether the two windows stand on two blocks.
     pub fn is_apart(&self, other: &Self) -> bool
@@ -128,8 +128,8 @@ where
         let Held::Several(its_window) = its_window else {
             unreachable!()
         };
-        window.known_shared_place();
-        its_window.known_shared_place();
+        window.known_place();
+        its_window.known_place();
         let mut back = Some(its_window);
         let mut pass = passes.lend(block);
         let joined = S::Calls::try_unsplit_as(window, &mut back, &mut pass);

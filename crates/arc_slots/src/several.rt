@@ -1,7 +1,7 @@
 //! The window of one of several writers on a block.
 ghost use Rattle.std.specs.Prelude.{◌≡◌, ◌<◌, true, false, length, Err, Some};
 ghost use Rattle.std.specs.Prelude.{IfErr, IfOk, OnErr, OnOk};
-ghost use Rattle.std.specs.Mem.{FitsInMemory, type_size};
+ghost use Rattle.std.specs.Mem.{type_size};
 ghost use Rattle.std.specs.Vec.{vec_capacity};
 ghost use Rattle.arc_owners.specs.declared.error.OwnerError.TheVariants.{AllocError as no_memory};
 ghost use Rattle.arc_owners.specs.declared.mark.Whole.{Whole as whole_mark};
@@ -54,7 +54,6 @@ fn write_beside_as<
     requires shares { S.Calls.calls.shares ≡ true }
     requires call { can_write S.Calls.calls (seen_writing what) ≡ true }
     requires legal { IsLegal S.is_legal (seen_writing what) }
-    requires item { FitsInMemory S.Item.row }
     requires pass { IsPassAt window.old.place pass.old }
     ensures written { OnOk result (PushesShared
         (asks_alone window.old (additional_of (seen_writing what))) true
@@ -149,7 +148,7 @@ impl<S: TableKind, L: Layout, B: BufferMut<S::Item> + Drop, M: Drop, A: Allocato
 >
 where
     L::Writable: LayoutMut,
-    S::Small: SmallOf<S, L, B, M, A>,
+    S::Small: SmallOf<S, L, M, A>,
 {
     /// Items of the window, which is one of several, need no drop. Does nothing: its contract is
     /// the law.
@@ -241,7 +240,6 @@ where
     ///
     /// On a block, where the window hasn't the places already, Alone with the answer.
     pub fn try_reclaim_beside(&mut self, additional: usize, passes: &mut Passes<A>) -> bool
-        requires item { FitsInMemory S.Item.row }
         requires role { is_several self.old.role ≡ true }
         requires pass { HasPassFor passes.old.of_blocks.items (stand_of (Some self.old)) }
         ensures row { RoomBeside (asks_alone (row_of self.old) additional)
@@ -271,7 +269,7 @@ impl<S: Commands<A>, L: Layout, B: BufferMut<S::Item> + Drop, M: Drop, A: Alloca
 >
 where
     L::Writable: LayoutMut,
-    S::Small: SmallOf<S, L, B, M, A>,
+    S::Small: SmallOf<S, L, M, A>,
 {
     /// The kind has calls for several writers, of whom this window is one. Does nothing: its
     /// contract is the law.
@@ -433,7 +431,6 @@ where
     ) -> Result<(), TryReserveError>
         requires call { can_write S.Calls.calls (seen_writing what) ≡ true }
         requires legal { IsLegal S.is_legal (seen_writing what) }
-        requires item { FitsInMemory S.Item.row }
         requires role { is_several self.old.role ≡ true }
         requires room { is_fresh (room_for S.DROPS (type_size S.Item.row) (row_of self.old)
             (additional_of (seen_writing what))) ≡ true
@@ -451,7 +448,7 @@ where
         let Held::Several(window) = &mut self.window else {
             unreachable!()
         };
-        window.known_shared_place();
+        window.known_place();
         let mut pass = passes.lend(block);
         match write_beside_as(window, what, &mut pass) {
             Ok(()) => {

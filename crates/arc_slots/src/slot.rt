@@ -1,7 +1,7 @@
 //! One window of a table.
 ghost use Rattle.std.specs.Prelude.{◌≡◌, ◌==◌, ◌&&◌, if◌then◌else◌, Bool, None, true, IfErr, OnOk};
 ghost use Rattle.std.specs.Prelude.{Err};
-ghost use Rattle.std.specs.Mem.{FitsInMemory, type_size};
+ghost use Rattle.std.specs.Mem.{type_size};
 ghost use Rattle.arc_parts.specs.Steps.{IsPassAt};
 ghost use Rattle.arc_parts.specs.Writers.{room_for, MakesRoom, Pushes};
 ghost use Rattle.arc_slots.specs.Writing.{IsLegal, can_write, seen_writing, items_of};
@@ -30,7 +30,7 @@ use std::sync::Wait;
 pub struct Slot<S: TableKind, L: Layout, B: BufferMut<S::Item> + Drop, M: Drop, A: Allocator + Copy>
 where
     L::Writable: LayoutMut,
-    S::Small: SmallOf<S, L, B, M, A>,
+    S::Small: SmallOf<S, L, M, A>,
 {
     /// The window, whatever its role.
     pub window: AnyWindow<S, L, L::Writable, B, M, A>,
@@ -42,7 +42,7 @@ impl<S: TableKind, L: Layout, B: BufferMut<S::Item> + Drop, M: Drop, A: Allocato
     for Slot<S, L, B, M, A>
 where
     L::Writable: LayoutMut,
-    S::Small: SmallOf<S, L, B, M, A>,
+    S::Small: SmallOf<S, L, M, A>,
 {
     ghost use Rattle.std.specs.Prelude.{◌≡◌, true};
     ghost use Rattle.arc_slots.specs.Stands.{is_numbered};
@@ -99,7 +99,6 @@ fn write_as<
 ) -> Result<(), TryReserveError>
     requires call { can_write S.Calls.calls (seen_writing what) ≡ true }
     requires legal { IsLegal S.is_legal (seen_writing what) }
-    requires item { FitsInMemory S.Item.row }
     requires pass { IsPassAt window.old.place pass.old }
     ensures written { OnOk result (Pushes S.DROPS true
         (room_for S.DROPS (type_size S.Item.row) window.old (additional_of (seen_writing what)))
@@ -140,7 +139,7 @@ impl<S: TableKind, L: Layout, B: BufferMut<S::Item> + Drop, M: Drop, A: Allocato
 >
 where
     L::Writable: LayoutMut,
-    S::Small: SmallOf<S, L, B, M, A>,
+    S::Small: SmallOf<S, L, M, A>,
 {
     ghost use Rattle.std.specs.Prelude.{◌≡◌, ◌<◌, ◌≤◌, ◌↔◌, length, Bool, false, None, Some};
     ghost use Rattle.std.specs.Prelude.{IfOk, IfErr, IsOk, take, drop, true, is_some, MatchOption};
@@ -378,11 +377,24 @@ where
         ensures row { row_of self.new ≡ after_advance by (row_of self.old) }
         ensures stand { stand_of (Some self.new) ≡ stand_of (Some self.old) }
     {
+        // An exit each: a join of the four has a goal of all.
         match &mut self.window {
-            Held::Read(window) => window.advance(by),
-            Held::Write(window) => window.advance(by),
-            Held::Several(window) => window.advance(by),
-            Held::Small(window) => S::Small::advance(window, by),
+            Held::Read(window) => {
+                window.advance(by);
+                return;
+            }
+            Held::Write(window) => {
+                window.advance(by);
+                return;
+            }
+            Held::Several(window) => {
+                window.advance(by);
+                return;
+            }
+            Held::Small(window) => {
+                S::Small::advance(window, by);
+                return;
+            }
         }
     }
 
@@ -660,7 +672,7 @@ where
                 self.block.is_none() && window.capacity().saturating_sub(window.len()) < additional
             }
             Held::Several(window) => {
-                window.known_shared_place();
+                window.known_place();
                 self.block.is_none() && window.capacity().saturating_sub(window.len()) < additional
             }
             Held::Read(_) | Held::Small(_) => unreachable!(),
@@ -691,7 +703,6 @@ where
         S: Commands<A>,
         requires call { can_write S.Calls.calls (seen_writing what) ≡ true }
         requires legal { IsLegal S.is_legal (seen_writing what) }
-        requires item { FitsInMemory S.Item.row }
         requires writes { is_sole self.old.role ≡ true }
         requires room { is_fresh (room_for S.DROPS (type_size S.Item.row) (row_of self.old)
             (additional_of (seen_writing what))) ≡ true
@@ -722,7 +733,6 @@ where
     /// Whether there is room for so many items more without memory in the window, which is one
     /// that is written; then it is made.
     pub fn try_reclaim(&mut self, additional: usize) -> bool
-        requires item { FitsInMemory S.Item.row }
         requires writes { is_sole self.old.role ≡ true }
         ensures row { Reclaims
             (room_for S.DROPS (type_size S.Item.row) (row_of self.old) additional)

@@ -21,6 +21,7 @@ use arc_owners::owners::Pass;
 use arc_parts::parts::Parts;
 use arc_read::slice::ArcSlice;
 use arc_write::slice_mut::ArcSliceMut;
+use arc_writer_parts::role::WriterParts;
 use arc_writer_parts::sole::SoleParts;
 use std::alloc::Allocator;
 
@@ -143,7 +144,7 @@ impl<S: TableKind, L: Layout, B: BufferMut<S::Item> + Drop, M: Drop, A: Allocato
 >
 where
     L::Writable: LayoutMut,
-    S::Small: SmallOf<S, L, B, M, A>,
+    S::Small: SmallOf<S, L, M, A>,
 {
     ghost use Rattle.std.specs.Prelude.{false, Some, length};
     ghost use Rattle.arc_parts.specs.Shared.{is_on_block};
@@ -273,12 +274,12 @@ where
             unreachable!()
         };
         let mut pass = passes.lend(block);
-        let taken = window.into_shared_parts().try_into_vec_as(&mut pass);
+        let taken = window.into_parts().try_into_vec_as(&mut pass);
         passes.give_back(block, pass);
         match taken {
             Ok(items) => Ok(Reply::Vec(items_of::<S, A>(items))),
             Err(parts) => Err(Slot {
-                window: Held::Several(ArcSliceMut::from_shared_parts(parts)),
+                window: Held::Several(ArcSliceMut::from_parts(parts)),
                 block,
             }),
         }
@@ -320,7 +321,7 @@ impl<S: Commands<A>, L: Layout, B: BufferMut<S::Item> + Drop, M: Drop, A: Alloca
 >
 where
     L::Writable: LayoutMut,
-    S::Small: SmallOf<S, L, B, M, A>,
+    S::Small: SmallOf<S, L, M, A>,
 {
     ghost use Rattle.std.specs.Prelude.{ℕ, None, Some};
     ghost use Rattle.arc_commands.specs.Blocks.{is_several};

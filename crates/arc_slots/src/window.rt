@@ -11,7 +11,7 @@ ghost use Rattle.arc_slots.specs.Slots.{as_held, role_fits, role_in, window_in};
 use arc_block::layout::{Layout, LayoutMut};
 use arc_buffer::buffer::BufferMut;
 use arc_buffer::kinds::Slice;
-use arc_kinds::kinds::{SmallOf, TableKind};
+use arc_kinds::kinds::{SmallOf, SmallWindow, TableKind};
 use arc_owners::error::OwnerError;
 use arc_owners::mark::Whole;
 use arc_owners::owners::Pass;
@@ -37,11 +37,8 @@ pub type AnyWindow<S, L, K, B, M, A> = Held<
     ArcSlice<S, L, B, M, A, Whole>,
     ArcSliceMut<S, K, 1, B, M, A, Whole>,
     ArcSliceMut<S, K, 0, B, M, A, Whole>,
-    SmallWindow<S, L, B, M, A>,
+    SmallWindow<S, L, M, A>,
 >;
-
-/// A small window of kind S, if S has any.
-pub type SmallWindow<S, L, B, M, A> = <<S as TableKind>::Small as SmallOf<S, L, B, M, A>>::Window;
 
 /// A window that isn't written: one that is read, or a small one. What is cloned or cut of a slot's
 /// window is one, and smaller than what a slot holds.
@@ -55,7 +52,7 @@ pub enum ReadOnly<R, K> {
 /// The window that a clone or a cut of a slot's is.
 pub type ReadOnlyWindow<S, L, B, M, A> = ReadOnly<
     ArcSlice<S, L, B, M, A, Whole>,
-    SmallWindow<S, L, B, M, A>,
+    SmallWindow<S, L, M, A>,
 >;
 
 /// The window that a clone or a cut is, as a slot holds it.
@@ -69,7 +66,7 @@ pub(crate) fn hold_window<
     A: Allocator + Copy,
 >(window: ReadOnlyWindow<S, L, B, M, A>) -> AnyWindow<S, L, K, B, M, A>
 where
-    S::Small: SmallOf<S, L, B, M, A>,
+    S::Small: SmallOf<S, L, M, A>,
     ensures { result ≡ as_held window }
 {
     match window {
@@ -93,7 +90,7 @@ pub(crate) fn clone_window<
     pass: &mut Pass<Whole>,
 ) -> Result<ReadOnlyWindow<S, L, B, M, A>, OwnerError>
 where
-    S::Small: SmallOf<S, L, B, M, A>,
+    S::Small: SmallOf<S, L, M, A>,
     requires cuts { is_writer (role_in window.now) ≡ false }
     requires fits { role_fits window.now ≡ true }
     requires pass { IsPassAt (window_in S.Small.seen window.now).place pass.old }
@@ -136,7 +133,7 @@ pub(crate) fn cut_window<
     pass: &mut Pass<Whole>,
 ) -> Result<ReadOnlyWindow<S, L, B, M, A>, OwnerError>
 where
-    S::Small: SmallOf<S, L, B, M, A>,
+    S::Small: SmallOf<S, L, M, A>,
     requires cuts { is_writer (role_in window.now) ≡ false }
     requires fits { role_fits window.now ≡ true }
     requires range { IsRange S.boundary (window_in S.Small.seen window.now).items start end }
@@ -174,7 +171,7 @@ pub(crate) fn end_window<
     A: Allocator + Copy,
 >(window: AnyWindow<S, L, K, B, M, A>, pass: &mut Pass<Whole>)
 where
-    S::Small: SmallOf<S, L, B, M, A>,
+    S::Small: SmallOf<S, L, M, A>,
     requires { IsPassAt (window_in S.Small.seen window).place pass.old }
     ensures { at_owner (window_in S.Small.seen window).place (pass.new ≡ pass.old) (λ o.
         (last : Bool) × Leaves o pass.old pass.new last) }
@@ -183,6 +180,9 @@ where
         Held::Read(window) => window.release_as(pass),
         Held::Write(window) => window.release_as(pass),
         Held::Several(window) => window.release_as(pass),
-        Held::Small(window) => S::Small::release_as(window, pass),
+        Held::Small(window) => {
+            let mut place = Some(window);
+            S::Small::release_as(&mut place, pass);
+        }
     }
 }

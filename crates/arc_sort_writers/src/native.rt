@@ -2,7 +2,7 @@
 ghost use Rattle.arc_owners.specs.history.Histories.{Counted};
 ghost use Rattle.std.specs.Prelude.{◌≡◌, ◌≤◌, ◌<◌, ◌+◌, ◌-◌, ◌^◌, [], length, replicate};
 ghost use Rattle.std.specs.Prelude.{true, false, IfOk, IfErr, OnOk, OnErr, IsTrue, ◌↔◌};
-ghost use Rattle.std.specs.Mem.{FitsInMemory, type_size};
+ghost use Rattle.std.specs.Mem.{type_size};
 ghost use Rattle.arc_owners.specs.count.Calls.{IsPassOfNone};
 ghost use Rattle.arc_owners.specs.memory.SoleCounts.{count_owner};
 ghost use Rattle.arc_memory.specs.Sources.{IsPiece};
@@ -191,7 +191,6 @@ impl<S: Slice, M: Drop, A: Allocator + Copy, H: Mark> SoleNative<S, M, A, H> {
 
     /// Where there is room for so many items more.
     pub fn room(&self, additional: usize) -> Room
-        requires item { FitsInMemory S.Item.row }
         ensures room { result ≡ room_for S.DROPS (type_size S.Item.row) self.now additional }
         ensures fresh { IfFresh result (λ places. (self.now.place ≡ nowhere)
             × (length self.now.items ≡ 0) × (1 ≤ places) × (additional ≤ places)) }
@@ -416,7 +415,6 @@ impl<S: Slice, M: Drop, A: Allocator + Copy, H: Mark> SoleNative<S, M, A, H> {
         additional: usize,
         pass: &mut Pass<H>,
     ) -> Result<(), TryReserveError>
-        requires item { FitsInMemory S.Item.row }
         requires pass { IsPassAt self.old.place pass.old }
         ensures room { MakesRoom S.DROPS H.whole
             (room_for S.DROPS (type_size S.Item.row) self.old additional)
@@ -440,7 +438,6 @@ impl<S: Slice, M: Drop, A: Allocator + Copy, H: Mark> SoleNative<S, M, A, H> {
         additional: usize,
         pass: &mut Pass<H>,
     ) -> Result<(), TryReserveError>
-        requires item { FitsInMemory S.Item.row }
         requires pass { IsPassAt self.old.place pass.old }
         ensures room { MakesRoom S.DROPS H.whole
             (room_for S.DROPS (type_size S.Item.row) self.old additional)

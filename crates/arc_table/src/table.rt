@@ -1,5 +1,4 @@
 //! `Table`, windows by number.
-ghost use Rattle.std.specs.Mem.{FitsInMemory};
 
 use arc_block::layout::{DefaultLayout, Layout, LayoutMut};
 use arc_buffer::buffer::BufferMut;
@@ -35,7 +34,7 @@ pub struct Table<
 >
 where
     L::Writable: LayoutMut,
-    S::Small: SmallOf<S, L, B, M, A>,
+    S::Small: SmallOf<S, L, M, A>,
 {
     slots: Slots<Slot<S, L, B, M, A>, A>,
     passes: Passes<A>,
@@ -51,7 +50,7 @@ impl<
 > Model for Table<S, L, B, M, A>
 where
     L::Writable: LayoutMut,
-    S::Small: SmallOf<S, L, B, M, A>,
+    S::Small: SmallOf<S, L, M, A>,
 {
     ghost use Rattle.arc_block.specs.declared.block.TheConstants.{MAX_OWNERS};
     ghost use Rattle.arc_block.specs.Owned.{IsKept};
@@ -82,7 +81,7 @@ impl<
 > Table<S, L, B, M, A>
 where
     L::Writable: LayoutMut,
-    S::Small: SmallOf<S, L, B, M, A>,
+    S::Small: SmallOf<S, L, M, A>,
 {
     ghost use Rattle.std.specs.Prelude.{◌≡◌, [], None, Some, length, slice_set};
     ghost use Rattle.arc_block.specs.declared.block.TheConstants.{MAX_OWNERS};
@@ -135,7 +134,6 @@ where
     /// What `Adds` says of the command and its reply.
     #[inline(always)]
     pub fn step(&mut self, rt: &impl Wait, command: TableCmd<S, B, M, A>) -> TableReply<S, B, M, A>
-        requires item { FitsInMemory S.Item.row }
         ensures { CarriesOut ⟦<S as TableUnder<L, A>>⟧.setting self.old
             (map_command S.items_in S.static_in B.list command)
             (seen_reply S.items_in S.items_in_box B.list result) self.new }
@@ -153,7 +151,6 @@ where
         rt: &impl Wait,
         command: TableCmd<S, B, M, A>,
     ) -> TableReply<S, B, M, A>
-        requires item { FitsInMemory S.Item.row }
         ensures { CarriesOut ⟦<S as TableUnder<L, A>>⟧.setting self.old
             (map_command S.items_in S.static_in B.list command)
             (seen_reply S.items_in S.items_in_box B.list result) self.new }
@@ -171,7 +168,6 @@ where
         rt: &impl Wait,
         command: TableCmd<S, B, M, A>,
     ) -> TableReply<S, B, M, A>
-        requires item { FitsInMemory S.Item.row }
         ensures rows { Step ⟦<S as TableUnder<L, A>>⟧.setting self.old.table
             (map_command S.items_in S.static_in B.list command)
             (seen_reply S.items_in S.items_in_box B.list result) self.new.table }
@@ -193,7 +189,6 @@ where
     /// compiled by itself, so that nothing is cleared for a window that may be made.
     #[inline(never)]
     fn answer(&mut self, rt: &impl Wait, command: TableCmd<S, B, M, A>) -> TableReply<S, B, M, A>
-        requires item { FitsInMemory S.Item.row }
         ensures rows { Step ⟦<S as TableUnder<L, A>>⟧.setting self.old.table
             (map_command S.items_in S.static_in B.list command)
             (seen_reply S.items_in S.items_in_box B.list result) self.new.table }
@@ -226,7 +221,6 @@ where
         rt: &impl Wait,
         command: TableCmd<S, B, M, A>,
     ) -> TableReply<S, B, M, A>
-        requires item { FitsInMemory S.Item.row }
         ensures rows { Step ⟦<S as TableUnder<L, A>>⟧.setting self.old.table
             (map_command S.items_in S.static_in B.list command)
             (seen_reply S.items_in S.items_in_box B.list result) self.new.table }
@@ -256,7 +250,6 @@ where
         i: usize,
         command: TableCmd<S, B, M, A>,
     ) -> TableReply<S, B, M, A>
-        requires item { FitsInMemory S.Item.row }
         requires on { window_of (map_command S.items_in S.static_in B.list command) ≡ Some i }
         requires one { other_of (map_command S.items_in S.static_in B.list command) ≡ None }
         ensures rows { Step ⟦<S as TableUnder<L, A>>⟧.setting self.old.table

@@ -18,10 +18,13 @@ use Rattle.arc_parts.specs.Window.{PartsView, IsBlockHeld}
 use Rattle.arc_block.specs.Place.{at_front}
 use Rattle.arc_parts.specs.Writers.{with_size, with_full, with_room, with_more}
 use Rattle.arc_parts.specs.Writers.{with_capacity, after_advance, after_truncate}
-use Rattle.arc_parts.specs.Writers.{MakesRoom, Pushes, Reclaims}
+use Rattle.arc_parts.specs.Writers.{room_for, MakesRoom, Reclaims}
 use Rattle.arc_parts.specs.Writers.{MakesWriterOver, MakesBufferWriter}
 use Rattle.arc_block.specs.Layouts.{MayWrite}
 use Rattle.arc_parts.specs.Writers.{RefusesSoleAt}
+use Rattle.arc_parts.specs.Shared.{MakesRoomBeside, MakesRoomIf, MakesSharedRoom}
+use Rattle.arc_parts.specs.Shared.{ReclaimsIf, ReclaimsShared, as_unique, asks_alone}
+use Rattle.arc_writer_parts.specs.Roles.{AsksRoom, PushesItems, ReclaimsRoom}
 
 -- another place of the block, and one of the block with other places, are held too
 module _ {M : Type 0} (layout : LayoutFacts) where
@@ -68,39 +71,103 @@ module _ {T M : Type 0} (layout : LayoutFacts) where
   with-room-held (Own additional) w held = held
   with-room-held (Refused e) w held = held
 
-  -- whether room was made, or refused: a first block is a native one
-  pub room_held : {H : Type 0} (drops one_pass : Bool) (room : Room) (old new : PartsView T M)
+  -- whether a sole writer was made room, or refused: a first block is a native one
+  sole-room-held : {H : Type 0} (drops one_pass : Bool) (room : Room) (old new : PartsView T M)
       (before after : Pass H) (reply : Result (Unit {0}) TryReserveError)
       → MakesRoom drops one_pass room old new before after reply
       → IsBlockHeld layout old.place → IsBlockHeld layout new.place
-  room_held drops one_pass Spare old new before after reply made held = same made.1 held
-  room_held drops one_pass Behind old new before after reply made held = same made.1 held
-  room_held drops one_pass Front old new before after reply made held =
+  sole-room-held drops one_pass Spare old new before after reply made held = same made.1 held
+  sole-room-held drops one_pass Behind old new before after reply made held = same made.1 held
+  sole-room-held drops one_pass Front old new before after reply made held =
       same made.1 (with-room-held Front old held)
-  room_held drops one_pass (Fresh places) old new before after (Ok done) made held =
+  sole-room-held drops one_pass (Fresh places) old new before after (Ok done) made held =
       same made.made refl
-  room_held drops one_pass (Fresh places) old new before after (Err e) made held =
+  sole-room-held drops one_pass (Fresh places) old new before after (Err e) made held =
       same made.1 held
-  room_held drops one_pass (Growth places) old new before after (Ok done) made held =
+  sole-room-held drops one_pass (Growth places) old new before after (Ok done) made held =
       same made.1 (with-room-held (Growth places) old held)
-  room_held drops one_pass (Growth places) old new before after (Err e) made held =
+  sole-room-held drops one_pass (Growth places) old new before after (Err e) made held =
       same made.1 held
-  room_held drops one_pass (Own additional) old new before after (Ok done) made held =
+  sole-room-held drops one_pass (Own additional) old new before after (Ok done) made held =
       same made.2 (with-room-held (Growth made.0) old held)
-  room_held drops one_pass (Own additional) old new before after (Err e) made held =
+  sole-room-held drops one_pass (Own additional) old new before after (Err e) made held =
       same made.1 held
-  room_held drops one_pass (Refused refusal) old new before after reply made held =
+  sole-room-held drops one_pass (Refused refusal) old new before after reply made held =
       same made.1 held
 
-  pub reclaimed_held : (room : Room) (old new : PartsView T M) (found : Bool)
+  pub sole_reclaimed_held : (room : Room) (old new : PartsView T M) (found : Bool)
       → Reclaims room old new found → IsBlockHeld layout old.place → IsBlockHeld layout new.place
-  reclaimed_held Spare old new found r held = same r.1 held
-  reclaimed_held Behind old new found r held = same r.1 held
-  reclaimed_held Front old new found r held = same r.1 (with-room-held Front old held)
-  reclaimed_held (Fresh places) old new found r held = same r.1 held
-  reclaimed_held (Growth places) old new found r held = same r.1 held
-  reclaimed_held (Own additional) old new found r held = same r.1 held
-  reclaimed_held (Refused e) old new found r held = same r.1 held
+  sole_reclaimed_held Spare old new found r held = same r.1 held
+  sole_reclaimed_held Behind old new found r held = same r.1 held
+  sole_reclaimed_held Front old new found r held = same r.1 (with-room-held Front old held)
+  sole_reclaimed_held (Fresh places) old new found r held = same r.1 held
+  sole_reclaimed_held (Growth places) old new found r held = same r.1 held
+  sole_reclaimed_held (Own additional) old new found r held = same r.1 held
+  sole_reclaimed_held (Refused e) old new found r held = same r.1 held
+
+  -- one of several, who was alone
+  beside-held : {H : Type 0} (one_pass : Bool) (room : Room) (old new : PartsView T M)
+      (before after : Pass H) (reply : Result (Unit {0}) TryReserveError)
+      → MakesRoomBeside one_pass room old new before after reply → HoldsRow old → HoldsRow new
+  beside-held one_pass room old new before after reply made held =
+      same made.shared
+      (sole-room-held false one_pass room old made.sole before after reply made.makes held)
+
+  if-held : {H : Type 0} (found one_pass : Bool) (room : Room) (old new : PartsView T M)
+      (before after : Pass H) (reply : Result (Unit {0}) TryReserveError)
+      → MakesRoomIf found one_pass room old new before after reply → HoldsRow old → HoldsRow new
+  if-held true one_pass room old new before after reply made held =
+      beside-held one_pass room (as_unique old) new before after reply made held
+  if-held false one_pass room old new before after reply made held = same made.1 held
+
+  -- one of several
+  shared-room-held : {H : Type 0} (asks one_pass : Bool) (room : Room) (old new : PartsView T M)
+      (before after : Pass H) (reply : Result (Unit {0}) TryReserveError)
+      → MakesSharedRoom asks one_pass room old new before after reply
+      → IsBlockHeld layout old.place → IsBlockHeld layout new.place
+  shared-room-held true one_pass room old new before after reply made held =
+      if-held made.0 one_pass room old new made.1 after reply made.3 held
+  shared-room-held false one_pass room old new before after reply made held =
+      beside-held one_pass room (as_unique old) new before after reply made held
+
+  reclaims-if-held : (found : Bool) (room : Room) (old new : PartsView T M) (answer : Bool)
+      → ReclaimsIf found room old new answer → HoldsRow old → HoldsRow new
+  reclaims-if-held true room old new answer r held =
+      sole_reclaimed_held room old new answer r held
+  reclaims-if-held false room old new answer r held = same r.1 held
+
+  shared-reclaimed-held : {H : Type 0} (asks : Bool) (room : Room) (old new : PartsView T M)
+      (before after : Pass H) (answer : Bool)
+      → ReclaimsShared asks room old new before after answer
+      → IsBlockHeld layout old.place → IsBlockHeld layout new.place
+  shared-reclaimed-held true room old new before after answer r held =
+      reclaims-if-held r.0 room old new answer r.2 held
+  shared-reclaimed-held false room old new before after answer r held =
+      sole_reclaimed_held room old new answer r.1 held
+
+  -- a writer of either role, whether room was made or refused
+  pub room_held : {H : Type 0} (several drops one_pass : Bool) (item_size additional : ℕ)
+      (old new : PartsView T M) (before after : Pass H)
+      (reply : Result (Unit {0}) TryReserveError)
+      → AsksRoom several drops one_pass item_size additional old new before after reply
+      → IsBlockHeld layout old.place → IsBlockHeld layout new.place
+  room_held false drops one_pass item_size additional old new before after reply made held =
+      sole-room-held drops one_pass (room_for drops item_size old additional)
+      old new before after reply made held
+  room_held true drops one_pass item_size additional old new before after reply made held =
+      shared-room-held (asks_alone old additional) one_pass
+      (room_for false item_size old additional) old new before after reply made held
+
+  -- and whether there was room without memory
+  pub reclaimed_held : {H : Type 0} (several drops : Bool) (item_size additional : ℕ)
+      (old new : PartsView T M) (before after : Pass H) (found : Bool)
+      → ReclaimsRoom several drops item_size additional old new before after found
+      → IsBlockHeld layout old.place → IsBlockHeld layout new.place
+  reclaimed_held false drops item_size additional old new before after found r held =
+      sole_reclaimed_held (room_for drops item_size old additional) old new found r.0 held
+  reclaimed_held true drops item_size additional old new before after found r held =
+      shared-reclaimed-held (asks_alone old additional)
+      (room_for false item_size old additional) old new before after found r held
 
   -- items more, fewer, and further in
   pub more_held : (xs : List T) (old new : PartsView T M) → new ≡ with_more xs old
@@ -127,30 +194,42 @@ module _ {T M : Type 0} (layout : LayoutFacts) where
       same is (cut-held drops n old (nat_lt n (length old.items)) held)
 
   -- whether a list was pushed or refused
-  pub extend_held : {E H : Type 0} → (drops one_pass : Bool) (room : Room) (xs : List T)
-      (old new : PartsView T M) (before after : Pass H) (why : E → TryReserveError)
-      (reply : Result (Unit {0}) E)
-      → OnOk reply (Pushes drops one_pass room xs old new before after)
-      → IfErr reply (λ e. MakesRoom drops one_pass room old new before after (Err (why e)))
+  pub extend_held : {E H : Type 0} (several drops one_pass : Bool) (item_size additional : ℕ)
+      (xs : List T) (old new : PartsView T M) (before after : Pass H)
+      (why : E → TryReserveError) (reply : Result (Unit {0}) E)
+      → OnOk reply (PushesItems several drops one_pass item_size additional xs
+      old new before after)
+      → IfErr reply (λ e. AsksRoom several drops one_pass item_size additional
+      old new before after (Err (why e)))
       → IsBlockHeld layout old.place → IsBlockHeld layout new.place
-  extend_held drops one_pass room xs old new before after why (Ok done) pushed refused held =
+  extend_held false drops one_pass item_size n xs old new before after why (Ok done) pushed
+      refused held =
       more_held xs pushed.0 new pushed.2
-      (room_held drops one_pass room old pushed.0 before after (Ok tt) pushed.1 held)
-  extend_held drops one_pass room xs old new before after why (Err e) pushed refused held =
-      room_held drops one_pass room old new before after (Err (why e)) refused held
+      (room_held false drops one_pass item_size n old pushed.0 before after (Ok tt) pushed.1 held)
+  extend_held true drops one_pass item_size n xs old new before after why (Ok done) pushed
+      refused held =
+      same pushed.pushed
+      (room_held true drops one_pass item_size n old pushed.between before after (Ok tt)
+      pushed.makes held)
+  extend_held several drops one_pass item_size n xs old new before after why (Err e) pushed
+      refused held =
+      room_held several drops one_pass item_size n old new before after (Err (why e)) refused held
 
   -- and whether an item was, or handed back
-  pub push_held : {H : Type 0} → (drops one_pass : Bool) (room : Room) (x : T)
+  pub push_held : {H : Type 0} (several drops one_pass : Bool) (item_size additional : ℕ) (x : T)
       (old new : PartsView T M) (before after : Pass H)
       (reply : Result (Unit {0}) (TryReserveError × T))
-      → OnOk reply (Pushes drops one_pass room (x ∷ []) old new before after)
-      → IfErr reply (λ r. (r.1 ≡ x) × MakesRoom drops one_pass room old new before after (Err r.0))
+      → OnOk reply (PushesItems several drops one_pass item_size additional (x ∷ [])
+      old new before after)
+      → IfErr reply (λ r. (r.1 ≡ x) × AsksRoom several drops one_pass item_size additional
+      old new before after (Err r.0))
       → IsBlockHeld layout old.place → IsBlockHeld layout new.place
-  push_held drops one_pass room x old new before after (Ok done) pushed refused held =
-      extend_held drops one_pass room (x ∷ []) old new before after
+  push_held several drops one_pass item_size n x old new before after (Ok done) pushed refused
+      held =
+      extend_held several drops one_pass item_size n (x ∷ []) old new before after
       (λ (r : TryReserveError × T). r.0) (Ok done) pushed tt held
-  push_held drops one_pass room x old new before after (Err r) pushed refused held =
-      extend_held drops one_pass room (x ∷ []) old new before after
+  push_held several drops one_pass item_size n x old new before after (Err r) pushed refused held =
+      extend_held several drops one_pass item_size n (x ∷ []) old new before after
       (λ (r : TryReserveError × T). r.0) (Err r) tt refused.1 held
 
   -- a new window, on nothing or on a block of a sort that the layout holds

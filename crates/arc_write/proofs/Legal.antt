@@ -17,9 +17,12 @@ use Rattle.arc_owners.specs.count.Calls.{Owner}
 use Rattle.arc_buffer.specs.Slice.{sub, IsEdge, IsRange}
 use Rattle.arc_block.specs.Place.{Place, nowhere, static_data, on_block}
 use Rattle.arc_parts.specs.Window.{PartsView}
-use Rattle.arc_parts.specs.Writers.{MakesRoom, Reclaims, as_sole, sole_at}
+use Rattle.arc_parts.specs.Shared.{MakesRoomBeside, MakesRoomIf, MakesSharedRoom}
+use Rattle.arc_parts.specs.Shared.{as_unique, asks_alone}
+use Rattle.arc_parts.specs.Writers.{room_for, MakesRoom, Reclaims, as_sole, sole_at}
 use Rattle.arc_parts.specs.Writers.{after_advance, after_truncate, with_capacity}
 use Rattle.arc_parts.specs.Writers.{BecomesSole, BecomesSoleAt}
+use Rattle.arc_writer_parts.specs.Roles.{AsksRoom}
 
 yes : (b : Bool) → b ≡ true → T b
 yes true e = tt
@@ -74,17 +77,52 @@ module _ {X : Type 0} (legal : List X → Type 0) where
   by_test boundary part ends xs n edge l false short = l
 
 module _ {T M : Type 0} (legal : List T → Type 0) where
-  -- where room is refused, the items stay
-  pub refused-items : {H : Type 0} → (drops one_pass : Bool) (room : Room) (old new : PartsView T M)
+  -- where a sole writer is refused room, his items stay
+  sole-refused : {H : Type 0} → (drops one_pass : Bool) (room : Room) (old new : PartsView T M)
       (before after : Pass H) (e : TryReserveError)
       → MakesRoom drops one_pass room old new before after (Err e) → new.items ≡ old.items
-  refused-items drops one_pass Spare old new before after e r = ap (λ w. w.items) r.1
-  refused-items drops one_pass Behind old new before after e r = ap (λ w. w.items) r.1
-  refused-items drops one_pass Front old new before after e r = ap (λ w. w.items) r.1
-  refused-items drops one_pass (Fresh places) old new before after e r = ap (λ w. w.items) r.1
-  refused-items drops one_pass (Growth places) old new before after e r = ap (λ w. w.items) r.1
-  refused-items drops one_pass (Own additional) old new before after e r = ap (λ w. w.items) r.1
-  refused-items drops one_pass (Refused refusal) old new before after e r = ap (λ w. w.items) r.1
+  sole-refused drops one_pass Spare old new before after e r = ap (λ w. w.items) r.1
+  sole-refused drops one_pass Behind old new before after e r = ap (λ w. w.items) r.1
+  sole-refused drops one_pass Front old new before after e r = ap (λ w. w.items) r.1
+  sole-refused drops one_pass (Fresh places) old new before after e r = ap (λ w. w.items) r.1
+  sole-refused drops one_pass (Growth places) old new before after e r = ap (λ w. w.items) r.1
+  sole-refused drops one_pass (Own additional) old new before after e r = ap (λ w. w.items) r.1
+  sole-refused drops one_pass (Refused refusal) old new before after e r = ap (λ w. w.items) r.1
+
+  -- and so do those of one of several
+  beside-items : {H : Type 0} → (one_pass : Bool) (room : Room) (old new : PartsView T M)
+      (before after : Pass H) (e : TryReserveError)
+      → MakesRoomBeside one_pass room old new before after (Err e) → new.items ≡ old.items
+  beside-items one_pass room old new before after e made =
+      ap (λ w. w.items) made.shared
+      ∙ sole-refused false one_pass room old made.sole before after e made.makes
+
+  if-items : {H : Type 0} → (found one_pass : Bool) (room : Room) (old new : PartsView T M)
+      (before after : Pass H) (e : TryReserveError)
+      → MakesRoomIf found one_pass room old new before after (Err e) → new.items ≡ old.items
+  if-items true one_pass room old new before after e made =
+      beside-items one_pass room (as_unique old) new before after e made
+  if-items false one_pass room old new before after e made = ap (λ w. w.items) made.1
+
+  shared-refused : {H : Type 0} → (asks one_pass : Bool) (room : Room) (old new : PartsView T M)
+      (before after : Pass H) (e : TryReserveError)
+      → MakesSharedRoom asks one_pass room old new before after (Err e) → new.items ≡ old.items
+  shared-refused true one_pass room old new before after e made =
+      if-items made.0 one_pass room old new made.1 after e made.3
+  shared-refused false one_pass room old new before after e made =
+      beside-items one_pass room (as_unique old) new before after e made
+
+  -- and those of a writer of either role
+  pub refused_items : {H : Type 0} → (several drops one_pass : Bool) (item_size additional : ℕ)
+      (old new : PartsView T M) (before after : Pass H) (e : TryReserveError)
+      → AsksRoom several drops one_pass item_size additional old new before after (Err e)
+      → new.items ≡ old.items
+  refused_items false drops one_pass item_size additional old new before after e r =
+      sole-refused drops one_pass (room_for drops item_size old additional)
+      old new before after e r
+  refused_items true drops one_pass item_size additional old new before after e r =
+      shared-refused (asks_alone old additional) one_pass
+      (room_for false item_size old additional) old new before after e r
 
   -- room that is had without memory keeps a list legal
   pub reclaimed_legal : (room : Room) (old new : PartsView T M) (found : Bool)
@@ -151,30 +189,37 @@ module _ {T M : Type 0} (legal : List T → Type 0) where
       sole-at-legal has_any drops w.items w.place v before after is asked l
 
   -- whether a list was pushed or refused, what is there is legal
-  pub extend_legal : {E H : Type 0} → (drops one_pass : Bool) (room : Room) (xs : List T)
-      (old new : PartsView T M) (before after : Pass H) (why : E → TryReserveError)
+  pub extend_legal : {E H : Type 0} → (several drops one_pass : Bool) (item_size additional : ℕ)
+      (xs : List T) (old new : PartsView T M) (before after : Pass H) (why : E → TryReserveError)
       → ((ys : List T) → legal ys → legal (ys ++ xs)) → (reply : Result (Unit {0}) E)
       → OnOk reply (new.items ≡ old.items ++ xs)
-      → IfErr reply (λ e. MakesRoom drops one_pass room old new before after (Err (why e)))
+      → IfErr reply (λ e. AsksRoom several drops one_pass item_size additional
+      old new before after (Err (why e)))
       → ∥ legal old.items ∥₁ → ∥ legal new.items ∥₁
-  extend_legal drops one_pass room xs old new before after why more (Ok u) pushed refused l =
+  extend_legal several drops one_pass item_size n xs old new before after why more (Ok u) pushed
+      refused l =
       same legal pushed (∥∥₁_map l (λ h. more old.items h))
-  extend_legal drops one_pass room xs old new before after why more (Err e) pushed refused l =
-      same legal (refused-items drops one_pass room old new before after (why e) refused) l
+  extend_legal several drops one_pass item_size n xs old new before after why more (Err e) pushed
+      refused l =
+      same legal (refused_items several drops one_pass item_size n old new before after (why e)
+      refused) l
 
   -- and whether an item was, or handed back
-  pub push_legal : {H : Type 0} → (drops one_pass : Bool) (room : Room) (x : T)
+  pub push_legal : {H : Type 0} → (several drops one_pass : Bool) (item_size additional : ℕ) (x : T)
       (old new : PartsView T M) (before after : Pass H)
       → ((ys : List T) → legal ys → legal (ys ++ x ∷ []))
       → (reply : Result (Unit {0}) (TryReserveError × T))
       → OnOk reply (new.items ≡ old.items ++ x ∷ [])
-      → IfErr reply (λ r. (r.1 ≡ x) × MakesRoom drops one_pass room old new before after (Err r.0))
+      → IfErr reply (λ r. (r.1 ≡ x) × AsksRoom several drops one_pass item_size additional
+      old new before after (Err r.0))
       → ∥ legal old.items ∥₁ → ∥ legal new.items ∥₁
-  push_legal drops one_pass room x old new before after more (Ok u) pushed refused l =
-      extend_legal drops one_pass room (x ∷ []) old new before after
+  push_legal several drops one_pass item_size n x old new before after more (Ok u) pushed refused
+      l =
+      extend_legal several drops one_pass item_size n (x ∷ []) old new before after
       (λ (r : TryReserveError × T). r.0) more (Ok u) pushed tt l
-  push_legal drops one_pass room x old new before after more (Err r) pushed refused l =
-      extend_legal drops one_pass room (x ∷ []) old new before after
+  push_legal several drops one_pass item_size n x old new before after more (Err r) pushed refused
+      l =
+      extend_legal several drops one_pass item_size n (x ∷ []) old new before after
       (λ (r : TryReserveError × T). r.0) more (Err r) tt refused.1 l
 
 module _ {T : Type 0} (legal : List T → Type 0) where

@@ -1,13 +1,12 @@
 mod Extend
 pub mod Legal
 pub mod Held
-pub mod HeldSeveral
-pub mod LegalSeveral
 mod More
 pub mod Parts
 pub mod ReadParts
-pub mod RefusedSeveral
+pub mod Refused
 mod Zeros
 pub mod Moves
 mod Cuts
 mod Splits
+mod Within

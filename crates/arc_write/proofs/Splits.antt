@@ -1,14 +1,145 @@
--- What both parts of a split hold, of one of several writers.
-use Rattle.std.proofs.Common.{◌≡◌, ℕ, Bool, false, List, length, subst}
+-- What both parts of a split hold, of one of several writers, and that two who were joined have a
+-- legal list.
+use Rattle.std.proofs.Common.{◌≡◌, ℕ, Bool, true, false, List, ◌++◌, length, take, drop}
+use Rattle.std.proofs.Common.{Option, Some, None, refl, sym, ap, ◌∙◌, subst}
+use Rattle.std.proofs.Math.Logic.{∥∥₁_elim, ∥∥₁_map, ∥∥₁_prop}
+use Rattle.arc_owners.specs.count.Calls.{Owner}
 use Rattle.arc_owners.specs.count.Invariant.{BlockId, Line}
 use Rattle.arc_owners.specs.declared.count.tokens.Pass.{Pass}
 use Rattle.arc_buffer.specs.Slice.{sub, IsEdge, IsRange}
+use Rattle.arc_block.specs.Block.{Sort, native, vector, buffer, raw}
 use Rattle.arc_block.specs.Layouts.{LayoutFacts}
-use Rattle.arc_parts.specs.Shared.{CanSplit, SplitsWriterOff, SplitsWriterTo}
+use Rattle.arc_block.specs.Place.{Place, nowhere, static_data, on_block}
+use Rattle.arc_parts.specs.Shared.{CanSplit, StandsToSplit, StandsToSplitAt}
+use Rattle.arc_parts.specs.Shared.{SplitsWriterOff, SplitsWriterTo, front_of, joined_row}
+use Rattle.arc_parts.specs.Steps.{Shares}
 use Rattle.arc_parts.specs.Window.{PartsView, IsBlockHeld}
-use Rattle.arc_parts.specs.Writers.{capacity_of}
-use Rattle.arc_write.proofs.HeldSeveral.{split_off_held, split_to_held}
-use Rattle.arc_write.proofs.LegalSeveral.{split_off_legal, split_to_legal}
+use Rattle.arc_parts.specs.Writers.{after_advance, capacity_of}
+use Rattle.arc_write.proofs.Held.{advanced_held}
+use Rattle.arc_write.proofs.Legal.{split_legal}
+use Rattle.arc_write.proofs.Parts.{HoldsLegal}
+
+module _ {M : Type 0} (layout : LayoutFacts) where
+  -- another owner of the same block
+  shares-held : {H : Type 0} (place there : Place (Option Owner) M) (before after : Pass H)
+      → Shares place before after there → IsBlockHeld layout place → IsBlockHeld layout there
+  shares-held nowhere there before after shares held =
+      subst (IsBlockHeld layout) (sym shares.0) held
+  shares-held static_data there before after shares held =
+      subst (IsBlockHeld layout) (sym shares.0) held
+  shares-held (on_block None offset info) there before after shares held =
+      subst (IsBlockHeld layout) (sym shares.0) held
+  shares-held (on_block (Some o) offset info) there before after shares held =
+      subst (IsBlockHeld layout) (sym shares.2) held
+
+module _ {T M : Type 0} (layout : LayoutFacts) where
+  -- the layout holds the block on which a writer stands
+  abbrev HoldsRow : PartsView T M → Type 0
+  HoldsRow w = IsBlockHeld layout w.place
+
+  same : {old new : PartsView T M} → new ≡ old → HoldsRow old → HoldsRow new
+  same is held = subst HoldsRow (sym is) held
+
+  -- where a writer stands whose places are split
+  stands-by-sort : {H : Type 0} (real : BlockId → ℕ → List Line → Type 0) (one_pass : Bool)
+      (w v : PartsView T M) (before after : Pass H) (sort : Sort)
+      → StandsToSplit H real false one_pass w v before after sort → HoldsRow w → HoldsRow v
+  stands-by-sort real one_pass w v before after native stands held = same stands.0 held
+  stands-by-sort real one_pass w v before after vector stands held = same stands.made refl
+  stands-by-sort real one_pass w v before after (buffer writable) stands held = absurd stands
+  stands-by-sort real one_pass w v before after raw stands held = absurd stands
+
+  stands-held : {H : Type 0} (real : BlockId → ℕ → List Line → Type 0) (one_pass : Bool)
+      (w v : PartsView T M) (before after : Pass H) (place : Place (Option Owner) M)
+      → StandsToSplitAt H real false one_pass w v before after place → HoldsRow w → HoldsRow v
+  stands-held real one_pass w v before after nowhere stands held = same stands.0 held
+  stands-held real one_pass w v before after static_data stands held = absurd stands
+  stands-held real one_pass w v before after (on_block owner offset info) stands held =
+      stands-by-sort real one_pass w v before after info.sort stands held
+
+  advance-held : (at : ℕ) (w : PartsView T M) → HoldsRow w → HoldsRow (after_advance at w)
+  advance-held at w held = advanced_held layout at w (after_advance at w) refl held
+
+  -- both parts of a split
+  split-off-held : {H : Type 0} (real : BlockId → ℕ → List Line → Type 0) (one_pass : Bool)
+      (at : ℕ) (w front back : PartsView T M) (before after : Pass H)
+      → SplitsWriterOff H real false one_pass at w front back before after
+      → IsBlockHeld layout w.place
+      → IsBlockHeld layout front.place × IsBlockHeld layout back.place
+  split-off-held real one_pass at w front back before after split held =
+      let whole = stands-held real one_pass w split.whole before split.between w.place split.stands
+      held in (
+        same split.stays whole,
+        shares-held layout (after_advance at split.whole).place back.place split.between after
+            split.shares
+            (advance-held at split.whole whole),
+      )
+
+  split-to-held : {H : Type 0} (real : BlockId → ℕ → List Line → Type 0) (one_pass : Bool)
+      (at : ℕ) (w front back : PartsView T M) (before after : Pass H)
+      → SplitsWriterTo H real false one_pass at w front back before after
+      → IsBlockHeld layout w.place
+      → IsBlockHeld layout front.place × IsBlockHeld layout back.place
+  split-to-held real one_pass at w front back before after split held =
+      let whole = stands-held real one_pass w split.whole before split.between w.place split.stands
+      held in (
+        shares-held layout (front_of at split.whole).place front.place split.between after
+            split.shares
+            whole,
+        same split.stays (advance-held at split.whole whole),
+      )
+
+module _ {T M H : Type 0} (real : BlockId → ℕ → List Line → Type 0) (one_pass : Bool) where
+  -- a writer who moved to a native block has the items that he had
+  by-sort : (w v : PartsView T M) (before after : Pass H) (sort : Sort)
+      → StandsToSplit H real false one_pass w v before after sort → v.items ≡ w.items
+  by-sort w v before after native stands = ap (λ r. r.items) stands.0
+  by-sort w v before after vector stands = ap (λ r. r.items) stands.made
+  by-sort w v before after (buffer writable) stands = absurd stands
+  by-sort w v before after raw stands = absurd stands
+
+  stands-items : (w v : PartsView T M) (before after : Pass H) (place : Place (Option Owner) M)
+      → StandsToSplitAt H real false one_pass w v before after place → v.items ≡ w.items
+  stands-items w v before after nowhere stands = ap (λ r. r.items) stands.0
+  stands-items w v before after static_data stands = absurd stands
+  stands-items w v before after (on_block owner offset info) stands =
+      by-sort w v before after info.sort stands
+
+  module _ (legal : List T → Type 0) (boundary : List T → ℕ → Bool)
+      (part : (xs : List T) (s e : ℕ) → legal xs → IsRange boundary xs s e → legal (sub xs s e))
+      (ends : (xs : List T) → legal xs → IsEdge boundary xs 0 × IsEdge boundary xs (length xs))
+      (at capacity : ℕ) (w front back : PartsView T M) (before after : Pass H)
+      (can : CanSplit boundary w.items capacity at) (l : ∥ legal w.items ∥₁) where
+    parts : ∥ legal (take at w.items) ∥₁ × ∥ legal (drop at w.items) ∥₁
+    parts = split_legal legal boundary part ends w.items at can.edge l
+
+    split-off-legal : SplitsWriterOff H real false one_pass at w front back before after
+        → ∥ legal front.items ∥₁ × ∥ legal back.items ∥₁
+    split-off-legal split =
+        let whole = stands-items w split.whole before split.between w.place split.stands in (
+          subst (λ xs. ∥ legal xs ∥₁)
+              (sym (ap (λ r. r.items) split.stays ∙ ap (take at) whole)) parts.0,
+          subst (λ xs. ∥ legal xs ∥₁) (sym (split.items ∙ ap (drop at) whole)) parts.1,
+        )
+
+    split-to-legal : SplitsWriterTo H real false one_pass at w front back before after
+        → ∥ legal front.items ∥₁ × ∥ legal back.items ∥₁
+    split-to-legal split =
+        let whole = stands-items w split.whole before split.between w.place split.stands in (
+          subst (λ xs. ∥ legal xs ∥₁) (sym (split.items ∙ ap (take at) whole)) parts.0,
+          subst (λ xs. ∥ legal xs ∥₁)
+              (sym (ap (λ r. r.items) split.stays ∙ ap (drop at) whole)) parts.1,
+        )
+
+module _ {T M : Type 0} (legal : List T → Type 0) where
+  -- two neighbours have legal lists, one behind the other
+  pub joined_legal : (old other new : PartsView T M)
+      → ((xs ys : List T) → legal xs → legal ys → legal (xs ++ ys))
+      → new ≡ joined_row old other → ∥ legal old.items ∥₁ → ∥ legal other.items ∥₁
+      → ∥ legal new.items ∥₁
+  joined_legal old other new both is l m =
+      subst (λ ys. ∥ legal ys ∥₁) (sym (ap (λ w. w.items) is))
+      (∥∥₁_elim l ∥∥₁_prop (λ h. ∥∥₁_map m (λ k. both old.items other.items h k)))
 
 module _ {T M H : Type 0} (layout : LayoutFacts)
     (real : BlockId → ℕ → List Line → Type 0) (one_pass : Bool) (legal : List T → Type 0)
@@ -17,23 +148,22 @@ module _ {T M H : Type 0} (layout : LayoutFacts)
     (ends : (xs : List T) → legal xs → IsEdge boundary xs 0 × IsEdge boundary xs (length xs))
     (at : ℕ) (old seen front back : PartsView T M) (before after : Pass H) (is : seen ≡ old)
     (can : CanSplit boundary seen.items (capacity_of seen.role) at) where
-  -- a block that the layout holds, and a legal list
-  abbrev HoldsLegal : PartsView T M → Type 0
-  HoldsLegal w = IsBlockHeld layout w.place × ∥ legal w.items ∥₁
-
   may : CanSplit boundary old.items (capacity_of old.role) at
   may = subst (λ (w : PartsView T M). CanSplit boundary w.items (capacity_of w.role) at) is can
 
   pub off_holds : SplitsWriterOff H real false one_pass at old front back before after
-      → HoldsLegal old → HoldsLegal front × HoldsLegal back
+      → HoldsLegal layout legal old
+      → HoldsLegal layout legal front × HoldsLegal layout legal back
   off_holds split held =
-      let places = split_off_held layout real one_pass at old front back before after split held.0 in
-      let lists = split_off_legal real one_pass legal boundary part ends at _ old front back before
+      let places = split-off-held layout real one_pass at old front back before after split held.0
+      in
+      let lists = split-off-legal real one_pass legal boundary part ends at _ old front back before
       after may held.1 split in ((places.0, lists.0), (places.1, lists.1))
 
   pub to_holds : SplitsWriterTo H real false one_pass at old front back before after
-      → HoldsLegal old → HoldsLegal front × HoldsLegal back
+      → HoldsLegal layout legal old
+      → HoldsLegal layout legal front × HoldsLegal layout legal back
   to_holds split held =
-      let places = split_to_held layout real one_pass at old front back before after split held.0 in
-      let lists = split_to_legal real one_pass legal boundary part ends at _ old front back before
+      let places = split-to-held layout real one_pass at old front back before after split held.0 in
+      let lists = split-to-legal real one_pass legal boundary part ends at _ old front back before
       after may held.1 split in ((places.0, lists.0), (places.1, lists.1))

@@ -1,18 +1,13 @@
 -- Extending a write window by items that come one by one.
-use Rattle.std.specs.Prelude.{◌≡◌, ℕ, Bool, false, List, [], ◌∷◌, Result, Ok, Err}
+use Rattle.std.specs.Prelude.{◌≡◌, ℕ, Bool, List, [], ◌∷◌, Result, Ok, Err}
 use Rattle.arc_owners.specs.declared.error.TryReserveError.{TryReserveError}
 use Rattle.arc_owners.specs.count.Invariant.{BlockId, Line}
-use Rattle.arc_parts.specs.declared.room.Room.{Room}
 use Rattle.arc_sort_writers.specs.Growth.{AsksForRoom, IfAsked}
-use Rattle.arc_parts.specs.Shared.{MakesSharedRoom, PushesShared, asks_alone}
 use Rattle.arc_parts.specs.Window.{PartsView}
-use Rattle.arc_parts.specs.Writers.{room_for, MakesRoom, Pushes}
+use Rattle.arc_parts.specs.Writers.{room_for}
+use Rattle.arc_writer_parts.specs.Roles.{AsksRoom, PushesItems}
 use Rattle.arc_block.specs.Place.{size_at}
 use Rattle.arc_read.specs.Steps.{WithNewPass}
-
--- where a window has room for one item more
-abbrev pub room_for_one : {T M : Type 0} → (drops : Bool) → (item_size : ℕ) → PartsView T M → Room
-room_for_one drops item_size w = room_for drops item_size w 1
 
 -- one step for each of the items, in their order
 abbrev pub EachOf : {T W : Type 0} → (T → W → W → Type 0) → List T → (old new : W) → Type 0
@@ -20,20 +15,20 @@ EachOf step [] old new = new ≡ old
 EachOf {W = W} step (x ∷ xs) old new = (between : W) × step x old between
     × EachOf step xs between new
 
--- of windows under the mark H, whose callers' buffers have these lists and places, and this leave
--- to grow and to refuse
+-- of windows under the mark H, in one role, whose callers' buffers have these lists and places, and
+-- this leave to grow and to refuse
 module _ {T M B : Type 0} (H : Type 0) (real : BlockId → ℕ → List Line → Type 0)
-    (drops one_pass : Bool) (item_size : ℕ) (list : B → List T) (places : B → ℕ)
+    (several drops one_pass : Bool) (item_size : ℕ) (list : B → List T) (places : B → ℕ)
     (grows : B → ℕ → ℕ → Type 0) (refuses : B → ℕ → TryReserveError → Type 0) where
   -- a caller's buffer, where one was asked for a place more, answered this
   abbrev AsksForOne : (old new : PartsView T M) → Result (Unit {0}) TryReserveError → Type 0
-  AsksForOne old new reply = IfAsked (room_for_one drops item_size old) (λ additional.
+  AsksForOne old new reply = IfAsked (room_for drops item_size old 1) (λ additional.
       AsksForRoom list places grows refuses old additional (size_at new.place) reply)
 
   -- one item was pushed, with a new pass of the window's block
   pub record PushesOne (x : T) (old new : PartsView T M) : Type 0 where
     pub pushed : WithNewPass {H = H} real old.place (λ first last.
-        Pushes drops one_pass (room_for_one drops item_size old) (x ∷ []) old new first last)
+        PushesItems several drops one_pass item_size 1 (x ∷ []) old new first last)
     pub own : AsksForOne old new (Ok tt)
 
   -- the items were pushed one by one, in their order, each with a new pass
@@ -43,21 +38,5 @@ module _ {T M B : Type 0} (H : Type 0) (real : BlockId → ℕ → List Line →
   -- room for one item more was refused, with a new pass of the window's block
   pub record RefusesOne (e : TryReserveError) (old new : PartsView T M) : Type 0 where
     pub refused : WithNewPass {H = H} real old.place (λ first last.
-        MakesRoom drops one_pass (room_for_one drops item_size old) old new first last (Err e))
+        AsksRoom several drops one_pass item_size 1 old new first last (Err e))
     pub own : AsksForOne old new (Err e)
-
--- the same of one of several writers
-module _ {T M : Type 0} (H : Type 0) (real : BlockId → ℕ → List Line → Type 0)
-    (one_pass : Bool) (item_size : ℕ) where
-  pub record PushesOneShared (x : T) (old new : PartsView T M) : Type 0 where
-    pub pushed : WithNewPass {H = H} real old.place (λ first last.
-        PushesShared (asks_alone old 1) one_pass (room_for_one false item_size old) (x ∷ [])
-        old new first last)
-
-  abbrev pub PushesEachShared : List T → (old new : PartsView T M) → Type 0
-  PushesEachShared xs old new = EachOf PushesOneShared xs old new
-
-  pub record RefusesOneShared (e : TryReserveError) (old new : PartsView T M) : Type 0 where
-    pub refused : WithNewPass {H = H} real old.place (λ first last.
-        MakesSharedRoom (asks_alone old 1) one_pass (room_for_one false item_size old)
-        old new first last (Err e))

@@ -1,5 +1,4 @@
 pub mod Extend
 pub mod Lends
-pub mod Parts
 pub mod Within
 pub mod Moves

@@ -1,5 +1,5 @@
 -- What is written into the places that a window has already.
-use Rattle.std.specs.Prelude.{◌≡◌, ℕ, ◌-◌, ◌+◌, ◌≤◌, min, Bool, true, List, length, take}
+use Rattle.std.specs.Prelude.{◌≡◌, ℕ, ◌-◌, ◌+◌, ◌≤◌, min, Bool, true, false, List, length, take}
 use Rattle.arc_block.specs.Table.{RowOf}
 use Rattle.arc_parts.specs.Writers.{capacity_of, with_more}
 
@@ -16,8 +16,15 @@ module _ {N T M : Type 0} where
   abbrev pub after_write : RowOf N T M → List T → RowOf N T M
   after_write w xs = with_more (take (taken w xs) xs) w
 
-  -- what fits in the window's places is done, and it stands where it stood
-  abbrev pub StaysWithin : (additional : ℕ) → (old new : RowOf N T M) → (done : Bool) → Type 0
-  StaysWithin additional old new done =
+  -- One of several writers stands where he stood. Where a sole one stands the room that he has
+  -- says, since items more may be more full places of his block.
+  abbrev pub StandsIf : (several : Bool) → (old new : RowOf N T M) → Type 0
+  StandsIf false old new = Unit {0}
+  StandsIf true old new = new.place ≡ old.place
+
+  -- what fits in the window's places is done, and one of several writers stands where he stood
+  abbrev pub StaysWithin : (several : Bool) → (additional : ℕ) → (old new : RowOf N T M)
+      → (done : Bool) → Type 0
+  StaysWithin several additional old new done =
       length old.items + additional ≤ capacity_of old.role
-      → (done ≡ true) × (new.place ≡ old.place)
+      → (done ≡ true) × StandsIf several old new

@@ -6,7 +6,6 @@ mod compare;
 mod debug;
 mod display;
 mod format;
-mod format_several;
 mod hash;
 mod hex;
 mod io;

@@ -1,27 +1,26 @@
-//! `ArcSliceMut`, a window that is written.
+//! `WriteWindow`, a window that is written, and `ArcSliceMut`, its name by the writer's role.
 ghost use Rattle.std.specs.Prelude.{◌≡◌, false};
 ghost use Rattle.arc_block.specs.LayoutFacts.{layout_facts};
 ghost use Rattle.arc_parts.specs.Steps.{EndsShownAt};
 ghost use Rattle.arc_parts.specs.Window.{IsBlockHeld};
-ghost use Rattle.arc_parts.specs.Writers.{IsWriterPlace, idle_writer};
+ghost use Rattle.arc_parts.specs.Writers.{idle_writer};
+ghost use Rattle.arc_writer_parts.specs.Roles.{HasWritersRole, StandsAsWriter};
 
 use arc_block::layout::{DefaultLayoutMut, LayoutMut};
 use arc_buffer::buffer::BufferMut;
 use arc_buffer::kinds::{Emptyable, Plain, Slice, Text};
 use arc_owners::mark::{Mark, Open};
-use arc_writer_parts::shared::SharedParts;
+use arc_writer_parts::role::{Role, RoleOf, WriterParts};
 use arc_writer_parts::sole::SoleParts;
 pub use into_mut::IntoMut;
-use parts::{WriterStorage, as_sole};
 use std::alloc::{Allocator, Global};
 use std::marker::{Model, PhantomData};
 
 /// A list with a capacity, in places of its block that no other owner reaches; or it stands on
 /// nothing, with no items and no places.
 ///
-/// Where `UNIQUE` is 1 the window is its block's only owner, and where it is 0 one of several
-/// writers: there are no others. `B` is the type of callers' buffers and `M` that of their
-/// metadata.
+/// `R` is the writer's role: the window is its block's only owner, or one of several writers. `B`
+/// is the type of callers' buffers and `M` that of their metadata.
 ///
 /// Each call that makes a block, makes room in it or leaves it has a form that ends in `_as` and
 /// takes a pass of the block, in which contracts read what was added to the block's history; a
@@ -29,18 +28,30 @@ use std::marker::{Model, PhantomData};
 /// What goes item by item (`try_extend`, `try_from_iter`) has the plain form alone.
 /// Dropped, a window under the mark `Open` ends with a new pass, and one under `Whole` is a
 /// forgotten owner of its block.
-pub struct ArcSliceMut<
+pub struct WriteWindow<
     S: Slice,
     L: LayoutMut,
-    const UNIQUE: u8,
+    R: RoleOf<S, B, M, A, H>,
     B: BufferMut<<S as Slice>::Item> + Drop = Vec<<S as Slice>::Item>,
     M: Drop = (),
     A: Allocator + Copy = Global,
     H: Mark = Open,
 > {
-    pub(crate) parts: WriterStorage<SoleParts<S, B, M, A, H>, SharedParts<S, B, M, A, H>>,
+    pub(crate) parts: R::Parts,
     of: PhantomData<L>,
 }
+
+/// A write window by its writer's role. Where `UNIQUE` is 1 the window is its block's only owner,
+/// and where it is 0 one of several writers: there are no others.
+pub type ArcSliceMut<
+    S,
+    L,
+    const UNIQUE: u8,
+    B = Vec<<S as Slice>::Item>,
+    M = (),
+    A = Global,
+    H = Open,
+> = WriteWindow<S, L, Role<UNIQUE>, B, M, A, H>;
 
 /// A window that writes bytes.
 pub type ArcBytesMut<L = DefaultLayoutMut, B = Vec<u8>, M = (), A = Global, H = Open> = ArcSliceMut<
@@ -75,43 +86,83 @@ pub type ArcStrShared<L = DefaultLayoutMut, B = Vec<u8>, M = (), A = Global, H =
 impl<
     S: Slice,
     L: LayoutMut,
-    const UNIQUE: u8,
+    R: RoleOf<S, B, M, A, H>,
     B: BufferMut<S::Item> + Drop,
     M: Drop,
     A: Allocator + Copy,
     H: Mark,
-> Model for ArcSliceMut<S, L, UNIQUE, B, M, A, H> {
+> Model for WriteWindow<S, L, R, B, M, A, H> {
     ghost use Rattle.arc_block.specs.LayoutFacts.{layout_facts};
     ghost use Rattle.arc_parts.specs.Window.{PartsView, IsBlockHeld};
-    ghost use Rattle.arc_write.specs.Parts.{written_on, IsOfUnique};
 
     ghost Value = { PartsView S.Item M };
 
-    ghost view = { λ w. written_on w.parts };
+    ghost view = { λ w. R.Parts.seen w.parts };
 
-    ghost invariant = { λ w. IsOfUnique UNIQUE w.parts
-        × IsBlockHeld (layout_facts L.Layout) (written_on w.parts).place
-        × ∥ S.is_legal (written_on w.parts).items ∥₁ };
+    ghost invariant = { λ w. IsBlockHeld (layout_facts L.Layout) (R.Parts.seen w.parts).place
+        × ∥ S.is_legal (R.Parts.seen w.parts).items ∥₁ };
 }
 
 impl<
     S: Slice,
     L: LayoutMut,
-    const UNIQUE: u8,
+    R: RoleOf<S, B, M, A, H>,
     B: BufferMut<S::Item> + Drop,
     M: Drop,
     A: Allocator + Copy,
     H: Mark,
-> Drop for ArcSliceMut<S, L, UNIQUE, B, M, A, H> {
+> Drop for WriteWindow<S, L, R, B, M, A, H> {
     #[inline(always)]
     fn drop(self)
         ensures ended { H.whole ≡ false → EndsShownAt H H.real self.place }
     {
-        let ArcSliceMut { parts, of: _ } = self;
-        match parts {
-            WriterStorage::Sole(parts) => drop(parts),
-            WriterStorage::Several(parts) => drop(parts),
+        let WriteWindow { parts, of: _ } = self;
+        parts.end();
+    }
+}
+
+impl<
+    S: Slice,
+    L: LayoutMut,
+    R: RoleOf<S, B, M, A, H>,
+    B: BufferMut<S::Item> + Drop,
+    M: Drop,
+    A: Allocator + Copy,
+    H: Mark,
+> WriteWindow<S, L, R, B, M, A, H> {
+    /// The window of these parts, with a list that is legal, on nothing or on a block that the
+    /// layout holds. It adds nothing.
+    #[inline(always)]
+    pub fn from_parts(parts: R::Parts) -> Self
+        requires held { IsBlockHeld (layout_facts L.Layout) (R.Parts.seen parts).place }
+        requires legal { ∥ S.is_legal (R.Parts.seen parts).items ∥₁ }
+        ensures { result ≡ R.Parts.seen parts }
+    {
+        WriteWindow {
+            parts,
+            of: PhantomData,
         }
+    }
+
+    /// What the window is made of. It adds nothing.
+    #[inline(always)]
+    pub fn into_parts(self) -> R::Parts
+        ensures parts { R.Parts.seen result ≡ self }
+        ensures held { IsBlockHeld (layout_facts L.Layout) (R.Parts.seen result).place }
+        ensures legal { ∥ S.is_legal (R.Parts.seen result).items ∥₁ }
+    {
+        let WriteWindow { parts, of: _ } = self;
+        parts
+    }
+
+    /// The window stands on nothing, or on a block that counts its owners and may be written; one
+    /// of several writers stands on one that keeps its items in memory of ours. Does nothing: its
+    /// contract is the law.
+    pub fn known_place(&self)
+        ensures place { StandsAsWriter R.Parts.several self.now.place }
+        ensures role { HasWritersRole R.Parts.several self.now.role }
+    {
+        self.parts.known_place();
     }
 }
 
@@ -131,50 +182,15 @@ impl<
     {
         Self::from_parts(SoleParts::on_nothing(alloc))
     }
-
-    /// The window of these parts, with a list that is legal, on nothing or on a block that the
-    /// layout holds. It adds nothing.
-    #[inline(always)]
-    pub fn from_parts(parts: SoleParts<S, B, M, A, H>) -> Self
-        requires held { IsBlockHeld (layout_facts L.Layout) parts.place }
-        requires legal { ∥ S.is_legal parts.items ∥₁ }
-        ensures { result ≡ parts }
-    {
-        ArcSliceMut {
-            parts: WriterStorage::Sole(parts),
-            of: PhantomData,
-        }
-    }
-
-    /// The window stands on nothing, or on a block that counts its owners and may be written. Does
-    /// nothing: its contract is the law.
-    pub fn known_place(&self)
-        ensures { IsWriterPlace self.now.place }
-    {
-        as_sole!(&self.parts, parts => parts.known_place())
-    }
-
-    /// What the window is made of. It adds nothing.
-    #[inline(always)]
-    pub fn into_parts(self) -> SoleParts<S, B, M, A, H>
-        ensures parts { result ≡ self }
-        ensures held { IsBlockHeld (layout_facts L.Layout) result.place }
-        ensures legal { ∥ S.is_legal result.items ∥₁ }
-    {
-        let ArcSliceMut { parts, of: _ } = self;
-        as_sole!(parts, parts => parts)
-    }
 }
 
 mod buffers;
 mod change;
 mod cuts;
-mod either;
 mod into_mut;
 mod iterate;
 mod make;
 mod own;
-mod parts;
 mod read;
 mod room;
 mod several;

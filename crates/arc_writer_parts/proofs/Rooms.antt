@@ -1,10 +1,12 @@
 -- Room for one of several writers: that of the only one, who is one of several then.
-use Rattle.std.proofs.Common.{◌≡◌, ℕ, ◌-◌, ◌≤◌, ◌<◌, ◌==◌, nat_lt, Bool, true, false, not, ◌&&◌}
-use Rattle.std.proofs.Common.{if◌then◌else◌, length, Option, Some, None, refl, sym, ap, ◌∙◌, subst}
+use Rattle.std.proofs.Common.{◌≡◌, ℕ, ◌+◌, ◌-◌, ◌*◌, ◌≤◌, ◌<◌, ◌==◌, nat_lt, Bool, true, false, not}
+use Rattle.std.proofs.Common.{◌&&◌, ◌||◌, if◌then◌else◌, List, ◌++◌, length, Option, Some, None}
+use Rattle.std.proofs.Common.{refl, sym, ap, ◌∙◌, subst}
 use Rattle.std.specs.Prelude.{Result, Ok, Err, ◌↔◌, IsTrue}
 use Rattle.std.proofs.lemmas.Bool.{lt-ltb, le-ltb, false≢true}
 use Rattle.arc_owners.specs.declared.error.TryReserveError.{TryReserveError}
-use Rattle.arc_owners.specs.declared.error.TryReserveError.TheVariants.{NotUnique}
+use Rattle.arc_owners.specs.declared.error.TryReserveError.TheVariants.{CapacityOverflow, NotUnique}
+use Rattle.arc_owners.specs.declared.error.TryReserveError.TheVariants.{Unsupported}
 use Rattle.arc_owners.specs.declared.count.tokens.Pass.{Pass}
 use Rattle.arc_owners.specs.count.Calls.{Owner}
 use Rattle.arc_parts.specs.declared.room.Room.{Room}
@@ -12,12 +14,76 @@ use Rattle.arc_parts.specs.declared.room.Room.TheVariants.{Spare, Fresh, Behind,
 use Rattle.arc_parts.specs.declared.room.Room.TheVariants.{Growth, Own, Refused}
 use Rattle.arc_block.specs.Block.{Sort, native, vector, buffer, raw, IsMemory, IsBuffer}
 use Rattle.arc_block.specs.Place.{Place, nowhere, static_data, on_block, IsOnBlock}
-use Rattle.arc_parts.specs.Shared.{as_shared, as_unique, asks_alone, is_on_block, AsksAlone}
+use Rattle.arc_parts.specs.Room.{ends_full, growth, is_too_large, larger_size}
+use Rattle.arc_parts.specs.Shared.{as_shared, as_unique, asks_alone, extended, is_on_block}
+use Rattle.arc_parts.specs.Shared.{AsksAlone}
 use Rattle.arc_parts.specs.Shared.{IsSharedPlace, MakesRoomBeside, MakesSharedRoom, ReclaimsShared}
 use Rattle.arc_block.specs.Table.{sole_writer, one_writer_of_several}
 use Rattle.arc_parts.specs.Window.{PartsView, IsOfBuffer}
-use Rattle.arc_parts.specs.Writers.{capacity_of, room_at, room_for, MakesRoom, Reclaims, with_size}
+use Rattle.arc_parts.specs.Writers.{capacity_of, room_at, room_for, MakesRoom, Reclaims, with_full}
+use Rattle.arc_parts.specs.Writers.{with_more, with_size}
+use Rattle.arc_sort_writers.specs.Growth.{IfAsked}
 use Rattle.arc_block.specs.Place.{at_front}
+
+-- which buffer is asked, by case of where there is room
+either-asked : (b : Bool) (P : ℕ → Type 0) (x y : Room) → IfAsked x P → IfAsked y P
+    → IfAsked (if b then x else y) P
+either-asked true P x y p q = p
+either-asked false P x y p q = q
+
+-- growth of memory asks none
+memory-asked : (sort : Sort) (size places end additional : ℕ) (P : ℕ → Type 0) → IsMemory sort
+    → IfAsked (growth sort size places end additional) P
+memory-asked native size places end additional P memory =
+    let needed = end + additional in
+    either-asked (nat_lt 9223372036854775807 needed
+    || nat_lt 9223372036854775807 (larger_size places needed * size)) P
+    (Refused CapacityOverflow) (Growth (larger_size places needed)) tt tt
+memory-asked vector size places end additional P memory =
+    let needed = end + additional in
+    either-asked (is_too_large size needed) P (Refused CapacityOverflow)
+    (Growth (if is_too_large size (larger_size places needed) then needed
+    else larger_size places needed)) tt tt
+memory-asked (buffer writable) size places end additional P memory = absurd memory
+memory-asked raw size places end additional P memory = tt
+
+-- One of several writers asks none, wherever he stands.
+module _ {N M : Type 0} (drops : Bool) (first size : ℕ) where
+  place-asked : (place : Place (Option N) M) (len additional : ℕ) (P : ℕ → Type 0)
+      → IsSharedPlace place → IfAsked (room_at drops first size place len additional) P
+  place-asked nowhere len additional P there = tt
+  place-asked static_data len additional P there = absurd there
+  place-asked (on_block None offset info) len additional P there = absurd there
+  place-asked (on_block (Some owner) offset info) len additional P there =
+      let grown = growth info.sort size info.size (offset + len) additional in
+      let front = not drops && not (nat_lt offset len)
+      && not (nat_lt (info.size - len) additional) in
+      let behind = not (nat_lt (info.size - offset - len) additional) in
+      either-asked (drops && not (ends_full info (offset + len))) P (Refused Unsupported)
+      (if behind then Behind else if front then Front else grown) tt
+      (either-asked behind P Behind (if front then Front else grown) tt
+      (either-asked front P Front grown tt
+      (memory-asked info.sort size info.size (offset + len) additional P there)))
+
+pub shared_asked : {T M : Type 0} (drops : Bool) (size additional : ℕ)
+    (w : PartsView T M) (P : ℕ → Type 0) → IsSharedPlace w.place
+    → IfAsked (room_for drops size w additional) P
+shared_asked drops size additional w P there =
+    let first = if size == 1 then 8 else 4 in
+    either-asked (not (nat_lt (capacity_of w.role - length w.items) additional)) P Spare
+    (room_at drops first size w.place (length w.items) additional) tt
+    (place-asked drops first size w.place (length w.items) additional P there)
+
+-- full places that aren't counted stay as they are when items are pushed
+pub more_extended : {T M : Type 0} (xs : List T) (w v : PartsView T M)
+    → ((len more : ℕ) → with_full len more w.place ≡ w.place) → v ≡ with_more xs w
+    → v ≡ extended xs w
+more_extended xs w v same is =
+    is
+    ∙ (λ i. record w {
+      items = w.items ++ xs;
+      place = same (length w.items) (length xs) i;
+    })
 
 -- whether a place lies on a block, as an answer says it
 pub on_block_answer : {N M : Type 0} (b : Bool) (place : Place N M) → (IsTrue b ↔ IsOnBlock place)

@@ -1,2 +1,2 @@
 pub mod PartsOn
-pub mod Lends
+pub mod Roles

@@ -1,13 +1,13 @@
 //! Parts of a window that writes as one of several owners of its block.
-ghost use Rattle.std.specs.Prelude.{◌≡◌, ℕ, ◌≤◌, ◌↔◌, [], length, false, IsTrue};
+ghost use Rattle.std.specs.Prelude.{◌≡◌, ℕ, ◌↔◌, [], false, IsTrue};
 ghost use Rattle.arc_block.specs.LayoutFacts.{layout_facts};
 ghost use Rattle.arc_block.specs.Place.{nowhere};
 ghost use Rattle.arc_sort_writers.specs.NativeWriters.{native_row, IsAlonePlace};
-ghost use Rattle.arc_parts.specs.Shared.{IsSharedPlace, as_shared, is_vector_at};
+ghost use Rattle.arc_parts.specs.Shared.{as_shared, is_vector_at};
 ghost use Rattle.arc_parts.specs.Steps.{EndsShownAt};
 ghost use Rattle.arc_block.specs.Table.{one_writer_of_several};
 ghost use Rattle.arc_parts.specs.Window.{IsBlockHeld};
-ghost use Rattle.arc_parts.specs.Writers.{capacity_of, with_full};
+ghost use Rattle.arc_parts.specs.Writers.{with_full};
 
 use crate::sole::SoleParts;
 use arc_block::layout::Layout;
@@ -126,18 +126,6 @@ impl<S: Slice, B: BufferMut<S::Item> + Drop, M: Drop, A: Allocator + Copy, H: Ma
         }
     }
 
-    /// They stand on nothing, or on a block that counts its owners and keeps its items in memory of
-    /// ours, as one of several writers. Does nothing: its contract is the law.
-    pub fn known_place(&self)
-        ensures place { IsSharedPlace self.now.place }
-        ensures role { self.now.role ≡ one_writer_of_several (capacity_of self.now.role) }
-    {
-        match &self.on {
-            SharedStorage::Several(_) => (),
-            SharedStorage::Alone(_) => (),
-        }
-    }
-
     /// Items of this kind need no drop. Does nothing: its contract is the law.
     pub fn known_kind(&self)
         ensures { S.DROPS ≡ false }
@@ -167,38 +155,17 @@ impl<S: Slice, B: BufferMut<S::Item> + Drop, M: Drop, A: Allocator + Copy, H: Ma
         }
     }
 
-    /// How many items there are.
-    #[inline(always)]
-    pub fn len(&self) -> usize
-        ensures { result ≡ length self.now.items }
+    /// The same parts, of items of another kind. It adds nothing.
+    pub fn into_kind<K: Slice<Item = S::Item>>(self) -> SharedParts<K, B, M, A, H>
+        requires { K.DROPS ≡ S.DROPS }
+        ensures { result ≡ self }
     {
-        match &self.on {
-            SharedStorage::Several(writer) => writer.len(),
-            SharedStorage::Alone(parts) => parts.len(),
-        }
-    }
-
-    /// The items.
-    #[inline(always)]
-    pub fn as_slice(&self) -> &[S::Item]
-        ensures { result.now ≡ self.now.items }
-    {
-        match &self.on {
-            SharedStorage::Several(writer) => writer.as_slice(),
-            SharedStorage::Alone(parts) => parts.as_slice(),
-        }
-    }
-
-    /// How many places there are for items, from the first of them on.
-    #[inline(always)]
-    pub fn capacity(&self) -> usize
-        ensures capacity { result ≡ capacity_of self.now.role }
-        ensures enough { length self.now.items ≤ result }
-    {
-        match &self.on {
-            SharedStorage::Several(writer) => writer.capacity(),
-            SharedStorage::Alone(parts) => parts.capacity(),
-        }
+        let SharedParts { on, alloc } = self;
+        let on = match on {
+            SharedStorage::Several(writer) => SharedStorage::Several(writer),
+            SharedStorage::Alone(parts) => SharedStorage::Alone(parts.into_kind()),
+        };
+        SharedParts { on, alloc }
     }
 
     /// Whether a layout holds the block, where there is one.
@@ -212,12 +179,10 @@ impl<S: Slice, B: BufferMut<S::Item> + Drop, M: Drop, A: Allocator + Copy, H: Ma
     }
 }
 
-mod ends;
 mod freeze;
 mod joins;
-mod push;
+mod role;
 mod room;
 mod splits;
 mod take;
 mod unique;
-mod write;

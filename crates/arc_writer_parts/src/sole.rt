@@ -1,15 +1,11 @@
 //! Parts of a window that writes as the only owner of its block.
 ghost use Rattle.std.specs.Prelude.{◌≡◌, ◌≤◌, ◌+◌, [], length, replicate, false};
-ghost use Rattle.std.specs.Prelude.{IfOk, IfErr, OnOk, OnErr};
-ghost use Rattle.std.specs.Mem.{FitsInMemory, type_size};
+ghost use Rattle.std.specs.Prelude.{IfOk, IfErr, OnErr};
 ghost use Rattle.arc_owners.specs.count.Calls.{IsPassOfNone};
-ghost use Rattle.arc_sort_writers.specs.Growth.{IfAsked, AsksForRoom};
 ghost use Rattle.arc_block.specs.Place.{nowhere};
-ghost use Rattle.arc_parts.specs.Steps.{IsPassAt, EndsShownAt};
+ghost use Rattle.arc_parts.specs.Steps.{EndsShownAt};
 ghost use Rattle.arc_block.specs.Table.{sole_writer};
-ghost use Rattle.arc_parts.specs.Writers.{capacity_of, room_for, MakesWriter, MakesRoom};
-ghost use Rattle.arc_parts.specs.Writers.{IsWriterPlace};
-ghost use Rattle.arc_block.specs.Place.{size_at};
+ghost use Rattle.arc_parts.specs.Writers.{MakesWriter};
 ghost use Rattle.std.specs.Prelude.{IsTrue};
 ghost use Rattle.std.specs.Prelude.{◌↔◌};
 ghost use Rattle.arc_parts.specs.Window.{IsOfBuffer};
@@ -17,7 +13,7 @@ ghost use Rattle.arc_parts.specs.Shared.{is_vector_at};
 
 use arc_buffer::buffer::BufferMut;
 use arc_buffer::kinds::{Slice, Zeroable};
-use arc_owners::error::{AllocError, TryReserveError};
+use arc_owners::error::AllocError;
 use arc_owners::mark::{Mark, Open};
 use arc_owners::owners::Pass;
 use arc_sort_writers::buffer::SoleBuffer;
@@ -142,55 +138,6 @@ impl<S: Slice, B: BufferMut<S::Item> + Drop, M: Drop, A: Allocator + Copy, H: Ma
         }
     }
 
-    /// They stand on nothing, or on a block that counts its owners and may be written. Does
-    /// nothing: its contract is the law.
-    pub fn known_place(&self)
-        ensures { IsWriterPlace self.now.place }
-    {
-        match &self.on {
-            SoleStorage::Buffer(parts) => parts.known_place(),
-            SoleStorage::Native(parts) => parts.known_place(),
-            SoleStorage::Vector(parts) => parts.known_place(),
-        }
-    }
-
-    /// How many items there are.
-    #[inline(always)]
-    pub fn len(&self) -> usize
-        ensures { result ≡ length self.now.items }
-    {
-        match &self.on {
-            SoleStorage::Buffer(parts) => parts.len(),
-            SoleStorage::Native(parts) => parts.len(),
-            SoleStorage::Vector(parts) => parts.len(),
-        }
-    }
-
-    /// The items.
-    #[inline(always)]
-    pub fn as_slice(&self) -> &[S::Item]
-        ensures { result.now ≡ self.now.items }
-    {
-        match &self.on {
-            SoleStorage::Buffer(parts) => parts.as_slice(),
-            SoleStorage::Native(parts) => parts.as_slice(),
-            SoleStorage::Vector(parts) => parts.as_slice(),
-        }
-    }
-
-    /// How many places there are for items, from the first of them on.
-    #[inline(always)]
-    pub fn capacity(&self) -> usize
-        ensures capacity { result ≡ capacity_of self.now.role }
-        ensures enough { length self.now.items ≤ result }
-    {
-        match &self.on {
-            SoleStorage::Buffer(parts) => parts.capacity(),
-            SoleStorage::Native(parts) => parts.capacity(),
-            SoleStorage::Vector(parts) => parts.capacity(),
-        }
-    }
-
     /// No items, with so many places: for none on nothing, else on a new native block. The pass,
     /// which is of no block, becomes the block's.
     ///
@@ -295,60 +242,12 @@ impl<S: Slice, B: BufferMut<S::Item> + Drop, M: Drop, A: Allocator + Copy, H: Ma
             Err(e) => Err(e),
         }
     }
-
-    /// Makes room for so many items more.
-    ///
-    /// # Errors
-    ///
-    /// Where the window hasn't the places already, in this order:
-    ///
-    /// - `Unsupported` where items that are dropped one by one end before the block's full places.
-    /// - Over a caller's buffer its own refusal.
-    /// - `CapacityOverflow` where a block would have to grow to more than 2^63 - 1 places or bytes.
-    /// - `AllocError` where memory is refused for a larger block, or for a first one of any size.
-    ///
-    /// Everything is then as before.
-    ///
-    /// # Allocates
-    ///
-    /// Once for a first block, and once where the block grows: where the places behind the items
-    /// aren't enough, unless items that aren't dropped one by one are no more than the places in
-    /// front of them, and the whole block is large enough.
-    ///
-    /// # History
-    ///
-    /// Nothing is added. Where a first block is made, the pass, which was of none, becomes that
-    /// block's.
-    #[inline(always)]
-    #[tactic(auto, using(arc_sort_writers::proofs::Growth::never_asked))]
-    pub fn try_reserve_as(
-        &mut self,
-        additional: usize,
-        pass: &mut Pass<H>,
-    ) -> Result<(), TryReserveError>
-        requires item { FitsInMemory S.Item.row }
-        requires pass { IsPassAt self.old.place pass.old }
-        ensures room { MakesRoom S.DROPS H.whole
-            (room_for S.DROPS (type_size S.Item.row) self.old additional)
-            self.old self.new pass.old pass.new result }
-        ensures items { self.new.items ≡ self.old.items }
-        ensures enough { OnOk result
-            (length self.new.items + additional ≤ capacity_of self.new.role) }
-        ensures own { IfAsked (room_for S.DROPS (type_size S.Item.row) self.old additional) (λ k.
-            AsksForRoom B.list B.places B.grows B.refuses self.old k (size_at self.new.place)
-            result) }
-    {
-        match &mut self.on {
-            SoleStorage::Buffer(parts) => parts.try_reserve_as(additional, pass),
-            SoleStorage::Native(parts) => parts.try_reserve_as(additional, pass),
-            SoleStorage::Vector(parts) => parts.try_reserve_as(additional, pass),
-        }
-    }
 }
 
 mod alone;
 mod buffers;
 mod ends;
+mod role;
 mod shared;
 mod vectors;
 mod write;

@@ -2,7 +2,7 @@
 ghost use Rattle.std.specs.Prelude.{◌≡◌, ◌≤◌, ◌∷◌, [], Err, true, false, length, is_some, refl};
 ghost use Rattle.std.specs.Prelude.{◌&&◌, IfNone, IfSome, None};
 ghost use Rattle.std.specs.Prelude.{IfOk, IfErr, OnErr, OnOk};
-ghost use Rattle.std.specs.Mem.{FitsInMemory, type_size};
+ghost use Rattle.std.specs.Mem.{type_size};
 ghost use Rattle.std.specs.Str.{IsUtf8};
 ghost use Rattle.arc_owners.specs.count.Calls.{IsPassOfNone};
 ghost use Rattle.arc_owners.specs.declared.mark.Whole.{Whole as whole_mark};
@@ -151,7 +151,6 @@ pub trait CallsOf<S: Subsliceable> {
         item: S::Item,
         pass: &mut Pass<Whole>,
     ) -> Option<Result<(), TryReserveError>>
-        requires item { FitsInMemory S.Item.row }
         requires pass { IsPassAt window.old.place pass.old }
         ensures call { is_some result ≡ calls.pushes }
         ensures pushed { IfSome result (λ done. OnOk done (Pushes S.DROPS true
@@ -182,7 +181,6 @@ pub trait CallsOf<S: Subsliceable> {
         pass: &mut Pass<Whole>,
     ) -> Option<Result<(), TryReserveError>>
         requires legal { ∥ S.is_legal items.now ∥₁ }
-        requires item { FitsInMemory S.Item.row }
         requires pass { IsPassAt window.old.place pass.old }
         ensures call { is_some result ≡ calls.extends }
         ensures extended { IfSome result (λ done. OnOk done (Pushes S.DROPS true
@@ -342,7 +340,6 @@ pub trait CallsOf<S: Subsliceable> {
         item: S::Item,
         pass: &mut Pass<Whole>,
     ) -> Option<Result<(), TryReserveError>>
-        requires item { FitsInMemory S.Item.row }
         requires pass { IsPassAt window.old.place pass.old }
         ensures call { is_some result ≡ calls.pushes && calls.shares }
         ensures pushed { IfSome result (λ done. OnOk done (PushesShared
@@ -381,7 +378,6 @@ pub trait CallsOf<S: Subsliceable> {
         pass: &mut Pass<Whole>,
     ) -> Option<Result<(), TryReserveError>>
         requires legal { ∥ S.is_legal items.now ∥₁ }
-        requires item { FitsInMemory S.Item.row }
         requires pass { IsPassAt window.old.place pass.old }
         ensures call { is_some result ≡ calls.extends && calls.shares }
         ensures extended { IfSome result (λ done. OnOk done (PushesShared

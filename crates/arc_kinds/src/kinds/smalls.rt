@@ -1,6 +1,6 @@
 //! Small windows of the kinds that have them.
-ghost use Rattle.std.specs.Prelude.{◌≡◌, ◌<◌, ◌↔◌, [], Bool, true, false, length, drop, is_some};
-ghost use Rattle.std.specs.Prelude.{IfErr, IfNone, IfOk, IfSome, IsOk, OnErr};
+ghost use Rattle.std.specs.Prelude.{◌≡◌, ◌<◌, ◌↔◌, [], ℕ, Bool, true, false, length, drop, is_some};
+ghost use Rattle.std.specs.Prelude.{IfErr, IfNone, IfOk, IfSome, IsOk, None, OnErr};
 ghost use Rattle.arc_owners.specs.count.Calls.{IsPassOfNone, Leaves};
 ghost use Rattle.arc_buffer.specs.Slice.{IsEdge, IsRange, edge_answer, range_answer, sub};
 ghost use Rattle.arc_block.specs.Inline.{inline_limit};
@@ -12,10 +12,10 @@ ghost use Rattle.arc_parts.specs.Window.{PartsView, window_of};
 ghost use Rattle.arc_read.specs.Cuts.{sub_place};
 ghost use Rattle.arc_small.specs.Small.{MakesSmall};
 
+use super::TableKind;
 use super::calls::as_text;
 use arc_block::layout::Layout;
-use arc_buffer::buffer::BufferMut;
-use arc_buffer::kinds::{ByteText, Plain, Subsliceable, Text};
+use arc_buffer::kinds::{ByteText, Emptyable, Plain, Subsliceable, Text};
 use arc_owners::error::{AllocError, OwnerError, RangeError};
 use arc_owners::mark::Whole;
 use arc_owners::owners::Pass;
@@ -33,19 +33,13 @@ pub trait Smalls {
         ensures { result ≡ small };
 }
 
-/// The small windows of a kind S, and their calls.
-pub trait SmallOf<
-    S: Subsliceable,
-    L: Layout,
-    B: BufferMut<S::Item> + Drop,
-    M: Drop,
-    A: Allocator + Copy,
->: Smalls {
-    /// A small window: a `SmallArcSlice`, or none where the kind has none.
-    type Window;
+/// A small window of the kind S. No caller's buffer is behind it.
+pub type SmallWindow<S, L, M, A> = SmallArcSlice<<S as TableKind>::Bytes, L, Vec<u8>, M, A, Whole>;
 
-    /// What is seen of one.
-    ghost seen: { Self.Window → PartsView S.Item M };
+/// The calls of the small windows of a kind S.
+pub trait SmallOf<S: TableKind, L: Layout, M: Drop, A: Allocator + Copy>: Smalls {
+    /// What is seen of one: the window itself, or nothing where the kind has none.
+    ghost seen: { PartsView ℕ M → PartsView S.Item M };
 
     /// A small window over a copy of the items, which are legal, as
     /// `SmallArcSlice::try_from_slice_as` makes it, or `None` where there is none.
@@ -65,7 +59,7 @@ pub trait SmallOf<
         alloc: A,
         items: &[S::Item],
         pass: &mut Pass<Whole>,
-    ) -> Option<Result<Self::Window, AllocError>>
+    ) -> Option<Result<SmallWindow<S, L, M, A>, AllocError>>
         requires legal { ∥ S.is_legal items.now ∥₁ }
         requires pass { IsPassOfNone pass.old }
         ensures has { is_some result ≡ Self.small }
@@ -79,7 +73,7 @@ pub trait SmallOf<
         ensures none { IfNone result (pass.new ≡ pass.old) };
 
     /// The items of a small window.
-    fn as_slice(window: &Self::Window) -> &[S::Item]
+    fn as_slice(window: &SmallWindow<S, L, M, A>) -> &[S::Item]
         ensures { result.now ≡ (seen window.now).items };
 
     /// Whether `start` to `end` is a range of a small window.
@@ -88,7 +82,11 @@ pub trait SmallOf<
     ///
     /// `OutOfRange` where it ends behind the items, `InvalidRange` where it ends before it starts,
     /// `NotBoundary` where the items may not be cut there.
-    fn check_range(window: &Self::Window, start: usize, end: usize) -> Result<(), RangeError>
+    fn check_range(
+        window: &SmallWindow<S, L, M, A>,
+        start: usize,
+        end: usize,
+    ) -> Result<(), RangeError>
         ensures answer { result ≡ range_answer S.boundary (seen window.now).items start end }
         ensures ok { IsOk result ↔ IsRange S.boundary (seen window.now).items start end };
 
@@ -97,12 +95,12 @@ pub trait SmallOf<
     /// # Errors
     ///
     /// `OutOfRange` behind the items, `NotBoundary` where these may not be cut.
-    fn check_at(window: &Self::Window, at: usize) -> Result<(), RangeError>
+    fn check_at(window: &SmallWindow<S, L, M, A>, at: usize) -> Result<(), RangeError>
         ensures answer { result ≡ edge_answer S.boundary (seen window.now).items at }
         ensures ok { IsOk result ↔ IsEdge S.boundary (seen window.now).items at };
 
     /// Takes the first `by` items off a small window, which stays where it stands.
-    fn advance(window: &mut Self::Window, by: usize)
+    fn advance(window: &mut SmallWindow<S, L, M, A>, by: usize)
         requires { IsEdge S.boundary (seen window.old).items by }
         ensures { seen window.new ≡ record {
           items = drop by (seen window.old).items;
@@ -124,10 +122,10 @@ pub trait SmallOf<
     ///
     /// As that call.
     fn try_clone_as(
-        window: &Self::Window,
+        window: &SmallWindow<S, L, M, A>,
         rt: &impl Wait,
         pass: &mut Pass<Whole>,
-    ) -> Result<Self::Window, OwnerError>
+    ) -> Result<SmallWindow<S, L, M, A>, OwnerError>
         requires pass { IsPassAt (seen window.now).place pass.old }
         ensures items { IfOk result (λ made. (seen made).items ≡ (seen window.now).items) }
         ensures place { IfOk result (λ made.
@@ -150,12 +148,12 @@ pub trait SmallOf<
     ///
     /// As that call.
     fn try_subslice_as(
-        window: &Self::Window,
+        window: &SmallWindow<S, L, M, A>,
         rt: &impl Wait,
         start: usize,
         end: usize,
         pass: &mut Pass<Whole>,
-    ) -> Result<Self::Window, OwnerError>
+    ) -> Result<SmallWindow<S, L, M, A>, OwnerError>
         requires range { IsRange S.boundary (seen window.now).items start end }
         requires pass { IsPassAt (seen window.now).place pass.old }
         ensures items { IfOk result (λ made.
@@ -167,15 +165,17 @@ pub trait SmallOf<
             Refuses L.clone_wants (sub_place L.STATIC (window_of (seen window.now)) start end)
             pass.old pass.new e) };
 
-    /// Ends a small window. The last owner gives its block back.
+    /// Ends a small window, which is in its place. The last owner gives its block back.
     ///
     /// # History
     ///
     /// On a block that counts its owners Down.
-    fn release_as(window: Self::Window, pass: &mut Pass<Whole>)
-        requires { IsPassAt (seen window).place pass.old }
-        ensures { at_owner (seen window).place (pass.new ≡ pass.old) (λ o. (last : Bool)
-            × Leaves o pass.old pass.new last) };
+    fn release_as(window: &mut Option<SmallWindow<S, L, M, A>>, pass: &mut Pass<Whole>)
+        requires there { is_some window.old ≡ true }
+        requires pass { IfSome window.old (λ w. IsPassAt (seen w).place pass.old) }
+        ensures ended { IfSome window.old (λ w. at_owner (seen w).place (pass.new ≡ pass.old) (λ o.
+            (last : Bool) × Leaves o pass.old pass.new last)) }
+        ensures gone { window.new ≡ None };
 }
 
 /// A kind of bytes, of which there are small windows.
@@ -194,11 +194,11 @@ pub trait SmallKind: Subsliceable<Item = u8> {
     /// # History
     ///
     /// As that call.
-    fn try_small_as<L: Layout, B: BufferMut<u8> + Drop, M: Drop, A: Allocator + Copy>(
+    fn try_small_as<L: Layout, M: Drop, A: Allocator + Copy>(
         alloc: A,
         items: &[u8],
         pass: &mut Pass<Whole>,
-    ) -> Result<SmallArcSlice<Self, L, B, M, A, Whole>, AllocError>
+    ) -> Result<SmallArcSlice<Self, L, Vec<u8>, M, A, Whole>, AllocError>
         requires legal { ∥ Self.is_legal items.now ∥₁ }
         requires pass { IsPassOfNone pass.old }
         ensures made { IfOk result (λ window. MakesSmall (inline_limit (layout_facts L.Layout))
@@ -214,38 +214,34 @@ pub struct HasSmall;
 /// There are none.
 pub struct NoSmall;
 
-/// What stands for a small window of a kind that has none: it has no items, and stands on nothing.
-/// No table has one, since none is made.
-pub struct NoWindow;
-
 impl SmallKind for Plain<u8> {
-    fn try_small_as<L: Layout, B: BufferMut<u8> + Drop, M: Drop, A: Allocator + Copy>(
+    fn try_small_as<L: Layout, M: Drop, A: Allocator + Copy>(
         alloc: A,
         items: &[u8],
         pass: &mut Pass<Whole>,
-    ) -> Result<SmallArcSlice<Plain<u8>, L, B, M, A, Whole>, AllocError> {
+    ) -> Result<SmallArcSlice<Plain<u8>, L, Vec<u8>, M, A, Whole>, AllocError> {
         SmallArcSlice::try_from_slice_as(alloc, items, pass)
     }
 }
 
 impl SmallKind for ByteText {
-    fn try_small_as<L: Layout, B: BufferMut<u8> + Drop, M: Drop, A: Allocator + Copy>(
+    fn try_small_as<L: Layout, M: Drop, A: Allocator + Copy>(
         alloc: A,
         items: &[u8],
         pass: &mut Pass<Whole>,
-    ) -> Result<SmallArcSlice<ByteText, L, B, M, A, Whole>, AllocError> {
+    ) -> Result<SmallArcSlice<ByteText, L, Vec<u8>, M, A, Whole>, AllocError> {
         SmallArcSlice::try_from_slice_as(alloc, items, pass)
     }
 }
 
 impl SmallKind for Text {
-    fn try_small_as<L: Layout, B: BufferMut<u8> + Drop, M: Drop, A: Allocator + Copy>(
+    fn try_small_as<L: Layout, M: Drop, A: Allocator + Copy>(
         alloc: A,
         items: &[u8],
         pass: &mut Pass<Whole>,
-    ) -> Result<SmallArcSlice<Text, L, B, M, A, Whole>, AllocError> {
+    ) -> Result<SmallArcSlice<Text, L, Vec<u8>, M, A, Whole>, AllocError> {
         let text = as_text(items);
-        SmallArcSlice::<Text, L, B, M, A, Whole>::try_from_str_as(alloc, text, pass)
+        SmallArcSlice::<Text, L, Vec<u8>, M, A, Whole>::try_from_str_as(alloc, text, pass)
     }
 }
 
@@ -265,99 +261,101 @@ impl Smalls for NoSmall {
     }
 }
 
-impl<S: SmallKind, L: Layout, B: BufferMut<u8> + Drop, M: Drop, A: Allocator + Copy> SmallOf<
-    S,
-    L,
-    B,
-    M,
-    A,
-> for HasSmall {
-    type Window = SmallArcSlice<S, L, B, M, A, Whole>;
-
+impl<
+    S: SmallKind + Emptyable + TableKind<Bytes = S>,
+    L: Layout,
+    M: Drop,
+    A: Allocator + Copy,
+> SmallOf<S, L, M, A> for HasSmall {
     ghost seen = { λ window. window };
 
     fn try_make_as(
         alloc: A,
         items: &[u8],
         pass: &mut Pass<Whole>,
-    ) -> Option<Result<SmallArcSlice<S, L, B, M, A, Whole>, AllocError>> {
+    ) -> Option<Result<SmallArcSlice<S, L, Vec<u8>, M, A, Whole>, AllocError>> {
         Some(S::try_small_as(alloc, items, pass))
     }
 
-    fn as_slice(window: &SmallArcSlice<S, L, B, M, A, Whole>) -> &[u8] {
+    fn as_slice(window: &SmallArcSlice<S, L, Vec<u8>, M, A, Whole>) -> &[u8] {
         window.as_slice()
     }
 
     fn check_range(
-        window: &SmallArcSlice<S, L, B, M, A, Whole>,
+        window: &SmallArcSlice<S, L, Vec<u8>, M, A, Whole>,
         start: usize,
         end: usize,
     ) -> Result<(), RangeError> {
         window.check_range(start, end)
     }
 
-    fn check_at(window: &SmallArcSlice<S, L, B, M, A, Whole>, at: usize) -> Result<(), RangeError> {
+    fn check_at(
+        window: &SmallArcSlice<S, L, Vec<u8>, M, A, Whole>,
+        at: usize,
+    ) -> Result<(), RangeError> {
         window.check_at(at)
     }
 
-    fn advance(window: &mut SmallArcSlice<S, L, B, M, A, Whole>, by: usize) {
+    fn advance(window: &mut SmallArcSlice<S, L, Vec<u8>, M, A, Whole>, by: usize) {
         window.advance(by);
     }
 
     #[inline(always)]
     fn try_clone_as(
-        window: &SmallArcSlice<S, L, B, M, A, Whole>,
+        window: &SmallArcSlice<S, L, Vec<u8>, M, A, Whole>,
         rt: &impl Wait,
         pass: &mut Pass<Whole>,
-    ) -> Result<SmallArcSlice<S, L, B, M, A, Whole>, OwnerError> {
+    ) -> Result<SmallArcSlice<S, L, Vec<u8>, M, A, Whole>, OwnerError> {
         window.try_clone_as(rt, pass)
     }
 
     #[inline(always)]
     fn try_subslice_as(
-        window: &SmallArcSlice<S, L, B, M, A, Whole>,
+        window: &SmallArcSlice<S, L, Vec<u8>, M, A, Whole>,
         rt: &impl Wait,
         start: usize,
         end: usize,
         pass: &mut Pass<Whole>,
-    ) -> Result<SmallArcSlice<S, L, B, M, A, Whole>, OwnerError> {
+    ) -> Result<SmallArcSlice<S, L, Vec<u8>, M, A, Whole>, OwnerError> {
         window.try_subslice_as(rt, start, end, pass)
     }
 
     #[inline(always)]
-    fn release_as(window: SmallArcSlice<S, L, B, M, A, Whole>, pass: &mut Pass<Whole>) {
-        window.release_as(pass);
+    fn release_as(
+        window: &mut Option<SmallArcSlice<S, L, Vec<u8>, M, A, Whole>>,
+        pass: &mut Pass<Whole>,
+    ) {
+        if let Some(window) = window.take() {
+            window.release_as(pass);
+        }
     }
 }
 
-impl<
-    S: Subsliceable,
-    L: Layout,
-    B: BufferMut<S::Item> + Drop,
-    M: Drop,
-    A: Allocator + Copy,
-> SmallOf<S, L, B, M, A> for NoSmall {
-    type Window = NoWindow;
-
+// No table has one, since none is made: so what is seen of one is nothing, whatever it is.
+impl<S: TableKind, L: Layout, M: Drop, A: Allocator + Copy> SmallOf<S, L, M, A> for NoSmall {
     ghost seen = { λ window. record { items = []; place = nowhere; role = inline } };
 
     fn try_make_as(
         alloc: A,
         items: &[S::Item],
         pass: &mut Pass<Whole>,
-    ) -> Option<Result<NoWindow, AllocError>> {
+    ) -> Option<Result<SmallWindow<S, L, M, A>, AllocError>> {
         let _ = alloc;
         let _ = items;
         let _ = pass;
         None
     }
 
-    fn as_slice(window: &NoWindow) -> &[S::Item] {
+    fn as_slice(window: &SmallWindow<S, L, M, A>) -> &[S::Item] {
         let _ = window;
         &[]
     }
 
-    fn check_range(window: &NoWindow, start: usize, end: usize) -> Result<(), RangeError> {
+    fn check_range(
+        window: &SmallWindow<S, L, M, A>,
+        start: usize,
+        end: usize,
+    ) -> Result<(), RangeError> {
         let _ = window;
         if end > 0 {
             return Err(RangeError::OutOfRange);
@@ -372,7 +370,7 @@ impl<
         }
     }
 
-    fn check_at(window: &NoWindow, at: usize) -> Result<(), RangeError> {
+    fn check_at(window: &SmallWindow<S, L, M, A>, at: usize) -> Result<(), RangeError> {
         let _ = window;
         if at > 0 {
             return Err(RangeError::OutOfRange);
@@ -384,39 +382,39 @@ impl<
         }
     }
 
-    fn advance(window: &mut NoWindow, by: usize) {
+    fn advance(window: &mut SmallWindow<S, L, M, A>, by: usize) {
         let _ = window;
         let _ = by;
     }
 
     fn try_clone_as(
-        window: &NoWindow,
+        window: &SmallWindow<S, L, M, A>,
         rt: &impl Wait,
         pass: &mut Pass<Whole>,
-    ) -> Result<NoWindow, OwnerError> {
+    ) -> Result<SmallWindow<S, L, M, A>, OwnerError> {
         let _ = window;
         let _ = rt;
         let _ = pass;
-        Ok(NoWindow)
+        Ok(SmallArcSlice::new())
     }
 
     fn try_subslice_as(
-        window: &NoWindow,
+        window: &SmallWindow<S, L, M, A>,
         rt: &impl Wait,
         start: usize,
         end: usize,
         pass: &mut Pass<Whole>,
-    ) -> Result<NoWindow, OwnerError> {
+    ) -> Result<SmallWindow<S, L, M, A>, OwnerError> {
         let _ = window;
         let _ = rt;
         let _ = start;
         let _ = end;
         let _ = pass;
-        Ok(NoWindow)
+        Ok(SmallArcSlice::new())
     }
 
-    fn release_as(window: NoWindow, pass: &mut Pass<Whole>) {
-        let NoWindow = window;
+    fn release_as(window: &mut Option<SmallWindow<S, L, M, A>>, pass: &mut Pass<Whole>) {
+        drop(window.take());
         let _ = pass;
     }
 }

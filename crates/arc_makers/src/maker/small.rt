@@ -31,7 +31,7 @@ fn small<S: Commands<A>, L: Layout, B: BufferMut<S::Item> + Drop, M: Drop, A: Al
 ) -> Result<Slot<S, L, B, M, A>, AllocError>
 where
     L::Writable: LayoutMut,
-    S::Small: SmallOf<S, L, B, M, A>,
+    S::Small: SmallOf<S, L, M, A>,
     requires has { S.Small.small ≡ true }
     requires legal { ∥ S.is_legal items.now ∥₁ }
     requires room { inline_limit (layout_facts L.Layout) < length items.now
@@ -77,7 +77,7 @@ pub(super) fn over_few<
 ) -> (TableReply<S, B, M, A>, Option<Slot<S, L, B, M, A>>)
 where
     L::Writable: LayoutMut,
-    S::Small: SmallOf<S, L, B, M, A>,
+    S::Small: SmallOf<S, L, M, A>,
     ensures made { Makes ⟦<S as TableUnder<L, A>>⟧.setting next (command.Small (S.items_in items))
         passes.old.of_blocks.items (seen_reply S.items_in S.items_in_box B.list result.0) result.1
         passes.new.of_blocks.items }

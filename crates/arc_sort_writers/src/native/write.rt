@@ -1,7 +1,7 @@
 //! What a sole writer does to its items on a native block.
 ghost use Rattle.std.specs.Prelude.{◌≡◌, ◌≤◌, ◌+◌, ◌++◌, ◌∷◌, [], length, IfErr, OnOk, Ok, Err};
 ghost use Rattle.std.specs.Borrow.{sem};
-ghost use Rattle.std.specs.Mem.{FitsInMemory, type_size};
+ghost use Rattle.std.specs.Mem.{type_size};
 ghost use Rattle.arc_parts.specs.Room.{IfOwn};
 ghost use Rattle.arc_parts.specs.Steps.{IsPassAt};
 ghost use Rattle.arc_parts.specs.Writers.{capacity_of, room_for, MakesRoom, Pushes, Reclaims};
@@ -31,7 +31,6 @@ impl<S: Slice, M: Drop, A: Allocator + Copy, H: Mark> SoleNative<S, M, A, H> {
 
     /// Whether there is room for so many items more without memory; then it is made.
     pub fn try_reclaim(&mut self, additional: usize) -> bool
-        requires item { FitsInMemory S.Item.row }
         ensures { Reclaims (room_for S.DROPS (type_size S.Item.row) self.old additional)
             self.old self.new result }
     {
@@ -68,7 +67,6 @@ impl<S: Slice, M: Drop, A: Allocator + Copy, H: Mark> SoleNative<S, M, A, H> {
         item: S::Item,
         pass: &mut Pass<H>,
     ) -> Result<(), (TryReserveError, S::Item)>
-        requires item { FitsInMemory S.Item.row }
         requires pass { IsPassAt self.old.place pass.old }
         ensures pushed { OnOk result (Pushes S.DROPS H.whole
             (room_for S.DROPS (type_size S.Item.row) self.old 1) (item ∷ [])
@@ -148,7 +146,6 @@ where
         items: &[S::Item],
         pass: &mut Pass<H>,
     ) -> Result<(), TryReserveError>
-        requires item { FitsInMemory S.Item.row }
         requires pass { IsPassAt self.old.place pass.old }
         ensures extended { OnOk result (Pushes S.DROPS H.whole
             (room_for S.DROPS (type_size S.Item.row) self.old (length items.now)) items.now

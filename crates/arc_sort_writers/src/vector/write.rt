@@ -1,7 +1,7 @@
 //! What a sole writer does to its items in a vector.
 ghost use Rattle.std.specs.Prelude.{◌≡◌, ◌≤◌, ◌+◌, ◌++◌, ◌∷◌, [], length, IfErr, OnOk, Ok, Err};
 ghost use Rattle.std.specs.Borrow.{sem};
-ghost use Rattle.std.specs.Mem.{FitsInMemory, type_size};
+ghost use Rattle.std.specs.Mem.{type_size};
 ghost use Rattle.std.specs.Vec.{vec_len, vec_capacity};
 ghost use Rattle.arc_parts.specs.Room.{IfOwn};
 ghost use Rattle.arc_parts.specs.Steps.{IsPassAt};
@@ -39,7 +39,6 @@ impl<S: Slice, B: Buffer<S::Item> + Drop, M: Drop, A: Allocator + Copy, H: Mark>
 
     /// Whether there is room for so many items more without memory; then it is made.
     pub fn try_reclaim(&mut self, additional: usize) -> bool
-        requires item { FitsInMemory S.Item.row }
         ensures { Reclaims (room_for S.DROPS (type_size S.Item.row) self.old additional)
             self.old self.new result }
     {
@@ -73,7 +72,6 @@ impl<S: Slice, B: Buffer<S::Item> + Drop, M: Drop, A: Allocator + Copy, H: Mark>
         item: S::Item,
         pass: &mut Pass<H>,
     ) -> Result<(), (TryReserveError, S::Item)>
-        requires item { FitsInMemory S.Item.row }
         requires pass { IsPassAt self.old.place pass.old }
         ensures pushed { OnOk result (Pushes S.DROPS H.whole
             (room_for S.DROPS (type_size S.Item.row) self.old 1) (item ∷ [])
@@ -156,7 +154,6 @@ where
         items: &[S::Item],
         pass: &mut Pass<H>,
     ) -> Result<(), TryReserveError>
-        requires item { FitsInMemory S.Item.row }
         requires pass { IsPassAt self.old.place pass.old }
         ensures extended { OnOk result (Pushes S.DROPS H.whole
             (room_for S.DROPS (type_size S.Item.row) self.old (length items.now)) items.now

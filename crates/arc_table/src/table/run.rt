@@ -1,6 +1,5 @@
 //! A list of commands, carried out one after another.
 ghost use Rattle.std.specs.Prelude.{◌≡◌, map, IfOk, IfErr, IsOk};
-ghost use Rattle.std.specs.Mem.{FitsInMemory};
 ghost use Rattle.std.specs.Vec.{vec_len};
 
 use super::Table;
@@ -20,7 +19,7 @@ impl<
 > Table<S, L, B, M, A>
 where
     L::Writable: LayoutMut,
-    S::Small: SmallOf<S, L, B, M, A>,
+    S::Small: SmallOf<S, L, M, A>,
 {
     ghost use Rattle.arc_commands.specs.RunOf.{RunOf};
     ghost use Rattle.arc_commands.specs.Seen.{map_command, seen_reply};
@@ -47,7 +46,6 @@ where
         rt: &impl Wait,
         commands: Vec<TableCmd<S, B, M, A>, A>,
     ) -> Result<Vec<TableReply<S, B, M, A>, A>, (Vec<TableCmd<S, B, M, A>, A>, AllocError)>
-        requires item { FitsInMemory S.Item.row }
         ensures run { IfOk result (λ replies.
             RunOf (CarriesOut ⟦<S as TableUnder<L, A>>⟧.setting) self.old
             (map (map_command S.items_in S.static_in B.list) commands.items)

@@ -5,35 +5,36 @@ ghost use Rattle.arc_write.specs.Within.{spare_places};
 ghost use Rattle.bytes.specs.Adapters.{kept_spare};
 ghost use Rattle.bytes.specs.Unread.{IsChunkOf};
 
-use crate::slice_mut::ArcSliceMut;
+use crate::slice_mut::WriteWindow;
 use arc_block::layout::LayoutMut;
 use arc_buffer::buffer::BufferMut;
 use arc_buffer::kinds::{ByteText, Plain};
 use arc_owners::mark::Mark;
+use arc_writer_parts::role::RoleOf;
 use bytes::Buf;
 use std::alloc::Allocator;
 
 impl<
     L: LayoutMut,
-    const UNIQUE: u8,
+    R: RoleOf<Plain<u8>, B, M, A, H>,
     B: BufferMut<u8> + Drop,
     M: Drop,
     A: Allocator + Copy,
     H: Mark,
-> Buf for ArcSliceMut<Plain<u8>, L, UNIQUE, B, M, A, H> {
+> Buf for WriteWindow<Plain<u8>, L, R, B, M, A, H> {
     ghost unread = { λ w. w.items };
 
     ghost kept = { λ w. kept_spare (spare_places w) };
 
     fn remaining(&self) -> usize {
-        self.parts.len()
+        self.len()
     }
 
     fn chunk(&self) -> &[u8]
         ensures chunk { IsChunkOf result.now self.now.items }
         ensures whole { result.now ≡ self.now.items }
     {
-        self.parts.as_slice()
+        self.as_slice()
     }
 
     /// The window's own `advance`: the places of what was read go too.
@@ -43,31 +44,31 @@ impl<
         ensures kept { kept_spare (spare_places self.new) ≡ kept_spare (spare_places self.old) }
         ensures window { self.new ≡ after_advance count self.old }
     {
-        self.parts.advance(count);
+        self.advance(count);
     }
 }
 
 impl<
     L: LayoutMut,
-    const UNIQUE: u8,
+    R: RoleOf<ByteText, B, M, A, H>,
     B: BufferMut<u8> + Drop,
     M: Drop,
     A: Allocator + Copy,
     H: Mark,
-> Buf for ArcSliceMut<ByteText, L, UNIQUE, B, M, A, H> {
+> Buf for WriteWindow<ByteText, L, R, B, M, A, H> {
     ghost unread = { λ w. w.items };
 
     ghost kept = { λ w. kept_spare (spare_places w) };
 
     fn remaining(&self) -> usize {
-        self.parts.len()
+        self.len()
     }
 
     fn chunk(&self) -> &[u8]
         ensures chunk { IsChunkOf result.now self.now.items }
         ensures whole { result.now ≡ self.now.items }
     {
-        self.parts.as_slice()
+        self.as_slice()
     }
 
     /// The window's own `advance`: the places of what was read go too.
@@ -77,6 +78,6 @@ impl<
         ensures kept { kept_spare (spare_places self.new) ≡ kept_spare (spare_places self.old) }
         ensures window { self.new ≡ after_advance count self.old }
     {
-        self.parts.advance(count);
+        self.advance(count);
     }
 }

@@ -6,23 +6,27 @@ ghost use Rattle.arc_parts.specs.Writers.{capacity_of, with_more};
 ghost use Rattle.arc_write.specs.Within.{spare_places};
 ghost use Rattle.bytes.specs.Filled.{KeepsMaxSpare, MakesSpare, UsesMaxSpare, UsesSpare};
 
-use crate::slice_mut::ArcSliceMut;
+use crate::slice_mut::WriteWindow;
 use arc_block::layout::LayoutMut;
 use arc_buffer::buffer::BufferMut;
 use arc_buffer::kinds::CopySlice;
 use arc_owners::mark::Mark;
+use arc_writer_parts::role::{CopyWriterParts, RoleOf};
 use bytes::BufMut;
 use std::alloc::{AllocError, Allocator};
 
 impl<
     S: CopySlice<Item = u8>,
     L: LayoutMut,
-    const UNIQUE: u8,
+    R: RoleOf<S, B, M, A, H>,
     B: BufferMut<u8> + Drop,
     M: Drop,
     A: Allocator + Copy,
     H: Mark,
-> BufMut for ArcSliceMut<S, L, UNIQUE, B, M, A, H> {
+> BufMut for WriteWindow<S, L, R, B, M, A, H>
+where
+    R::Parts: CopyWriterParts<S, B, M, A, H>,
+{
     ghost written = { λ w. w.items };
 
     ghost spare = { spare_places };
@@ -42,7 +46,7 @@ impl<
             (Some (spare_places self.new)) additional }
         ensures same { self.new ≡ self.old }
     {
-        if additional <= self.spare_of_either() {
+        if additional <= self.spare() {
             Ok(())
         } else {
             Err(AllocError)
@@ -97,7 +101,7 @@ impl<
         ensures window { OnOk result (self.new ≡ with_more (replicate count byte) self.old) }
         ensures same { OnErr result (self.new ≡ self.old) }
     {
-        if count > self.spare_of_either() {
+        if count > self.spare() {
             return Err(AllocError);
         }
         self.fill(byte, count);
@@ -109,19 +113,22 @@ impl<
         ensures spare { min (spare_places self.now) (2 ^ 64 - 1) ≤ result }
         ensures value { result ≡ spare_places self.now }
     {
-        self.parts.spare()
+        self.spare()
     }
 }
 
 impl<
     S: CopySlice<Item = u8>,
     L: LayoutMut,
-    const UNIQUE: u8,
+    R: RoleOf<S, B, M, A, H>,
     B: BufferMut<u8> + Drop,
     M: Drop,
     A: Allocator + Copy,
     H: Mark,
-> ArcSliceMut<S, L, UNIQUE, B, M, A, H> {
+> WriteWindow<S, L, R, B, M, A, H>
+where
+    R::Parts: CopyWriterParts<S, B, M, A, H>,
+{
     /// So many bytes of one value more, where the window has places for them.
     fn fill(&mut self, byte: u8, count: usize)
         requires { length self.old.items + count ≤ capacity_of self.old.role }

@@ -5,24 +5,25 @@ ghost use Rattle.std.specs.Cmp.Lexicographic.{pointwise, slice_cmp, slice_partia
 ghost use Rattle.std.specs.Cmp.Lexicographic.{lists_agrees, lists_equiv, lists_per, lists_po};
 ghost use Rattle.std.specs.Cmp.Lexicographic.{lists_ties, lists_total};
 
-use crate::slice_mut::ArcSliceMut;
+use crate::slice_mut::WriteWindow;
 use arc_block::layout::LayoutMut;
 use arc_buffer::buffer::BufferMut;
 use arc_buffer::compare::{equal, order, partial_order};
 use arc_buffer::kinds::{Slice, Text};
 use arc_owners::mark::Mark;
+use arc_writer_parts::role::RoleOf;
 use std::alloc::Allocator;
 use std::cmp::Ordering;
 
 impl<
     S: Slice,
     L: LayoutMut,
-    const UNIQUE: u8,
+    R: RoleOf<S, B, M, A, H>,
     B: BufferMut<S::Item> + Drop,
     M: Drop,
     A: Allocator + Copy,
     H: Mark,
-> PartialEq for ArcSliceMut<S, L, UNIQUE, B, M, A, H>
+> PartialEq for WriteWindow<S, L, R, B, M, A, H>
 where
     S::Item: PartialEq,
 {
@@ -31,19 +32,19 @@ where
     ghost laws = { on_per (λ x. x.items) (lists_per S.Item.PartialEq.laws) };
 
     fn eq(&self, other: &Self) -> bool {
-        equal(self.parts.as_slice(), other.parts.as_slice())
+        equal(self.as_slice(), other.as_slice())
     }
 }
 
 impl<
     S: Slice,
     L: LayoutMut,
-    const UNIQUE: u8,
+    R: RoleOf<S, B, M, A, H>,
     B: BufferMut<S::Item> + Drop,
     M: Drop,
     A: Allocator + Copy,
     H: Mark,
-> Eq for ArcSliceMut<S, L, UNIQUE, B, M, A, H>
+> Eq for WriteWindow<S, L, R, B, M, A, H>
 where
     S::Item: Eq,
 {
@@ -53,12 +54,12 @@ where
 impl<
     S: Slice,
     L: LayoutMut,
-    const UNIQUE: u8,
+    R: RoleOf<S, B, M, A, H>,
     B: BufferMut<S::Item> + Drop,
     M: Drop,
     A: Allocator + Copy,
     H: Mark,
-> PartialOrd for ArcSliceMut<S, L, UNIQUE, B, M, A, H>
+> PartialOrd for WriteWindow<S, L, R, B, M, A, H>
 where
     S::Item: PartialOrd,
 {
@@ -67,19 +68,19 @@ where
     ghost laws = { on_po (λ x. x.items) (lists_po S.Item.PartialOrd.laws) };
 
     fn partial_cmp(&self, other: &Self) -> Option<Ordering> {
-        partial_order(self.parts.as_slice(), other.parts.as_slice())
+        partial_order(self.as_slice(), other.as_slice())
     }
 }
 
 impl<
     S: Slice,
     L: LayoutMut,
-    const UNIQUE: u8,
+    R: RoleOf<S, B, M, A, H>,
     B: BufferMut<S::Item> + Drop,
     M: Drop,
     A: Allocator + Copy,
     H: Mark,
-> Ord for ArcSliceMut<S, L, UNIQUE, B, M, A, H>
+> Ord for WriteWindow<S, L, R, B, M, A, H>
 where
     S::Item: Ord,
 {
@@ -92,41 +93,41 @@ where
     ghost matches_eq = { λ x y. lists_ties S.Item.cmp S.Item.matches_eq x.items y.items };
 
     fn cmp(&self, other: &Self) -> Ordering {
-        order(self.parts.as_slice(), other.parts.as_slice())
+        order(self.as_slice(), other.as_slice())
     }
 }
 
 impl<
     S: Slice,
     L: LayoutMut,
-    const UNIQUE: u8,
+    R: RoleOf<S, B, M, A, H>,
     B: BufferMut<S::Item> + Drop,
     M: Drop,
     A: Allocator + Copy,
     H: Mark,
-> ArcSliceMut<S, L, UNIQUE, B, M, A, H> {
+> WriteWindow<S, L, R, B, M, A, H> {
     /// Whether the window's items are those of the slice.
     pub fn eq_slice(&self, other: &[S::Item]) -> bool
     where
         S::Item: PartialEq,
         ensures { result ≡ pointwise S.Item.eq self.now.items other.now }
     {
-        equal(self.parts.as_slice(), other)
+        equal(self.as_slice(), other)
     }
 }
 
 impl<
     L: LayoutMut,
-    const UNIQUE: u8,
+    R: RoleOf<Text, B, M, A, H>,
     B: BufferMut<u8> + Drop,
     M: Drop,
     A: Allocator + Copy,
     H: Mark,
-> ArcSliceMut<Text, L, UNIQUE, B, M, A, H> {
+> WriteWindow<Text, L, R, B, M, A, H> {
     /// Whether the window's text is this one.
     pub fn eq_str(&self, other: &str) -> bool
         ensures { result ≡ pointwise nat_eq self.now.items other.now }
     {
-        equal(self.parts.as_slice(), other.as_bytes())
+        equal(self.as_slice(), other.as_bytes())
     }
 }

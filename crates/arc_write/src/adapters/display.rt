@@ -3,43 +3,44 @@ ghost use Rattle.std.specs.Prelude.{Some, encode_utf8_all};
 ghost use Rattle.std.specs.Fmt.{styled_text};
 ghost use Rattle.bstr.specs.Utf8.{lossy_chars};
 
-use crate::slice_mut::ArcSliceMut;
+use crate::slice_mut::WriteWindow;
 use arc_block::layout::LayoutMut;
 use arc_buffer::buffer::BufferMut;
 use arc_buffer::kinds::{ByteText, Text};
 use arc_owners::mark::Mark;
+use arc_writer_parts::role::RoleOf;
 use bstr::BStr;
 use std::alloc::Allocator;
-use std::{fmt, str};
+use std::fmt;
 
 impl<
     L: LayoutMut,
-    const UNIQUE: u8,
+    R: RoleOf<Text, B, M, A, H>,
     B: BufferMut<u8> + Drop,
     M: Drop,
     A: Allocator + Copy,
     H: Mark,
-> fmt::Display for ArcSliceMut<Text, L, UNIQUE, B, M, A, H> {
+> fmt::Display for WriteWindow<Text, L, R, B, M, A, H> {
     ghost output = { λ w. Some w.items };
 
     ghost styled_output = { λ w spec. Some (styled_text spec w.items) };
 
     fn fmt<W: fmt::Write>(&self, f: &mut fmt::Formatter<W>) -> fmt::Result {
-        f.pad(unsafe { str::from_utf8_unchecked(self.parts.as_slice()) })
+        f.pad(self.as_str())
     }
 }
 
 impl<
     L: LayoutMut,
-    const UNIQUE: u8,
+    R: RoleOf<ByteText, B, M, A, H>,
     B: BufferMut<u8> + Drop,
     M: Drop,
     A: Allocator + Copy,
     H: Mark,
-> fmt::Display for ArcSliceMut<ByteText, L, UNIQUE, B, M, A, H> {
+> fmt::Display for WriteWindow<ByteText, L, R, B, M, A, H> {
     ghost output = { λ w. Some (encode_utf8_all (lossy_chars w.items)) };
 
     fn fmt<W: fmt::Write>(&self, f: &mut fmt::Formatter<W>) -> fmt::Result {
-        fmt::Display::fmt(&BStr::new(self.parts.as_slice()), f)
+        fmt::Display::fmt(&BStr::new(self.as_slice()), f)
     }
 }

@@ -2,23 +2,24 @@
 ghost use Rattle.std.specs.Hash as fed;
 ghost use Rattle.std.specs.Hash.{items_Alike, on_Alike};
 
-use crate::slice_mut::ArcSliceMut;
+use crate::slice_mut::WriteWindow;
 use arc_block::layout::LayoutMut;
 use arc_buffer::buffer::BufferMut;
 use arc_buffer::kinds::Slice;
 use arc_owners::mark::Mark;
+use arc_writer_parts::role::RoleOf;
 use std::alloc::Allocator;
 use std::hash::{Hash, Hasher};
 
 impl<
     S: Slice,
     L: LayoutMut,
-    const UNIQUE: u8,
+    R: RoleOf<S, B, M, A, H>,
     B: BufferMut<S::Item> + Drop,
     M: Drop,
     A: Allocator + Copy,
     H: Mark,
-> Hash for ArcSliceMut<S, L, UNIQUE, B, M, A, H>
+> Hash for WriteWindow<S, L, R, B, M, A, H>
 where
     S::Item: Hash,
 {
@@ -28,6 +29,6 @@ where
         (items_Alike (record { fed = S.Item.respects_eq }))).fed };
 
     fn hash<F: Hasher>(&self, state: &mut F) {
-        self.parts.as_slice().hash(state);
+        self.as_slice().hash(state);
     }
 }

@@ -7,23 +7,24 @@ ghost use Rattle.std.specs.IoError.{error_kind};
 ghost use Rattle.arc_parts.specs.Writers.{after_advance};
 ghost use Rattle.arc_write.specs.Within.{after_write, spare_places, taken};
 
-use crate::slice_mut::ArcSliceMut;
+use crate::slice_mut::WriteWindow;
 use arc_block::layout::LayoutMut;
 use arc_buffer::buffer::BufferMut;
 use arc_buffer::kinds::Plain;
 use arc_owners::mark::Mark;
+use arc_writer_parts::role::{CopyWriterParts, RoleOf};
 use std::alloc::Allocator;
 use std::io;
 use std::io::ErrorKind;
 
 impl<
     L: LayoutMut,
-    const UNIQUE: u8,
+    R: RoleOf<Plain<u8>, B, M, A, H>,
     B: BufferMut<u8> + Drop,
     M: Drop,
     A: Allocator + Copy,
     H: Mark,
-> io::Read for ArcSliceMut<Plain<u8>, L, UNIQUE, B, M, A, H> {
+> io::Read for WriteWindow<Plain<u8>, L, R, B, M, A, H> {
     ghost remaining = { λ w. Some w.items };
 
     /// Moves the window's first bytes to the front of the buffer, as many as there are or as it
@@ -37,9 +38,9 @@ impl<
         ensures window { self.new
             ≡ after_advance (min (length self.old.items) (length buffer.old)) self.old }
     {
-        let count = self.parts.len().min(buffer.len());
-        buffer[..count].copy_from_slice(&self.parts.as_slice()[..count]);
-        self.parts.advance(count);
+        let count = self.len().min(buffer.len());
+        buffer[..count].copy_from_slice(&self.as_slice()[..count]);
+        self.advance(count);
         Ok(count)
     }
 
@@ -60,7 +61,7 @@ impl<
         ensures window { self.new
             ≡ after_advance (min (length self.old.items) (length buffer.old)) self.old }
     {
-        let is_short = self.parts.len() < buffer.len();
+        let is_short = self.len() < buffer.len();
         self.read(buffer)?;
         if is_short {
             return Err(io::Error::new(ErrorKind::UnexpectedEof, "failed to fill whole buffer"));
@@ -71,12 +72,15 @@ impl<
 
 impl<
     L: LayoutMut,
-    const UNIQUE: u8,
+    R: RoleOf<Plain<u8>, B, M, A, H>,
     B: BufferMut<u8> + Drop,
     M: Drop,
     A: Allocator + Copy,
     H: Mark,
-> io::Write for ArcSliceMut<Plain<u8>, L, UNIQUE, B, M, A, H> {
+> io::Write for WriteWindow<Plain<u8>, L, R, B, M, A, H>
+where
+    R::Parts: CopyWriterParts<Plain<u8>, B, M, A, H>,
+{
     ghost contents = { λ w. Some w.items };
 
     /// Appends as many of the bytes as the window has places for, and answers how many. It makes
@@ -87,7 +91,7 @@ impl<
         ensures count { result ≡ Ok (taken self.old bytes.now) }
         ensures window { self.new ≡ after_write self.old bytes.now }
     {
-        let count = self.spare_of_either().min(bytes.len());
+        let count = self.spare().min(bytes.len());
         match self.try_extend_within(&bytes[..count]) {
             Ok(()) => Ok(count),
             Err(_) => unreachable!(),
@@ -107,7 +111,7 @@ impl<
             × (error_kind e ≡ ErrorKind.WriteZero)) }
         ensures window { self.new ≡ after_write self.old bytes.now }
     {
-        let is_full = self.spare_of_either() < bytes.len();
+        let is_full = self.spare() < bytes.len();
         self.write(bytes)?;
         if is_full {
             return Err(io::Error::new(ErrorKind::WriteZero, "failed to write whole buffer"));

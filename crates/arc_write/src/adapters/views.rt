@@ -4,85 +4,85 @@ ghost use Rattle.std.specs.Borrow.{sem};
 ghost use Rattle.std.specs.Iterator.Runs.{EveryRun, ItemsMapTo};
 ghost use Rattle.std.specs.Slice.Iter.{iter_rest, iter_steps};
 
-use crate::slice_mut::ArcSliceMut;
+use crate::slice_mut::WriteWindow;
 use arc_block::layout::LayoutMut;
 use arc_buffer::buffer::BufferMut;
 use arc_buffer::kinds::{AnyItems, Slice, Text};
 use arc_owners::mark::Mark;
+use arc_writer_parts::role::RoleOf;
 use std::alloc::Allocator;
 use std::convert::{AsSlice, AsStr};
 use std::iter::IntoIterator;
 use std::ops::{DerefSlice, DerefSliceMut};
 use std::slice::Iter;
-use std::str;
 
 impl<
     S: Slice,
     L: LayoutMut,
-    const UNIQUE: u8,
+    R: RoleOf<S, B, M, A, H>,
     B: BufferMut<S::Item> + Drop,
     M: Drop,
     A: Allocator + Copy,
     H: Mark,
-> AsSlice<S::Item> for ArcSliceMut<S, L, UNIQUE, B, M, A, H> {
+> AsSlice<S::Item> for WriteWindow<S, L, R, B, M, A, H> {
     ghost items = { λ w. w.items };
 
     fn as_slice(&self) -> &[S::Item] {
-        self.parts.as_slice()
+        self.as_slice()
     }
 }
 
 impl<
     L: LayoutMut,
-    const UNIQUE: u8,
+    R: RoleOf<Text, B, M, A, H>,
     B: BufferMut<u8> + Drop,
     M: Drop,
     A: Allocator + Copy,
     H: Mark,
-> AsStr for ArcSliceMut<Text, L, UNIQUE, B, M, A, H> {
+> AsStr for WriteWindow<Text, L, R, B, M, A, H> {
     ghost text = { λ w. w.items };
 
     fn as_str(&self) -> &str {
-        unsafe { str::from_utf8_unchecked(self.parts.as_slice()) }
+        self.as_str()
     }
 }
 
 impl<
     S: Slice,
     L: LayoutMut,
-    const UNIQUE: u8,
+    R: RoleOf<S, B, M, A, H>,
     B: BufferMut<S::Item> + Drop,
     M: Drop,
     A: Allocator + Copy,
     H: Mark,
-> DerefSlice for ArcSliceMut<S, L, UNIQUE, B, M, A, H> {
+> DerefSlice for WriteWindow<S, L, R, B, M, A, H> {
     type Elem = S::Item;
 
     ghost deref_gives = { λ w xs. xs ≡ w.items };
 
     fn deref(&self) -> &[S::Item] {
-        self.parts.as_slice()
+        self.as_slice()
     }
 }
 
 impl<
     S: AnyItems,
     L: LayoutMut,
-    const UNIQUE: u8,
+    R: RoleOf<S, B, M, A, H>,
     B: BufferMut<S::Item> + Drop,
     M: Drop,
     A: Allocator + Copy,
     H: Mark,
-> DerefSliceMut for ArcSliceMut<S, L, UNIQUE, B, M, A, H> {
+> DerefSliceMut for WriteWindow<S, L, R, B, M, A, H> {
     ghost use Rattle.arc_write.specs.Lends.{lends_items};
 
     fn deref_mut(&mut self) -> &mut [S::Item]
-        ensures* writes_back { sem 𝓛 (lends_items S.row L.row UNIQUE B.row M.row A.row H.row
-            S.Item.row S.TryFromSliceError.row S.Slice L.Layout B.BufferMut.own B.Buffer
-            A.Allocator H.Mark self.entry result) }
+        ensures* writes_back { sem 𝓛 (lends_items S.row L.row R.row B.row M.row A.row H.row
+            S.Item.row S.TryFromSliceError.row R.Parts.row S.Slice L.Layout R.Parts.WriterParts
+            B.BufferMut.own B.Buffer A.Allocator H.Mark self.entry result) }
         ensures value { result.now ≡ self.old.items }
     {
-        self.parts.as_mut_slice()
+        self.as_mut_slice()
     }
 }
 
@@ -91,12 +91,12 @@ impl<
     T: Drop + 'a,
     S: Slice<Item = T>,
     L: LayoutMut,
-    const UNIQUE: u8,
+    R: RoleOf<S, B, M, A, H>,
     B: BufferMut<T> + Drop,
     M: Drop,
     A: Allocator + Copy,
     H: Mark,
-> IntoIterator for &'a ArcSliceMut<S, L, UNIQUE, B, M, A, H> {
+> IntoIterator for &'a WriteWindow<S, L, R, B, M, A, H> {
     type Item = &'a T;
 
     type IntoIter = Iter<'a, T>;
@@ -105,6 +105,6 @@ impl<
         × EveryRun (iter_steps {A = T}) (λ p. ItemsMapTo p (λ y. y.now) (iter_rest p.from)) };
 
     fn into_iter(self) -> Iter<'a, T> {
-        self.parts.as_slice().iter()
+        self.as_slice().iter()
     }
 }

@@ -9,15 +9,44 @@ ghost use Rattle.arc_parts.specs.Window.{IsOfBuffer};
 ghost use Rattle.arc_parts.specs.Writers.{MakesBufferWriter};
 ghost use Rattle.arc_read.specs.Steps.{WithNewPass};
 
-use crate::slice_mut::ArcSliceMut;
-use crate::slice_mut::parts::{as_several, as_sole};
+use crate::slice_mut::{ArcSliceMut, WriteWindow};
 use arc_block::layout::{AnyBufferLayout, LayoutMut};
 use arc_buffer::buffer::{BorrowMetadata, BufferMut};
 use arc_buffer::kinds::{AnyItems, Slice};
 use arc_owners::mark::{Mark, Stepping};
 use arc_owners::owners::Pass;
+use arc_writer_parts::role::{RoleOf, WriterParts};
 use arc_writer_parts::sole::SoleParts;
 use std::alloc::Allocator;
+
+impl<
+    S: Slice,
+    L: LayoutMut,
+    R: RoleOf<S, B, M, A, H>,
+    B: BufferMut<S::Item> + Drop,
+    M: Drop,
+    A: Allocator + Copy,
+    H: Mark,
+> WriteWindow<S, L, R, B, M, A, H> {
+    /// The metadata of the block, where it was made with some.
+    pub fn metadata(&self) -> Option<&M>
+        ensures some { IfSome result (λ m. metadata_at self.now.place ≡ Some m.now) }
+        ensures none { IfNone result (metadata_at self.now.place ≡ None) }
+    {
+        self.parts.metadata()
+    }
+
+    /// The metadata of the caller's buffer on which the window stands.
+    pub fn borrowed_metadata(&self) -> Option<&B::Metadata>
+    where
+        B: BorrowMetadata,
+        ensures some { IfSome result (λ m.
+            IsMetadataAt B.list B.metadata self.now.place self.now.items m.now) }
+        ensures none { IfNone result (¬ IsOnCallers self.now.place) }
+    {
+        self.parts.borrowed_metadata()
+    }
+}
 
 impl<
     S: Slice,
@@ -168,57 +197,10 @@ impl<
         made
     }
 
-    /// The metadata of the block, where it was made with some.
-    pub fn metadata(&self) -> Option<&M>
-        ensures some { IfSome result (λ m. metadata_at self.now.place ≡ Some m.now) }
-        ensures none { IfNone result (metadata_at self.now.place ≡ None) }
-    {
-        as_sole!(&self.parts, parts => parts.metadata())
-    }
-
-    /// The metadata of the caller's buffer on which the window stands.
-    pub fn borrowed_metadata(&self) -> Option<&B::Metadata>
-    where
-        B: BorrowMetadata,
-        ensures some { IfSome result (λ m.
-            IsMetadataAt B.list B.metadata self.now.place self.now.items m.now) }
-        ensures none { IfNone result (¬ IsOnCallers self.now.place) }
-    {
-        as_sole!(&self.parts, parts => parts.borrowed_metadata())
-    }
-
     /// Whether the window stands on a caller's buffer.
     pub fn is_on_buffer(&self) -> bool
         ensures { IsTrue result ↔ IsOfBuffer self.now.place }
     {
-        as_sole!(&self.parts, parts => parts.is_on_buffer())
-    }
-}
-
-impl<
-    S: Slice,
-    L: LayoutMut,
-    B: BufferMut<S::Item> + Drop,
-    M: Drop,
-    A: Allocator + Copy,
-    H: Mark,
-> ArcSliceMut<S, L, 0, B, M, A, H> {
-    /// The metadata of the block, where it was made with some.
-    pub fn metadata(&self) -> Option<&M>
-        ensures some { IfSome result (λ m. metadata_at self.now.place ≡ Some m.now) }
-        ensures none { IfNone result (metadata_at self.now.place ≡ None) }
-    {
-        as_several!(&self.parts, parts => parts.metadata())
-    }
-
-    /// The metadata of the caller's buffer on which the window stands.
-    pub fn borrowed_metadata(&self) -> Option<&B::Metadata>
-    where
-        B: BorrowMetadata,
-        ensures some { IfSome result (λ m.
-            IsMetadataAt B.list B.metadata self.now.place self.now.items m.now) }
-        ensures none { IfNone result (¬ IsOnCallers self.now.place) }
-    {
-        as_several!(&self.parts, parts => parts.borrowed_metadata())
+        self.parts.is_on_buffer()
     }
 }

@@ -3,22 +3,23 @@ ghost use Rattle.std.specs.Prelude.{◌<◌, ◌≡◌, length};
 ghost use Rattle.arc_buffer.specs.Slice.{IsEdge};
 ghost use Rattle.arc_parts.specs.Writers.{after_advance, after_truncate};
 
-use crate::slice_mut::ArcSliceMut;
-use crate::slice_mut::parts::{as_several, as_sole};
+use crate::slice_mut::WriteWindow;
 use arc_block::layout::LayoutMut;
 use arc_buffer::buffer::BufferMut;
 use arc_buffer::kinds::{Slice, Subsliceable};
 use arc_owners::mark::Mark;
+use arc_writer_parts::role::{RoleOf, WriterParts};
 use std::alloc::Allocator;
 
 impl<
     S: Slice,
     L: LayoutMut,
+    R: RoleOf<S, B, M, A, H>,
     B: BufferMut<S::Item> + Drop,
     M: Drop,
     A: Allocator + Copy,
     H: Mark,
-> ArcSliceMut<S, L, 1, B, M, A, H> {
+> WriteWindow<S, L, R, B, M, A, H> {
     /// Takes the first `n` items and their places off the window, which stays on its block, also
     /// with no items. It adds nothing.
     pub fn advance(&mut self, n: usize)
@@ -27,7 +28,7 @@ impl<
         requires { IsEdge S.boundary self.old.items n }
         ensures { self.new ≡ after_advance n self.old }
     {
-        as_sole!(&mut self.parts, parts => parts.advance(n))
+        self.parts.advance(n);
     }
 
     /// Leaves the window's first `n` items, or all where it has no more. It stays on its block,
@@ -40,42 +41,6 @@ impl<
         requires { n < length self.old.items → IsEdge S.boundary self.old.items n }
         ensures { self.new ≡ after_truncate S.DROPS n self.old }
     {
-        as_sole!(&mut self.parts, parts => parts.truncate(n))
-    }
-}
-
-impl<
-    S: Slice,
-    L: LayoutMut,
-    B: BufferMut<S::Item> + Drop,
-    M: Drop,
-    A: Allocator + Copy,
-    H: Mark,
-> ArcSliceMut<S, L, 0, B, M, A, H> {
-    /// Takes the first `n` items and their places off the window, which stays on its block, also
-    /// with no items. It adds nothing.
-    pub fn advance(&mut self, n: usize)
-    where
-        S: Subsliceable,
-        requires { IsEdge S.boundary self.old.items n }
-        ensures { self.new ≡ after_advance n self.old }
-    {
-        as_several!(&mut self.parts, parts => parts.advance(n))
-    }
-
-    /// Leaves the window's first `n` items, or all where it has no more. It stays on its block,
-    /// also with no items. Items that are dropped one by one stay in the block until its release,
-    /// and what is left then has no places beside its own; others leave their places to the
-    /// window. It adds nothing.
-    pub fn truncate(&mut self, n: usize)
-    where
-        S: Subsliceable,
-        requires { n < length self.old.items → IsEdge S.boundary self.old.items n }
-        ensures { self.new ≡ after_truncate S.DROPS n self.old }
-    {
-        as_several!(&mut self.parts, parts => {
-            parts.known_kind();
-            parts.truncate(n);
-        })
+        self.parts.truncate(n);
     }
 }

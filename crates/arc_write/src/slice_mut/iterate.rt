@@ -1,29 +1,30 @@
 //! Items of an iterator, pushed one by one.
-ghost use Rattle.std.specs.Prelude.{◌++◌, ◌≡◌, IfErr, IfOk, List, OnOk, Some};
+ghost use Rattle.std.specs.Prelude.{◌++◌, ◌≡◌, false, IfErr, IfOk, List, OnOk, Some};
 ghost use Rattle.std.specs.Iterator.{Drains, ExtendsWithItems, IsFinite, Yields, YieldsThen};
 ghost use Rattle.std.specs.Iterator.Runs.{WholeRun};
-ghost use Rattle.std.specs.Mem.{FitsInMemory, type_size};
+ghost use Rattle.std.specs.Mem.{type_size};
 ghost use Rattle.arc_parts.specs.Window.{PartsView};
 ghost use Rattle.arc_parts.specs.Writers.{idle_writer};
-ghost use Rattle.arc_write.specs.Extend.{PushesEach, PushesEachShared, RefusesOne};
-ghost use Rattle.arc_write.specs.Extend.{RefusesOneShared};
+ghost use Rattle.arc_write.specs.Extend.{PushesEach, RefusesOne};
 
-use crate::slice_mut::ArcSliceMut;
+use crate::slice_mut::{ArcSliceMut, WriteWindow};
 use arc_block::layout::LayoutMut;
 use arc_buffer::buffer::BufferMut;
 use arc_buffer::kinds::{Emptyable, Extendable, Slice};
 use arc_owners::error::TryReserveError;
 use arc_owners::mark::{Mark, Stepping};
+use arc_writer_parts::role::{RoleOf, WriterParts};
 use std::alloc::Allocator;
 
 impl<
     S: Slice,
     L: LayoutMut,
+    R: RoleOf<S, B, M, A, H>,
     B: BufferMut<S::Item> + Drop,
     M: Drop,
     A: Allocator + Copy,
     H: Mark,
-> ArcSliceMut<S, L, 1, B, M, A, H> {
+> WriteWindow<S, L, R, B, M, A, H> {
     /// The items that come, each behind the others by `try_push`, so each with a new pass.
     ///
     /// # Errors
@@ -45,20 +46,19 @@ impl<
     where
         S: Extendable,
         H: Stepping,
-        requires item { FitsInMemory S.Item.row }
         requires ends { (it : I.IntoIter) → I.into_iter_gives iter it
             → I.IntoIter.can_next it × IsFinite (I.IntoIter.remaining it) }
         ensures extended { OnOk result ((it : I.IntoIter) × (xs : List S.Item)
             × I.into_iter_gives iter it × Drains I.IntoIter.next_gives it xs
-            × PushesEach H H.real S.DROPS H.whole (type_size S.Item.row)
+            × PushesEach H H.real R.Parts.several S.DROPS H.whole (type_size S.Item.row)
             B.list B.places B.grows B.refuses xs self.old self.new) }
         ensures refused { IfErr result (λ r. (it : I.IntoIter) × (xs : List S.Item)
             × (rest : I.IntoIter) × (last : PartsView S.Item M) × I.into_iter_gives iter it
             × YieldsThen I.IntoIter.next_gives it xs (Some r.1) rest
-            × PushesEach H H.real S.DROPS H.whole (type_size S.Item.row) B.list B.places
-            B.grows B.refuses xs self.old last
-            × RefusesOne H H.real S.DROPS H.whole (type_size S.Item.row) B.list B.places
-            B.grows B.refuses r.0 last self.new) }
+            × PushesEach H H.real R.Parts.several S.DROPS H.whole (type_size S.Item.row)
+            B.list B.places B.grows B.refuses xs self.old last
+            × RefusesOne H H.real R.Parts.several S.DROPS H.whole (type_size S.Item.row)
+            B.list B.places B.grows B.refuses r.0 last self.new) }
         ensures items { ExtendsWithItems I.into_iter_gives I.IntoIter.next_gives
             (λ (old : PartsView S.Item M) xs (new : PartsView S.Item M).
             new.items ≡ old.items ++ xs) iter self.old self.new result }
@@ -74,7 +74,16 @@ impl<
         }
         Ok(())
     }
+}
 
+impl<
+    S: Slice,
+    L: LayoutMut,
+    B: BufferMut<S::Item> + Drop,
+    M: Drop,
+    A: Allocator + Copy,
+    H: Mark,
+> ArcSliceMut<S, L, 1, B, M, A, H> {
     /// A window over the items that come: `try_extend` of a window on nothing.
     ///
     /// # Errors
@@ -92,12 +101,11 @@ impl<
         S: Extendable,
         H: Stepping,
         S: Emptyable,
-        requires item { FitsInMemory S.Item.row }
         requires ends { (it : I.IntoIter) → I.into_iter_gives iter it
             → I.IntoIter.can_next it × IsFinite (I.IntoIter.remaining it) }
         ensures made { IfOk result (λ window. (it : I.IntoIter) × (xs : List S.Item)
             × I.into_iter_gives iter it × Drains I.IntoIter.next_gives it xs
-            × PushesEach H H.real S.DROPS H.whole (type_size S.Item.row) B.list B.places
+            × PushesEach H H.real false S.DROPS H.whole (type_size S.Item.row) B.list B.places
             B.grows B.refuses xs idle_writer window) }
         ensures items { IfOk result (λ window. (it : I.IntoIter) × (xs : List S.Item)
             × I.into_iter_gives iter it × Drains I.IntoIter.next_gives it xs
@@ -107,9 +115,9 @@ impl<
         ensures refused { IfErr result (λ r. (it : I.IntoIter) × (xs : List S.Item)
             × (rest : I.IntoIter) × (last : PartsView S.Item M) × I.into_iter_gives iter it
             × YieldsThen I.IntoIter.next_gives it xs (Some r.2) rest
-            × PushesEach H H.real S.DROPS H.whole (type_size S.Item.row) B.list B.places
+            × PushesEach H H.real false S.DROPS H.whole (type_size S.Item.row) B.list B.places
             B.grows B.refuses xs idle_writer last
-            × RefusesOne H H.real S.DROPS H.whole (type_size S.Item.row) B.list B.places
+            × RefusesOne H H.real false S.DROPS H.whole (type_size S.Item.row) B.list B.places
             B.grows B.refuses r.1 last r.0) }
         ensures taken { IfErr result (λ r. (it : I.IntoIter) × (xs : List S.Item)
             × (rest : I.IntoIter) × I.into_iter_gives iter it
@@ -120,64 +128,5 @@ impl<
             Ok(()) => Ok(window),
             Err((e, item)) => Err((window, e, item)),
         }
-    }
-}
-
-impl<
-    S: Slice,
-    L: LayoutMut,
-    B: BufferMut<S::Item> + Drop,
-    M: Drop,
-    A: Allocator + Copy,
-    H: Mark,
-> ArcSliceMut<S, L, 0, B, M, A, H> {
-    /// The items that come, each behind the others by `try_push`, so each with a new pass.
-    ///
-    /// # Errors
-    ///
-    /// That of `try_push`, at the first item for which there is no room, with that item. Those
-    /// before it stay in the window; none is asked for after it.
-    ///
-    /// # Allocates
-    ///
-    /// As `try_reserve_as`, for each item.
-    ///
-    /// # History
-    ///
-    /// That of `try_reserve_as`.
-    pub fn try_extend<I: IntoIterator<Item = S::Item>>(
-        &mut self,
-        iter: I,
-    ) -> Result<(), (TryReserveError, S::Item)>
-    where
-        S: Extendable,
-        H: Stepping,
-        requires item { FitsInMemory S.Item.row }
-        requires ends { (it : I.IntoIter) → I.into_iter_gives iter it
-            → I.IntoIter.can_next it × IsFinite (I.IntoIter.remaining it) }
-        ensures extended { OnOk result ((it : I.IntoIter) × (xs : List S.Item)
-            × I.into_iter_gives iter it × Drains I.IntoIter.next_gives it xs
-            × PushesEachShared H H.real H.whole (type_size S.Item.row) xs
-            self.old self.new) }
-        ensures refused { IfErr result (λ r. (it : I.IntoIter) × (xs : List S.Item)
-            × (rest : I.IntoIter) × (last : PartsView S.Item M) × I.into_iter_gives iter it
-            × YieldsThen I.IntoIter.next_gives it xs (Some r.1) rest
-            × PushesEachShared H H.real H.whole (type_size S.Item.row) xs self.old last
-            × RefusesOneShared H H.real H.whole (type_size S.Item.row) r.0
-            last self.new) }
-        ensures items { ExtendsWithItems I.into_iter_gives I.IntoIter.next_gives
-            (λ (old : PartsView S.Item M) xs (new : PartsView S.Item M).
-            new.items ≡ old.items ++ xs) iter self.old self.new result }
-        ensures runs { OnOk result ((it : I.IntoIter) × I.into_iter_gives iter it
-            × WholeRun I.IntoIter.next_gives it (λ p.
-            self.new.items ≡ self.old.items ++ p.items)) }
-    {
-        for item in iter {
-            match self.try_push(item) {
-                Ok(()) => {}
-                Err(back) => return Err(back),
-            }
-        }
-        Ok(())
     }
 }

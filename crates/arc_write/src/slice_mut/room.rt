@@ -1,38 +1,41 @@
 //! Room for items more, of a sole writer and of one of several.
 ghost use Rattle.std.specs.Prelude.{◌+◌, ◌≡◌, ◌≤◌, false, is_ok, length, OnOk};
-ghost use Rattle.std.specs.Mem.{FitsInMemory, type_size};
+ghost use Rattle.std.specs.Mem.{type_size};
 ghost use Rattle.arc_block.specs.Place.{size_at};
-ghost use Rattle.arc_parts.specs.Shared.{asks_alone, MakesSharedRoom, ReclaimsShared};
+ghost use Rattle.arc_parts.specs.Shared.{asks_alone, ReclaimsShared};
 ghost use Rattle.arc_parts.specs.Steps.{IsPassAt};
-ghost use Rattle.arc_parts.specs.Writers.{capacity_of, MakesRoom, Reclaims, room_for};
+ghost use Rattle.arc_parts.specs.Writers.{capacity_of, Reclaims, room_for};
 ghost use Rattle.arc_sort_writers.specs.Growth.{AsksForRoom, IfAsked};
+ghost use Rattle.arc_writer_parts.specs.Roles.{AsksRoom, ReclaimsRoom};
 ghost use Rattle.arc_read.specs.Steps.{WithNewPass};
 ghost use Rattle.arc_write.specs.Within.{StaysWithin};
 
-use crate::slice_mut::ArcSliceMut;
-use crate::slice_mut::parts::{as_several, as_sole};
+use crate::slice_mut::{ArcSliceMut, WriteWindow};
 use arc_block::layout::LayoutMut;
 use arc_buffer::buffer::BufferMut;
 use arc_buffer::kinds::Slice;
 use arc_owners::error::TryReserveError;
 use arc_owners::mark::{Mark, Stepping};
 use arc_owners::owners::Pass;
+use arc_writer_parts::role::{RoleOf, WriterParts};
 use std::alloc::Allocator;
 
 impl<
     S: Slice,
     L: LayoutMut,
+    R: RoleOf<S, B, M, A, H>,
     B: BufferMut<S::Item> + Drop,
     M: Drop,
     A: Allocator + Copy,
     H: Mark,
-> ArcSliceMut<S, L, 1, B, M, A, H> {
+> WriteWindow<S, L, R, B, M, A, H> {
     /// Makes room for so many items more.
     ///
     /// # Errors
     ///
     /// Where the window hasn't the places already, in this order:
     ///
+    /// - `NotUnique` of one of several writers, on a block where another owner lives.
     /// - `Unsupported` where items that are dropped one by one end before the block's full places.
     /// - Over a caller's buffer its own refusal.
     /// - `CapacityOverflow` where a block would have to grow to more than 2^63 - 1 places or bytes.
@@ -48,17 +51,16 @@ impl<
     ///
     /// # History
     ///
-    /// Nothing is added. Where a first block is made, the pass, which was of none, becomes that
-    /// block's.
+    /// Of a sole writer nothing is added; of one of several, on a block, where the window hasn't
+    /// the places already, Alone with the answer. Where a first block is made, the pass, which was
+    /// of none, becomes that block's.
     pub fn try_reserve_as(
         &mut self,
         additional: usize,
         pass: &mut Pass<H>,
     ) -> Result<(), TryReserveError>
-        requires item { FitsInMemory S.Item.row }
         requires pass { IsPassAt self.old.place pass.old }
-        ensures room { MakesRoom S.DROPS H.whole
-            (room_for S.DROPS (type_size S.Item.row) self.old additional)
+        ensures room { AsksRoom R.Parts.several S.DROPS H.whole (type_size S.Item.row) additional
             self.old self.new pass.old pass.new result }
         ensures items { self.new.items ≡ self.old.items }
         ensures enough { OnOk result
@@ -66,8 +68,10 @@ impl<
         ensures own { IfAsked (room_for S.DROPS (type_size S.Item.row) self.old additional) (λ k.
             AsksForRoom B.list B.places B.grows B.refuses self.old k (size_at self.new.place)
             result) }
+        ensures within { StaysWithin R.Parts.several additional
+            self.old self.new (is_ok result) }
     {
-        as_sole!(&mut self.parts, parts => parts.try_reserve_as(additional, pass))
+        self.parts.try_reserve_as(additional, pass)
     }
 
     /// Makes room for so many items more: `try_reserve_as` with a new pass.
@@ -86,9 +90,8 @@ impl<
     pub fn try_reserve(&mut self, additional: usize) -> Result<(), TryReserveError>
     where
         H: Stepping,
-        requires item { FitsInMemory S.Item.row }
         ensures room { WithNewPass {H = H} H.real self.old.place (λ first last.
-            MakesRoom S.DROPS H.whole (room_for S.DROPS (type_size S.Item.row) self.old additional)
+            AsksRoom R.Parts.several S.DROPS H.whole (type_size S.Item.row) additional
             self.old self.new first last result) }
         ensures items { self.new.items ≡ self.old.items }
         ensures enough { OnOk result
@@ -96,107 +99,8 @@ impl<
         ensures own { IfAsked (room_for S.DROPS (type_size S.Item.row) self.old additional) (λ k.
             AsksForRoom B.list B.places B.grows B.refuses self.old k (size_at self.new.place)
             result) }
-    {
-        let mut pass = self.pass();
-        let made = self.try_reserve_as(additional, &mut pass);
-        pass.show();
-        made
-    }
-
-    /// Whether there is room for so many items more without memory; then it is made. It adds
-    /// nothing.
-    pub fn try_reclaim(&mut self, additional: usize) -> bool
-        requires item { FitsInMemory S.Item.row }
-        ensures { Reclaims (room_for S.DROPS (type_size S.Item.row) self.old additional)
-            self.old self.new result }
-    {
-        as_sole!(&mut self.parts, parts => parts.try_reclaim(additional))
-    }
-
-    /// `try_reclaim`, with a pass, which stays as it is.
-    pub fn try_reclaim_as(&mut self, additional: usize, pass: &mut Pass<H>) -> bool
-        requires item { FitsInMemory S.Item.row }
-        requires pass { IsPassAt self.old.place pass.old }
-        ensures room { Reclaims (room_for S.DROPS (type_size S.Item.row) self.old additional)
-            self.old self.new result }
-        ensures pass { pass.new ≡ pass.old }
-    {
-        let _ = pass;
-        self.try_reclaim(additional)
-    }
-}
-
-impl<
-    S: Slice,
-    L: LayoutMut,
-    B: BufferMut<S::Item> + Drop,
-    M: Drop,
-    A: Allocator + Copy,
-    H: Mark,
-> ArcSliceMut<S, L, 0, B, M, A, H> {
-    /// Makes room for so many items more.
-    ///
-    /// # Errors
-    ///
-    /// Where the window hasn't the places already, in this order:
-    ///
-    /// - `NotUnique` on a block where another owner lives.
-    /// - `CapacityOverflow` where a block would have to grow to more than 2^63 - 1 places or bytes.
-    /// - `AllocError` where memory is refused for a larger block, or for a first one of any size.
-    ///
-    /// Everything is then as before.
-    ///
-    /// # Allocates
-    ///
-    /// Once for a first block, and once where the block grows, as a sole writer's.
-    ///
-    /// # History
-    ///
-    /// On a block, where the window hasn't the places already, Alone with the answer. Where a first
-    /// block is made, the pass, which was of none, becomes that block's.
-    pub fn try_reserve_as(
-        &mut self,
-        additional: usize,
-        pass: &mut Pass<H>,
-    ) -> Result<(), TryReserveError>
-        requires item { FitsInMemory S.Item.row }
-        requires pass { IsPassAt self.old.place pass.old }
-        ensures room { MakesSharedRoom (asks_alone self.old additional) H.whole
-            (room_for false (type_size S.Item.row) self.old additional)
-            self.old self.new pass.old pass.new result }
-        ensures items { self.new.items ≡ self.old.items }
-        ensures enough { OnOk result
-            (length self.new.items + additional ≤ capacity_of self.new.role) }
-        ensures within { StaysWithin additional self.old self.new (is_ok result) }
-    {
-        as_several!(&mut self.parts, parts => parts.try_reserve_as(additional, pass))
-    }
-
-    /// Makes room for so many items more: `try_reserve_as` with a new pass.
-    ///
-    /// # Errors
-    ///
-    /// Those of `try_reserve_as`.
-    ///
-    /// # Allocates
-    ///
-    /// As `try_reserve_as`.
-    ///
-    /// # History
-    ///
-    /// That of `try_reserve_as`.
-    pub fn try_reserve(&mut self, additional: usize) -> Result<(), TryReserveError>
-    where
-        H: Stepping,
-        requires item { FitsInMemory S.Item.row }
-        ensures room { WithNewPass {H = H} H.real self.old.place (λ first last.
-            MakesSharedRoom (asks_alone self.old additional) H.whole
-            (room_for false (type_size S.Item.row) self.old additional)
-            self.old self.new first last result) }
-        ensures items { self.new.items ≡ self.old.items }
-        ensures enough { OnOk result
-            (length self.new.items + additional ≤ capacity_of self.new.role) }
-        ensures within { StaysWithin additional self.old self.new (is_ok result) }
+        ensures within { StaysWithin R.Parts.several additional
+            self.old self.new (is_ok result) }
     {
         let mut pass = self.pass();
         let made = self.try_reserve_as(additional, &mut pass);
@@ -208,18 +112,44 @@ impl<
     ///
     /// # History
     ///
-    /// On a block, where the window hasn't the places already, Alone with the answer.
+    /// Of a sole writer nothing is added; of one of several, on a block, where the window hasn't
+    /// the places already, Alone with the answer.
     pub fn try_reclaim_as(&mut self, additional: usize, pass: &mut Pass<H>) -> bool
-        requires item { FitsInMemory S.Item.row }
         requires pass { IsPassAt self.old.place pass.old }
-        ensures room { ReclaimsShared (asks_alone self.old additional)
-            (room_for false (type_size S.Item.row) self.old additional)
+        ensures room { ReclaimsRoom R.Parts.several S.DROPS (type_size S.Item.row) additional
             self.old self.new pass.old pass.new result }
         ensures items { self.new.items ≡ self.old.items }
     {
-        as_several!(&mut self.parts, parts => parts.try_reclaim_as(additional, pass))
+        self.parts.try_reclaim_as(additional, pass)
     }
+}
 
+impl<
+    S: Slice,
+    L: LayoutMut,
+    B: BufferMut<S::Item> + Drop,
+    M: Drop,
+    A: Allocator + Copy,
+    H: Mark,
+> ArcSliceMut<S, L, 1, B, M, A, H> {
+    /// Whether there is room for so many items more without memory; then it is made. It adds
+    /// nothing.
+    pub fn try_reclaim(&mut self, additional: usize) -> bool
+        ensures { Reclaims (room_for S.DROPS (type_size S.Item.row) self.old additional)
+            self.old self.new result }
+    {
+        self.parts.try_reclaim(additional)
+    }
+}
+
+impl<
+    S: Slice,
+    L: LayoutMut,
+    B: BufferMut<S::Item> + Drop,
+    M: Drop,
+    A: Allocator + Copy,
+    H: Mark,
+> ArcSliceMut<S, L, 0, B, M, A, H> {
     /// Whether there is room for so many items more without memory; then it is made:
     /// `try_reclaim_as` with a new pass.
     ///
@@ -229,7 +159,6 @@ impl<
     pub fn try_reclaim(&mut self, additional: usize) -> bool
     where
         H: Stepping,
-        requires item { FitsInMemory S.Item.row }
         ensures room { WithNewPass {H = H} H.real self.old.place (λ first last.
             ReclaimsShared (asks_alone self.old additional)
             (room_for false (type_size S.Item.row) self.old additional)

@@ -1,25 +1,19 @@
 //! Windows of several writers on one block: how a window becomes one, and is its block's only owner
 //! again.
 ghost use Rattle.std.specs.Prelude.{◌≡◌, false, IfErr, IfOk, is_ok, ℕ};
-ghost use Rattle.arc_block.specs.LayoutFacts.{layout_facts};
-ghost use Rattle.arc_block.specs.Table.{one_writer_of_several};
 ghost use Rattle.arc_parts.specs.Shared.{as_shared, as_unique, AsksAlone, is_vector_at};
-ghost use Rattle.arc_parts.specs.Shared.{IsSharedPlace};
 ghost use Rattle.arc_parts.specs.Steps.{IsPassAt};
-ghost use Rattle.arc_parts.specs.Window.{IsBlockHeld, IsOfBuffer};
-ghost use Rattle.arc_parts.specs.Writers.{capacity_of, with_full};
+ghost use Rattle.arc_parts.specs.Window.{IsOfBuffer};
+ghost use Rattle.arc_parts.specs.Writers.{with_full};
 ghost use Rattle.arc_read.specs.Steps.{WithNewPass};
 
 use crate::slice_mut::ArcSliceMut;
-use crate::slice_mut::parts::{WriterStorage, as_several};
 use arc_block::layout::LayoutMut;
 use arc_buffer::buffer::BufferMut;
 use arc_buffer::kinds::{Shareable, Slice};
 use arc_owners::mark::{Mark, Stepping};
 use arc_owners::owners::Pass;
-use arc_writer_parts::shared::SharedParts;
 use std::alloc::Allocator;
-use std::marker::PhantomData;
 
 impl<
     S: Slice,
@@ -43,7 +37,7 @@ impl<
         ensures refused { IfErr result (λ back. (back ≡ self) × IsOfBuffer self.place) }
     {
         match self.into_parts().into_shared() {
-            Ok(parts) => Ok(ArcSliceMut::from_shared_parts(parts)),
+            Ok(parts) => Ok(ArcSliceMut::from_parts(parts)),
             Err(parts) => Err(Self::from_parts(parts)),
         }
     }
@@ -57,45 +51,11 @@ impl<
     A: Allocator + Copy,
     H: Mark,
 > ArcSliceMut<S, L, 0, B, M, A, H> {
-    /// The window of these parts, with a list that is legal, on nothing or on a block that the
-    /// layout holds. It adds nothing.
-    #[inline(always)]
-    pub fn from_shared_parts(parts: SharedParts<S, B, M, A, H>) -> Self
-        requires held { IsBlockHeld (layout_facts L.Layout) parts.place }
-        requires legal { ∥ S.is_legal parts.items ∥₁ }
-        ensures { result ≡ parts }
-    {
-        ArcSliceMut {
-            parts: WriterStorage::Several(parts),
-            of: PhantomData,
-        }
-    }
-
-    /// What the window is made of. It adds nothing.
-    #[inline(always)]
-    pub fn into_shared_parts(self) -> SharedParts<S, B, M, A, H>
-        ensures parts { result ≡ self }
-        ensures held { IsBlockHeld (layout_facts L.Layout) result.place }
-        ensures legal { ∥ S.is_legal result.items ∥₁ }
-    {
-        let ArcSliceMut { parts, of: _ } = self;
-        as_several!(parts, parts => parts)
-    }
-
-    /// The window stands on nothing, or on a block that counts its owners and keeps its items in
-    /// memory of ours, as one of several writers. Does nothing: its contract is the law.
-    pub fn known_shared_place(&self)
-        ensures place { IsSharedPlace self.now.place }
-        ensures role { self.now.role ≡ one_writer_of_several (capacity_of self.now.role) }
-    {
-        as_several!(&self.parts, parts => parts.known_place())
-    }
-
     /// Whether the window stands on a vector, whose places a split moves to a native block first.
     pub fn is_on_vector(&self) -> bool
         ensures { result ≡ is_vector_at self.now.place }
     {
-        as_several!(&self.parts, parts => parts.is_on_vector())
+        self.parts.is_on_vector()
     }
 
     /// The block's full places aren't counted: none are more when items are written. Does nothing:
@@ -103,14 +63,14 @@ impl<
     pub fn known_uncounted(&self)
         ensures { (len more : ℕ) → with_full len more self.now.place ≡ self.now.place }
     {
-        as_several!(&self.parts, parts => parts.known_uncounted())
+        self.parts.known_uncounted()
     }
 
     /// Items of this kind need no drop. Does nothing: its contract is the law.
     pub fn known_kind(&self)
         ensures { S.DROPS ≡ false }
     {
-        as_several!(&self.parts, parts => parts.known_kind())
+        self.parts.known_kind()
     }
 
     /// The same window, as its block's only writer, where it stands on a block that no other owner
@@ -133,9 +93,9 @@ impl<
         ensures sole { IfOk result (λ sole. sole ≡ as_unique self) }
         ensures refused { IfErr result (λ back. back ≡ self) }
     {
-        match self.into_shared_parts().try_into_unique_as(pass) {
+        match self.into_parts().try_into_unique_as(pass) {
             Ok(parts) => Ok(ArcSliceMut::from_parts(parts)),
-            Err(parts) => Err(Self::from_shared_parts(parts)),
+            Err(parts) => Err(Self::from_parts(parts)),
         }
     }
 

@@ -8,7 +8,6 @@ ghost use Rattle.arc_parts.specs.Writers.{capacity_of};
 ghost use Rattle.arc_read.specs.Steps.{WithNewPass};
 
 use crate::slice_mut::ArcSliceMut;
-use crate::slice_mut::parts::as_several;
 use arc_block::layout::LayoutMut;
 use arc_buffer::buffer::BufferMut;
 use arc_buffer::kinds::{Concatenable, Slice, Subsliceable};
@@ -61,10 +60,10 @@ impl<
         ensures refused { IfErr result (λ e. (self.new ≡ self.old)
             × RefusesSplitAt self.old.place pass.old pass.new e) }
     {
-        as_several!(&mut self.parts, parts => match parts.try_split_off_as(rt, at, pass) {
-            Ok(back) => Ok(Self::from_shared_parts(back)),
+        match self.parts.try_split_off_as(rt, at, pass) {
+            Ok(back) => Ok(Self::from_parts(back)),
             Err(e) => Err(e),
-        })
+        }
     }
 
     /// Keeps the first `at` places and hands out those behind them: `try_split_off_as` with a new
@@ -131,10 +130,10 @@ impl<
         ensures refused { IfErr result (λ e. (self.new ≡ self.old)
             × RefusesSplitAt self.old.place pass.old pass.new e) }
     {
-        as_several!(&mut self.parts, parts => match parts.try_split_to_as(rt, at, pass) {
-            Ok(front) => Ok(Self::from_shared_parts(front)),
+        match self.parts.try_split_to_as(rt, at, pass) {
+            Ok(front) => Ok(Self::from_parts(front)),
             Err(e) => Err(e),
-        })
+        }
     }
 
     /// Keeps the places behind the first `at` and hands out these: `try_split_to_as` with a new
@@ -195,7 +194,7 @@ impl<
             pass.old pass.new new) }
         ensures refused { OnErr result ((self.new ≡ self.old) × (pass.new ≡ pass.old)) }
     {
-        as_several!(&mut self.parts, parts => parts.try_leave_vector_as(pass))
+        self.parts.try_leave_vector_as(pass)
     }
 
     /// Puts the other window's places behind this one's, with the items that lie there, where this
@@ -222,11 +221,10 @@ impl<
         ensures refused { IfErr result (λ back. (can_join self.old other ≡ false)
             × (back ≡ other) × (self.new ≡ self.old) × (pass.new ≡ pass.old)) }
     {
-        let other = other.into_shared_parts();
-        as_several!(&mut self.parts, parts => match parts.try_unsplit_as(other, pass) {
+        match self.parts.try_unsplit_as(other.into_parts(), pass) {
             Ok(()) => Ok(()),
-            Err(other) => Err(Self::from_shared_parts(other)),
-        })
+            Err(other) => Err(Self::from_parts(other)),
+        }
     }
 
     /// Puts the other window's places behind this one's: `try_unsplit_as` with a new pass.

@@ -8,34 +8,39 @@ ghost use Rattle.arc_parts.specs.Steps.{IsPassAt, RefusesTaking, TakesAt};
 ghost use Rattle.arc_parts.specs.Window.{IsBoxWhole, IsBufferWhole, IsVecPart};
 ghost use Rattle.arc_parts.specs.Writers.{IsWholeWriter};
 ghost use Rattle.arc_read.specs.Steps.{WithNewPass};
+ghost use Rattle.arc_writer_parts.specs.Roles.{RefusesTakingOut, TakesOutAt};
 
-use crate::slice_mut::ArcSliceMut;
+use crate::slice_mut::{ArcSliceMut, WriteWindow};
 use arc_block::layout::LayoutMut;
 use arc_buffer::buffer::BufferMut;
 use arc_buffer::kinds::{Slice, VecIn, Wraps};
 use arc_owners::mark::{Mark, Stepping};
 use arc_owners::owners::Pass;
+use arc_writer_parts::role::{RoleOf, WriterParts};
 use std::alloc::Allocator;
 
 impl<
     S: Slice,
     L: LayoutMut,
+    R: RoleOf<S, B, M, A, H>,
     B: BufferMut<S::Item> + Drop,
     M: Drop,
     A: Allocator + Copy,
     H: Mark,
-> ArcSliceMut<S, L, 1, B, M, A, H> {
-    /// The items as their block's vector, moved to its front, where the block is a vector. Items
-    /// that are dropped one by one have to be all of it. Nobody is asked: a sole writer is alone.
+> WriteWindow<S, L, R, B, M, A, H> {
+    /// The items as their block's vector, moved to its front, where the block is a vector and no
+    /// other owner lives. Items that are dropped one by one have to be all of it. A sole writer
+    /// asks nobody: he is alone.
     ///
     /// # Errors
     ///
-    /// The window, on another block or none, and where items that are dropped one by one are a part
-    /// alone; the pass is then as before.
+    /// The window, on another block or none, where items that are dropped one by one are a part
+    /// alone, and where another owner lives.
     ///
     /// # History
     ///
-    /// Taken, Down without a step.
+    /// Taken, of a sole writer Down without a step, and of one of several Alone and Down. Refused,
+    /// of one of several Alone with no where only the count could decide, and else nothing.
     pub fn try_into_vec_as(self, pass: &mut Pass<H>) -> Result<S::Vec, Self>
     where
         S: VecIn<A>,
@@ -44,10 +49,10 @@ impl<
             × (S.list_in_vec v ≡ self.items)) }
         ensures places { IfOk result (λ v. (inner : Vec S.Item A) × S.Vec.wraps v inner
             × (vec_capacity inner ≡ size_at self.place)) }
-        ensures entry { IfOk result (λ _. at_owner self.place ⊥ (λ o.
-            Leaves o pass.old pass.new true)) }
-        ensures refused { IfErr result (λ back. (back ≡ self)
-            × (¬ IsVecPart S.DROPS self.items self.place) × (pass.new ≡ pass.old)) }
+        ensures entries { IfOk result (λ _.
+            TakesOutAt R.Parts.several self.place pass.old pass.new) }
+        ensures refused { IfErr result (λ back. (back ≡ self) × RefusesTakingOut R.Parts.several
+            (IsVecPart S.DROPS self.items self.place) self.place pass.old pass.new) }
     {
         match self.into_parts().try_into_vec_as(pass) {
             Ok(inner) => Ok(S::Vec::from_inner(inner)),
@@ -72,11 +77,12 @@ impl<
             × (S.list_in_vec v ≡ self.items)) }
         ensures places { IfOk result (λ v. (inner : Vec S.Item A) × S.Vec.wraps v inner
             × (vec_capacity inner ≡ size_at self.place)) }
-        ensures entry { IfOk result (λ _. WithNewPass {H = H} H.real self.place (λ first last.
-            at_owner self.place ⊥ (λ o. Leaves o first last true))) }
+        ensures entries { IfOk result (λ _. WithNewPass {H = H} H.real self.place (λ first last.
+            TakesOutAt R.Parts.several self.place first last)) }
         ensures refused { IfErr result (λ back. (back ≡ self)
-            × (¬ IsVecPart S.DROPS self.items self.place)
-            × WithNewPass {H = H} H.real self.place (λ first last. last ≡ first)) }
+            × WithNewPass {H = H} H.real self.place (λ first last.
+            RefusesTakingOut R.Parts.several (IsVecPart S.DROPS self.items self.place)
+            self.place first last)) }
     {
         let mut pass = self.pass();
         let taken = self.try_into_vec_as(&mut pass);
@@ -84,27 +90,27 @@ impl<
         taken
     }
 
-    /// The items as a box, where they are all of a vector that has no places more. No item is
-    /// copied, and nobody is asked.
+    /// The items as a box, where they are all of a vector that has no places more, and no other
+    /// owner lives. No item is copied, and a sole writer asks nobody.
     ///
     /// # Errors
     ///
-    /// The window, on another block or none, and where the items are a part of the vector's places
-    /// alone; the pass is then as before.
+    /// The window, on another block or none, where the items are a part of the vector's places
+    /// alone, and where another owner lives.
     ///
     /// # History
     ///
-    /// Taken, Down without a step.
+    /// As `try_into_vec_as`.
     pub fn try_into_boxed_as(self, pass: &mut Pass<H>) -> Result<S::Boxed, Self>
     where
         S: VecIn<A>,
         requires pass { IsPassAt self.place pass.old }
         ensures taken { IfOk result (λ b. IsBoxWhole self.items self.place
             × (S.list_in_boxed b ≡ self.items)) }
-        ensures entry { IfOk result (λ _. at_owner self.place ⊥ (λ o.
-            Leaves o pass.old pass.new true)) }
-        ensures refused { IfErr result (λ back. (back ≡ self)
-            × (¬ IsBoxWhole self.items self.place) × (pass.new ≡ pass.old)) }
+        ensures entries { IfOk result (λ _.
+            TakesOutAt R.Parts.several self.place pass.old pass.new) }
+        ensures refused { IfErr result (λ back. (back ≡ self) × RefusesTakingOut R.Parts.several
+            (IsBoxWhole self.items self.place) self.place pass.old pass.new) }
     {
         match self.into_parts().try_into_box_vec_as(pass) {
             Ok(inner) => Ok(S::Boxed::from_inner(inner.into_boxed_slice())),
@@ -127,18 +133,28 @@ impl<
         S: VecIn<A>,
         ensures taken { IfOk result (λ b. IsBoxWhole self.items self.place
             × (S.list_in_boxed b ≡ self.items)) }
-        ensures entry { IfOk result (λ _. WithNewPass {H = H} H.real self.place (λ first last.
-            at_owner self.place ⊥ (λ o. Leaves o first last true))) }
+        ensures entries { IfOk result (λ _. WithNewPass {H = H} H.real self.place (λ first last.
+            TakesOutAt R.Parts.several self.place first last)) }
         ensures refused { IfErr result (λ back. (back ≡ self)
-            × (¬ IsBoxWhole self.items self.place)
-            × WithNewPass {H = H} H.real self.place (λ first last. last ≡ first)) }
+            × WithNewPass {H = H} H.real self.place (λ first last.
+            RefusesTakingOut R.Parts.several (IsBoxWhole self.items self.place)
+            self.place first last)) }
     {
         let mut pass = self.pass();
         let taken = self.try_into_boxed_as(&mut pass);
         pass.show();
         taken
     }
+}
 
+impl<
+    S: Slice,
+    L: LayoutMut,
+    B: BufferMut<S::Item> + Drop,
+    M: Drop,
+    A: Allocator + Copy,
+    H: Mark,
+> ArcSliceMut<S, L, 1, B, M, A, H> {
     /// The items as an array, where the window has `N` of them, which on a block are all places of
     /// a native one. Else the window comes back.
     ///
@@ -248,119 +264,6 @@ impl<
     A: Allocator + Copy,
     H: Mark,
 > ArcSliceMut<S, L, 0, B, M, A, H> {
-    /// The items as their block's vector, moved to its front, where the block is a vector and no
-    /// other owner lives.
-    ///
-    /// # Errors
-    ///
-    /// The window, on another block or none, and where another owner lives.
-    ///
-    /// # History
-    ///
-    /// Taken, Alone and Down. Refused, Alone with no where only the count could decide, and else
-    /// nothing.
-    pub fn try_into_vec_as(self, pass: &mut Pass<H>) -> Result<S::Vec, Self>
-    where
-        S: VecIn<A>,
-        requires pass { IsPassAt self.place pass.old }
-        ensures taken { IfOk result (λ v. IsVecPart S.DROPS self.items self.place
-            × (S.list_in_vec v ≡ self.items)) }
-        ensures places { IfOk result (λ v. (inner : Vec S.Item A) × S.Vec.wraps v inner
-            × (vec_capacity inner ≡ size_at self.place)) }
-        ensures entries { IfOk result (λ _. TakesAt self.place pass.old pass.new) }
-        ensures refused { IfErr result (λ back. (back ≡ self) × RefusesTaking
-            (IsVecPart S.DROPS self.items self.place) self.place pass.old pass.new) }
-    {
-        match self.into_shared_parts().try_into_vec_as(pass) {
-            Ok(inner) => Ok(S::Vec::from_inner(inner)),
-            Err(parts) => Err(Self::from_shared_parts(parts)),
-        }
-    }
-
-    /// The items as their block's vector: `try_into_vec_as` with a new pass.
-    ///
-    /// # Errors
-    ///
-    /// Those of `try_into_vec_as`.
-    ///
-    /// # History
-    ///
-    /// That of `try_into_vec_as`.
-    pub fn try_into_vec(self) -> Result<S::Vec, Self>
-    where
-        H: Stepping,
-        S: VecIn<A>,
-        ensures taken { IfOk result (λ v. IsVecPart S.DROPS self.items self.place
-            × (S.list_in_vec v ≡ self.items)) }
-        ensures places { IfOk result (λ v. (inner : Vec S.Item A) × S.Vec.wraps v inner
-            × (vec_capacity inner ≡ size_at self.place)) }
-        ensures entries { IfOk result (λ _. WithNewPass {H = H} H.real self.place (λ first last.
-            TakesAt self.place first last)) }
-        ensures refused { IfErr result (λ back. (back ≡ self)
-            × WithNewPass {H = H} H.real self.place (λ first last. RefusesTaking
-            (IsVecPart S.DROPS self.items self.place) self.place first last)) }
-    {
-        let mut pass = self.pass();
-        let taken = self.try_into_vec_as(&mut pass);
-        pass.show();
-        taken
-    }
-
-    /// The items as a box, where they are all of a vector that has no places more, and no other
-    /// owner lives. No item is copied.
-    ///
-    /// # Errors
-    ///
-    /// The window, on another block or none, where the items are a part of the vector's places
-    /// alone, and where another owner lives.
-    ///
-    /// # History
-    ///
-    /// Taken, Alone and Down. Refused, Alone with no where only the count could decide, and else
-    /// nothing.
-    pub fn try_into_boxed_as(self, pass: &mut Pass<H>) -> Result<S::Boxed, Self>
-    where
-        S: VecIn<A>,
-        requires pass { IsPassAt self.place pass.old }
-        ensures taken { IfOk result (λ b. IsBoxWhole self.items self.place
-            × (S.list_in_boxed b ≡ self.items)) }
-        ensures entries { IfOk result (λ _. TakesAt self.place pass.old pass.new) }
-        ensures refused { IfErr result (λ back. (back ≡ self) × RefusesTaking
-            (IsBoxWhole self.items self.place) self.place pass.old pass.new) }
-    {
-        match self.into_shared_parts().try_into_box_vec_as(pass) {
-            Ok(inner) => Ok(S::Boxed::from_inner(inner.into_boxed_slice())),
-            Err(parts) => Err(Self::from_shared_parts(parts)),
-        }
-    }
-
-    /// The items as a box: `try_into_boxed_as` with a new pass.
-    ///
-    /// # Errors
-    ///
-    /// Those of `try_into_boxed_as`.
-    ///
-    /// # History
-    ///
-    /// That of `try_into_boxed_as`.
-    pub fn try_into_boxed(self) -> Result<S::Boxed, Self>
-    where
-        H: Stepping,
-        S: VecIn<A>,
-        ensures taken { IfOk result (λ b. IsBoxWhole self.items self.place
-            × (S.list_in_boxed b ≡ self.items)) }
-        ensures entries { IfOk result (λ _. WithNewPass {H = H} H.real self.place (λ first last.
-            TakesAt self.place first last)) }
-        ensures refused { IfErr result (λ back. (back ≡ self)
-            × WithNewPass {H = H} H.real self.place (λ first last. RefusesTaking
-            (IsBoxWhole self.items self.place) self.place first last)) }
-    {
-        let mut pass = self.pass();
-        let taken = self.try_into_boxed_as(&mut pass);
-        pass.show();
-        taken
-    }
-
     /// The items as an array, where the window has `N` of them, which on a block are all places of
     /// a native one, and no other owner lives. Else the window comes back.
     ///
@@ -380,9 +283,9 @@ impl<
         ensures refused { IfErr result (λ back. (back ≡ self) × RefusesTaking
             (IsWholeWriter N self) self.place pass.old pass.new) }
     {
-        match self.into_shared_parts().try_into_array_as(pass) {
+        match self.into_parts().try_into_array_as(pass) {
             Ok(array) => Ok(array),
-            Err(parts) => Err(Self::from_shared_parts(parts)),
+            Err(parts) => Err(Self::from_parts(parts)),
         }
     }
 

@@ -1,26 +1,114 @@
 //! Write windows over text.
-ghost use Rattle.std.specs.Prelude.{◌++◌, ◌+◌, ◌≡◌, ◌≤◌, Err, false, IfErr, IfOk, is_ok, length};
+ghost use Rattle.std.specs.Prelude.{◌++◌, ◌≡◌, ◌≤◌, Err, false, IfErr, IfOk, is_ok, length};
 ghost use Rattle.std.specs.Prelude.{OnErr, OnOk};
 ghost use Rattle.arc_owners.specs.count.Calls.{IsPassOfNone};
 ghost use Rattle.arc_block.specs.Place.{nowhere, size_at};
-ghost use Rattle.arc_parts.specs.Shared.{asks_alone, MakesSharedRoom, PushesShared};
 ghost use Rattle.arc_parts.specs.Steps.{IsPassAt};
-ghost use Rattle.arc_parts.specs.Writers.{MakesRoom, MakesWriter, Pushes, room_for};
+ghost use Rattle.arc_parts.specs.Writers.{MakesWriter, room_for};
 ghost use Rattle.arc_sort_writers.specs.Growth.{AsksForRoom, IfAsked};
+ghost use Rattle.arc_writer_parts.specs.Roles.{AsksRoom, PushesItems};
 ghost use Rattle.arc_read.specs.Steps.{WithNewPass};
 ghost use Rattle.arc_write.specs.Within.{StaysWithin};
 
-use crate::slice_mut::ArcSliceMut;
-use crate::slice_mut::parts::{as_several, as_sole};
+use crate::slice_mut::{ArcSliceMut, WriteWindow};
 use arc_block::layout::LayoutMut;
 use arc_buffer::buffer::BufferMut;
 use arc_buffer::kinds::Text;
 use arc_owners::error::{AllocError, TryReserveError};
 use arc_owners::mark::{Mark, Stepping};
 use arc_owners::owners::Pass;
+use arc_writer_parts::role::{CopyWriterParts, RoleOf, WriterParts};
 use arc_writer_parts::sole::SoleParts;
 use std::alloc::Allocator;
 use std::str;
+
+impl<
+    L: LayoutMut,
+    R: RoleOf<Text, B, M, A, H>,
+    B: BufferMut<u8> + Drop,
+    M: Drop,
+    A: Allocator + Copy,
+    H: Mark,
+> WriteWindow<Text, L, R, B, M, A, H> {
+    /// The text.
+    pub fn as_str(&self) -> &str
+        ensures { result.now ≡ self.now.items }
+    {
+        unsafe { str::from_utf8_unchecked(self.parts.as_slice()) }
+    }
+
+    /// A copy of the text more, behind what is there, once there is room for it.
+    ///
+    /// # Errors
+    ///
+    /// Those of `try_reserve_as`.
+    ///
+    /// # Allocates
+    ///
+    /// As `try_reserve_as`.
+    ///
+    /// # History
+    ///
+    /// As `try_reserve_as`.
+    pub fn try_extend_from_str_as(
+        &mut self,
+        text: &str,
+        pass: &mut Pass<H>,
+    ) -> Result<(), TryReserveError>
+    where
+        R::Parts: CopyWriterParts<Text, B, M, A, H>,
+        requires pass { IsPassAt self.old.place pass.old }
+        ensures extended { OnOk result (PushesItems R.Parts.several false H.whole 1
+            (length text.now) text.now self.old self.new pass.old pass.new) }
+        ensures items { OnOk result (self.new.items ≡ self.old.items ++ text.now) }
+        ensures refused { IfErr result (λ e. AsksRoom R.Parts.several false H.whole 1
+            (length text.now) self.old self.new pass.old pass.new (Err e)) }
+        ensures own { IfAsked (room_for false 1 self.old (length text.now)) (λ k.
+            AsksForRoom B.list B.places B.grows B.refuses self.old k (size_at self.new.place)
+            result) }
+        ensures within { StaysWithin R.Parts.several (length text.now)
+            self.old self.new (is_ok result) }
+    {
+        self.parts.try_extend_from_slice_as(text.as_bytes(), pass)
+    }
+
+    /// A copy of the text more, behind what is there: `try_extend_from_str_as` with a new pass.
+    ///
+    /// # Errors
+    ///
+    /// Those of `try_extend_from_str_as`.
+    ///
+    /// # Allocates
+    ///
+    /// As `try_reserve_as`.
+    ///
+    /// # History
+    ///
+    /// That of `try_reserve_as`.
+    pub fn try_extend_from_str(&mut self, text: &str) -> Result<(), TryReserveError>
+    where
+        H: Stepping,
+        R::Parts: CopyWriterParts<Text, B, M, A, H>,
+        ensures extended { OnOk result (WithNewPass {H = H} H.real self.old.place (λ first last.
+            PushesItems R.Parts.several false H.whole 1 (length text.now) text.now
+            self.old self.new first last)) }
+        ensures items { OnOk result (self.new.items ≡ self.old.items ++ text.now) }
+        ensures refused { IfErr result (λ e.
+            WithNewPass {H = H} H.real self.old.place (λ first last.
+            AsksRoom R.Parts.several false H.whole 1 (length text.now)
+            self.old self.new first last (Err e))) }
+        ensures own { IfAsked (room_for false 1 self.old (length text.now)) (λ k.
+            AsksForRoom B.list B.places B.grows B.refuses self.old k (size_at self.new.place)
+            result) }
+        ensures within { StaysWithin R.Parts.several (length text.now)
+            self.old self.new (is_ok result) }
+    {
+        let mut pass = self.pass();
+        let extended = self.try_extend_from_str_as(text, &mut pass);
+        pass.show();
+        extended
+    }
+}
 
 impl<L: LayoutMut, B: BufferMut<u8> + Drop, M: Drop, A: Allocator + Copy, H: Mark> ArcSliceMut<
     Text,
@@ -31,14 +119,6 @@ impl<L: LayoutMut, B: BufferMut<u8> + Drop, M: Drop, A: Allocator + Copy, H: Mar
     A,
     H,
 > {
-    /// The text.
-    pub fn as_str(&self) -> &str
-        ensures { result.now ≡ self.now.items }
-    {
-        let _ = &self.parts;
-        unsafe { str::from_utf8_unchecked(self.as_slice()) }
-    }
-
     /// A window over a copy of the text: no text stands on nothing, else it stands on a new native
     /// block with exactly a place for each byte. The pass, which is of no block, becomes the
     /// block's; the window is owner 0.
@@ -84,154 +164,5 @@ impl<L: LayoutMut, B: BufferMut<u8> + Drop, M: Drop, A: Allocator + Copy, H: Mar
         let made = Self::try_from_str_as(alloc, text, &mut pass);
         pass.show();
         made
-    }
-
-    /// A copy of the text more, behind what is there, once there is room for it.
-    ///
-    /// # Errors
-    ///
-    /// Those of `try_reserve_as`.
-    ///
-    /// # Allocates
-    ///
-    /// As `try_reserve_as`.
-    ///
-    /// # History
-    ///
-    /// As `try_reserve_as`.
-    pub fn try_extend_from_str_as(
-        &mut self,
-        text: &str,
-        pass: &mut Pass<H>,
-    ) -> Result<(), TryReserveError>
-        requires pass { IsPassAt self.old.place pass.old }
-        ensures extended { OnOk result (Pushes false H.whole
-            (room_for false 1 self.old (length text.now)) text.now
-            self.old self.new pass.old pass.new) }
-        ensures items { OnOk result (self.new.items ≡ self.old.items ++ text.now) }
-        ensures refused { IfErr result (λ e. MakesRoom false H.whole
-            (room_for false 1 self.old (length text.now))
-            self.old self.new pass.old pass.new (Err e)) }
-        ensures own { IfAsked (room_for false 1 self.old (length text.now)) (λ k.
-            AsksForRoom B.list B.places B.grows B.refuses self.old k (size_at self.new.place)
-            result) }
-    {
-        as_sole!(&mut self.parts, parts => parts.try_extend_from_slice_as(text.as_bytes(), pass))
-    }
-
-    /// A copy of the text more, behind what is there: `try_extend_from_str_as` with a new pass.
-    ///
-    /// # Errors
-    ///
-    /// Those of `try_extend_from_str_as`.
-    ///
-    /// # Allocates
-    ///
-    /// As `try_reserve_as`.
-    ///
-    /// # History
-    ///
-    /// That of `try_reserve_as`.
-    pub fn try_extend_from_str(&mut self, text: &str) -> Result<(), TryReserveError>
-    where
-        H: Stepping,
-        ensures extended { OnOk result (WithNewPass {H = H} H.real self.old.place (λ first last.
-            Pushes false H.whole (room_for false 1 self.old (length text.now)) text.now
-            self.old self.new first last)) }
-        ensures items { OnOk result (self.new.items ≡ self.old.items ++ text.now) }
-        ensures refused { IfErr result (λ e.
-            WithNewPass {H = H} H.real self.old.place (λ first last. MakesRoom false H.whole
-            (room_for false 1 self.old (length text.now)) self.old self.new first last (Err e))) }
-        ensures own { IfAsked (room_for false 1 self.old (length text.now)) (λ k.
-            AsksForRoom B.list B.places B.grows B.refuses self.old k (size_at self.new.place)
-            result) }
-    {
-        let mut pass = self.pass();
-        let extended = self.try_extend_from_str_as(text, &mut pass);
-        pass.show();
-        extended
-    }
-}
-
-impl<L: LayoutMut, B: BufferMut<u8> + Drop, M: Drop, A: Allocator + Copy, H: Mark> ArcSliceMut<
-    Text,
-    L,
-    0,
-    B,
-    M,
-    A,
-    H,
-> {
-    /// The text.
-    pub fn as_str(&self) -> &str
-        ensures { result.now ≡ self.now.items }
-    {
-        let _ = &self.parts;
-        unsafe { str::from_utf8_unchecked(self.as_slice()) }
-    }
-
-    /// A copy of the text more, behind what is there, once there is room for it.
-    ///
-    /// # Errors
-    ///
-    /// Those of `try_reserve_as`.
-    ///
-    /// # Allocates
-    ///
-    /// As `try_reserve_as`.
-    ///
-    /// # History
-    ///
-    /// As `try_reserve_as`.
-    pub fn try_extend_from_str_as(
-        &mut self,
-        text: &str,
-        pass: &mut Pass<H>,
-    ) -> Result<(), TryReserveError>
-        requires pass { IsPassAt self.old.place pass.old }
-        ensures extended { OnOk result (PushesShared (asks_alone self.old (length text.now))
-            H.whole (room_for false 1 self.old (length text.now)) text.now
-            self.old self.new pass.old pass.new) }
-        ensures items { OnOk result (self.new.items ≡ self.old.items ++ text.now) }
-        ensures refused { IfErr result (λ e. MakesSharedRoom
-            (asks_alone self.old (length text.now)) H.whole
-            (room_for false 1 self.old (length text.now))
-            self.old self.new pass.old pass.new (Err e)) }
-        ensures within { StaysWithin (length text.now) self.old self.new (is_ok result) }
-    {
-        as_several!(&mut self.parts, parts => parts.try_extend_from_slice_as(text.as_bytes(), pass))
-    }
-
-    /// A copy of the text more, behind what is there: `try_extend_from_str_as` with a new pass.
-    ///
-    /// # Errors
-    ///
-    /// Those of `try_extend_from_str_as`.
-    ///
-    /// # Allocates
-    ///
-    /// As `try_reserve_as`.
-    ///
-    /// # History
-    ///
-    /// That of `try_reserve_as`.
-    pub fn try_extend_from_str(&mut self, text: &str) -> Result<(), TryReserveError>
-    where
-        H: Stepping,
-        ensures extended { OnOk result (WithNewPass {H = H} H.real self.old.place (λ first last.
-            PushesShared (asks_alone self.old (length text.now)) H.whole
-            (room_for false 1 self.old (length text.now)) text.now
-            self.old self.new first last)) }
-        ensures items { OnOk result (self.new.items ≡ self.old.items ++ text.now) }
-        ensures refused { IfErr result (λ e.
-            WithNewPass {H = H} H.real self.old.place (λ first last.
-            MakesSharedRoom (asks_alone self.old (length text.now)) H.whole
-            (room_for false 1 self.old (length text.now)) self.old self.new first last (Err e))) }
-        ensures within { StaysWithin (length text.now) self.old self.new (is_ok result) }
-    {
-        let mut pass = self.pass();
-        let extended = self.try_extend_from_str_as(text, &mut pass);
-        pass.show();
-        extended
     }
 }

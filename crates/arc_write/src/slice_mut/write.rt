@@ -1,34 +1,35 @@
 //! Items that are changed in their places, or pushed.
-ghost use Rattle.std.specs.Prelude.{◌++◌, ◌+◌, ◌∷◌, ◌≡◌, [], Err, false, IfErr, is_ok, length};
-ghost use Rattle.std.specs.Prelude.{OnOk};
+ghost use Rattle.std.specs.Prelude.{◌++◌, ◌<◌, ◌∷◌, ◌≡◌, ◌≤◌, [], Err, IfErr, is_ok, length};
+ghost use Rattle.std.specs.Prelude.{OnErr, OnOk};
 ghost use Rattle.std.specs.Borrow.{sem};
-ghost use Rattle.std.specs.Mem.{FitsInMemory, type_size};
+ghost use Rattle.std.specs.Mem.{type_size};
 ghost use Rattle.arc_block.specs.Place.{size_at};
-ghost use Rattle.arc_parts.specs.Shared.{asks_alone, MakesSharedRoom, PushesShared};
 ghost use Rattle.arc_parts.specs.Steps.{IsPassAt};
-ghost use Rattle.arc_parts.specs.Writers.{MakesRoom, Pushes, room_for};
+ghost use Rattle.arc_parts.specs.Writers.{room_for, with_more};
 ghost use Rattle.arc_sort_writers.specs.Growth.{AsksForRoom, IfAsked, without_item};
+ghost use Rattle.arc_writer_parts.specs.Roles.{AsksRoom, PushesItems};
 ghost use Rattle.arc_read.specs.Steps.{WithNewPass};
-ghost use Rattle.arc_write.specs.Within.{StaysWithin};
+ghost use Rattle.arc_write.specs.Within.{StaysWithin, spare_places};
 
-use crate::slice_mut::ArcSliceMut;
-use crate::slice_mut::parts::{as_several, as_sole};
+use crate::slice_mut::WriteWindow;
 use arc_block::layout::LayoutMut;
 use arc_buffer::buffer::BufferMut;
 use arc_buffer::kinds::{AnyItems, CopySlice, Extendable, Slice};
 use arc_owners::error::TryReserveError;
 use arc_owners::mark::{Mark, Stepping};
 use arc_owners::owners::Pass;
-use std::alloc::Allocator;
+use arc_writer_parts::role::{CopyWriterParts, RoleOf, WriterParts};
+use std::alloc::{AllocError, Allocator};
 
 impl<
     S: Slice,
     L: LayoutMut,
+    R: RoleOf<S, B, M, A, H>,
     B: BufferMut<S::Item> + Drop,
     M: Drop,
     A: Allocator + Copy,
     H: Mark,
-> ArcSliceMut<S, L, 1, B, M, A, H> {
+> WriteWindow<S, L, R, B, M, A, H> {
     ghost use Rattle.arc_write.specs.Lends.{lends_items};
 
     /// The items, to be changed in their places: what is written there they are afterwards. It
@@ -37,9 +38,9 @@ impl<
     pub fn as_mut_slice(&mut self) -> &mut [S::Item]
     where
         S: AnyItems,
-        ensures* writes_back { sem 𝓛 (lends_items S.row L.row 1 B.row M.row A.row H.row S.Item.row
-            S.TryFromSliceError.row S.Slice L.Layout B.BufferMut.own B.Buffer
-            A.Allocator H.Mark self.entry result) }
+        ensures* writes_back { sem 𝓛 (lends_items S.row L.row R.row B.row M.row A.row H.row
+            S.Item.row S.TryFromSliceError.row R.Parts.row S.Slice L.Layout R.Parts.WriterParts
+            B.BufferMut.own B.Buffer A.Allocator H.Mark self.entry result) }
         ensures value { result.now ≡ self.old.items }
     {
         self.parts.as_mut_slice()
@@ -66,194 +67,19 @@ impl<
     ) -> Result<(), (TryReserveError, S::Item)>
     where
         S: Extendable,
-        requires item { FitsInMemory S.Item.row }
         requires pass { IsPassAt self.old.place pass.old }
-        ensures pushed { OnOk result (Pushes S.DROPS H.whole
-            (room_for S.DROPS (type_size S.Item.row) self.old 1) (item ∷ [])
-            self.old self.new pass.old pass.new) }
-        ensures items { OnOk result (self.new.items ≡ self.old.items ++ item ∷ []) }
-        ensures refused { IfErr result (λ r. (r.1 ≡ item) × MakesRoom S.DROPS H.whole
-            (room_for S.DROPS (type_size S.Item.row) self.old 1)
-            self.old self.new pass.old pass.new (Err r.0)) }
-        ensures own { IfAsked (room_for S.DROPS (type_size S.Item.row) self.old 1) (λ k.
-            AsksForRoom B.list B.places B.grows B.refuses self.old k (size_at self.new.place)
-            (without_item result)) }
-    {
-        as_sole!(&mut self.parts, parts => parts.try_push_as(item, pass))
-    }
-
-    /// An item more, behind the others: `try_push_as` with a new pass.
-    ///
-    /// # Errors
-    ///
-    /// Those of `try_push_as`.
-    ///
-    /// # Allocates
-    ///
-    /// As `try_reserve_as`.
-    ///
-    /// # History
-    ///
-    /// That of `try_reserve_as`.
-    #[inline(always)]
-    pub fn try_push(&mut self, item: S::Item) -> Result<(), (TryReserveError, S::Item)>
-    where
-        H: Stepping,
-        S: Extendable,
-        requires item { FitsInMemory S.Item.row }
-        ensures pushed { OnOk result (WithNewPass {H = H} H.real self.old.place (λ first last.
-            Pushes S.DROPS H.whole (room_for S.DROPS (type_size S.Item.row) self.old 1) (item ∷ [])
-            self.old self.new first last)) }
+        ensures pushed { OnOk result (PushesItems R.Parts.several S.DROPS H.whole
+            (type_size S.Item.row) 1 (item ∷ []) self.old self.new pass.old pass.new) }
         ensures items { OnOk result (self.new.items ≡ self.old.items ++ item ∷ []) }
         ensures refused { IfErr result (λ r. (r.1 ≡ item)
-            × WithNewPass {H = H} H.real self.old.place (λ first last. MakesRoom S.DROPS H.whole
-            (room_for S.DROPS (type_size S.Item.row) self.old 1)
-            self.old self.new first last (Err r.0))) }
+            × AsksRoom R.Parts.several S.DROPS H.whole (type_size S.Item.row) 1
+            self.old self.new pass.old pass.new (Err r.0)) }
         ensures own { IfAsked (room_for S.DROPS (type_size S.Item.row) self.old 1) (λ k.
             AsksForRoom B.list B.places B.grows B.refuses self.old k (size_at self.new.place)
             (without_item result)) }
+        ensures within { StaysWithin R.Parts.several 1 self.old self.new (is_ok result) }
     {
-        let mut pass = self.pass();
-        let pushed = self.try_push_as(item, &mut pass);
-        pass.show();
-        pushed
-    }
-
-    /// A copy of the items more, behind the others, once there is room for them.
-    ///
-    /// # Errors
-    ///
-    /// Those of `try_reserve_as`.
-    ///
-    /// # Allocates
-    ///
-    /// As `try_reserve_as`.
-    ///
-    /// # History
-    ///
-    /// As `try_reserve_as`.
-    #[inline(always)]
-    pub fn try_extend_from_slice_as(
-        &mut self,
-        items: &[S::Item],
-        pass: &mut Pass<H>,
-    ) -> Result<(), TryReserveError>
-    where
-        S: CopySlice,
-        S::Item: Copy,
-        requires item { FitsInMemory S.Item.row }
-        requires pass { IsPassAt self.old.place pass.old }
-        ensures extended { OnOk result (Pushes S.DROPS H.whole
-            (room_for S.DROPS (type_size S.Item.row) self.old (length items.now)) items.now
-            self.old self.new pass.old pass.new) }
-        ensures items { OnOk result (self.new.items ≡ self.old.items ++ items.now) }
-        ensures refused { IfErr result (λ e. MakesRoom S.DROPS H.whole
-            (room_for S.DROPS (type_size S.Item.row) self.old (length items.now))
-            self.old self.new pass.old pass.new (Err e)) }
-        ensures own { IfAsked (room_for S.DROPS (type_size S.Item.row) self.old
-            (length items.now)) (λ k. AsksForRoom B.list B.places B.grows B.refuses self.old k
-            (size_at self.new.place) result) }
-    {
-        as_sole!(&mut self.parts, parts => parts.try_extend_from_slice_as(items, pass))
-    }
-
-    /// A copy of the items more, behind the others: `try_extend_from_slice_as` with a new pass.
-    ///
-    /// # Errors
-    ///
-    /// Those of `try_extend_from_slice_as`.
-    ///
-    /// # Allocates
-    ///
-    /// As `try_reserve_as`.
-    ///
-    /// # History
-    ///
-    /// That of `try_reserve_as`.
-    #[inline(always)]
-    pub fn try_extend_from_slice(&mut self, items: &[S::Item]) -> Result<(), TryReserveError>
-    where
-        H: Stepping,
-        S: CopySlice,
-        S::Item: Copy,
-        requires item { FitsInMemory S.Item.row }
-        ensures extended { OnOk result (WithNewPass {H = H} H.real self.old.place (λ first last.
-            Pushes S.DROPS H.whole
-            (room_for S.DROPS (type_size S.Item.row) self.old (length items.now)) items.now
-            self.old self.new first last)) }
-        ensures items { OnOk result (self.new.items ≡ self.old.items ++ items.now) }
-        ensures refused { IfErr result (λ e.
-            WithNewPass {H = H} H.real self.old.place (λ first last. MakesRoom S.DROPS H.whole
-            (room_for S.DROPS (type_size S.Item.row) self.old (length items.now))
-            self.old self.new first last (Err e))) }
-        ensures own { IfAsked (room_for S.DROPS (type_size S.Item.row) self.old
-            (length items.now)) (λ k. AsksForRoom B.list B.places B.grows B.refuses self.old k
-            (size_at self.new.place) result) }
-    {
-        let mut pass = self.pass();
-        let extended = self.try_extend_from_slice_as(items, &mut pass);
-        pass.show();
-        extended
-    }
-}
-
-impl<
-    S: Slice,
-    L: LayoutMut,
-    B: BufferMut<S::Item> + Drop,
-    M: Drop,
-    A: Allocator + Copy,
-    H: Mark,
-> ArcSliceMut<S, L, 0, B, M, A, H> {
-    ghost use Rattle.arc_write.specs.Lends.{lends_items};
-
-    /// The items, to be changed in their places: what is written there they are afterwards. It
-    /// adds nothing.
-    #[inline(always)]
-    pub fn as_mut_slice(&mut self) -> &mut [S::Item]
-    where
-        S: AnyItems,
-        ensures* writes_back { sem 𝓛 (lends_items S.row L.row 0 B.row M.row A.row H.row S.Item.row
-            S.TryFromSliceError.row S.Slice L.Layout B.BufferMut.own B.Buffer
-            A.Allocator H.Mark self.entry result) }
-        ensures value { result.now ≡ self.old.items }
-    {
-        self.parts.as_mut_slice()
-    }
-
-    /// An item more, behind the others, once there is room for it.
-    ///
-    /// # Errors
-    ///
-    /// Those of `try_reserve_as`, with the item.
-    ///
-    /// # Allocates
-    ///
-    /// As `try_reserve_as`.
-    ///
-    /// # History
-    ///
-    /// As `try_reserve_as`.
-    #[inline(always)]
-    pub fn try_push_as(
-        &mut self,
-        item: S::Item,
-        pass: &mut Pass<H>,
-    ) -> Result<(), (TryReserveError, S::Item)>
-    where
-        S: Extendable,
-        requires item { FitsInMemory S.Item.row }
-        requires pass { IsPassAt self.old.place pass.old }
-        ensures pushed { OnOk result (PushesShared (asks_alone self.old 1) H.whole
-            (room_for false (type_size S.Item.row) self.old 1) (item ∷ [])
-            self.old self.new pass.old pass.new) }
-        ensures items { OnOk result (self.new.items ≡ self.old.items ++ item ∷ []) }
-        ensures refused { IfErr result (λ r. (r.1 ≡ item) × MakesSharedRoom (asks_alone self.old 1)
-            H.whole (room_for false (type_size S.Item.row) self.old 1)
-            self.old self.new pass.old pass.new (Err r.0)) }
-        ensures within { StaysWithin 1 self.old self.new (is_ok result) }
-    {
-        as_several!(&mut self.parts, parts => parts.try_push_as(item, pass))
+        self.parts.try_push_as(item, pass)
     }
 
     /// An item more, behind the others: `try_push_as` with a new pass.
@@ -272,20 +98,20 @@ impl<
     #[inline(always)]
     pub fn try_push(&mut self, item: S::Item) -> Result<(), (TryReserveError, S::Item)>
     where
-        S: Extendable,
         H: Stepping,
-        requires item { FitsInMemory S.Item.row }
+        S: Extendable,
         ensures pushed { OnOk result (WithNewPass {H = H} H.real self.old.place (λ first last.
-            PushesShared (asks_alone self.old 1) H.whole
-            (room_for false (type_size S.Item.row) self.old 1) (item ∷ [])
+            PushesItems R.Parts.several S.DROPS H.whole (type_size S.Item.row) 1 (item ∷ [])
             self.old self.new first last)) }
         ensures items { OnOk result (self.new.items ≡ self.old.items ++ item ∷ []) }
         ensures refused { IfErr result (λ r. (r.1 ≡ item)
             × WithNewPass {H = H} H.real self.old.place (λ first last.
-            MakesSharedRoom (asks_alone self.old 1) H.whole
-            (room_for false (type_size S.Item.row) self.old 1)
+            AsksRoom R.Parts.several S.DROPS H.whole (type_size S.Item.row) 1
             self.old self.new first last (Err r.0))) }
-        ensures within { StaysWithin 1 self.old self.new (is_ok result) }
+        ensures own { IfAsked (room_for S.DROPS (type_size S.Item.row) self.old 1) (λ k.
+            AsksForRoom B.list B.places B.grows B.refuses self.old k (size_at self.new.place)
+            (without_item result)) }
+        ensures within { StaysWithin R.Parts.several 1 self.old self.new (is_ok result) }
     {
         let mut pass = self.pass();
         let pushed = self.try_push_as(item, &mut pass);
@@ -315,19 +141,22 @@ impl<
     where
         S: CopySlice,
         S::Item: Copy,
-        requires item { FitsInMemory S.Item.row }
+        R::Parts: CopyWriterParts<S, B, M, A, H>,
         requires pass { IsPassAt self.old.place pass.old }
-        ensures extended { OnOk result (PushesShared (asks_alone self.old (length items.now))
-            H.whole (room_for false (type_size S.Item.row) self.old (length items.now)) items.now
+        ensures extended { OnOk result (PushesItems R.Parts.several S.DROPS H.whole
+            (type_size S.Item.row) (length items.now) items.now
             self.old self.new pass.old pass.new) }
         ensures items { OnOk result (self.new.items ≡ self.old.items ++ items.now) }
-        ensures refused { IfErr result (λ e. MakesSharedRoom
-            (asks_alone self.old (length items.now)) H.whole
-            (room_for false (type_size S.Item.row) self.old (length items.now))
+        ensures refused { IfErr result (λ e. AsksRoom R.Parts.several S.DROPS H.whole
+            (type_size S.Item.row) (length items.now)
             self.old self.new pass.old pass.new (Err e)) }
-        ensures within { StaysWithin (length items.now) self.old self.new (is_ok result) }
+        ensures own { IfAsked (room_for S.DROPS (type_size S.Item.row) self.old
+            (length items.now)) (λ k. AsksForRoom B.list B.places B.grows B.refuses self.old k
+            (size_at self.new.place) result) }
+        ensures within { StaysWithin R.Parts.several (length items.now)
+            self.old self.new (is_ok result) }
     {
-        as_several!(&mut self.parts, parts => parts.try_extend_from_slice_as(items, pass))
+        self.parts.try_extend_from_slice_as(items, pass)
     }
 
     /// A copy of the items more, behind the others: `try_extend_from_slice_as` with a new pass.
@@ -346,25 +175,50 @@ impl<
     #[inline(always)]
     pub fn try_extend_from_slice(&mut self, items: &[S::Item]) -> Result<(), TryReserveError>
     where
-        S: CopySlice,
         H: Stepping,
+        S: CopySlice,
         S::Item: Copy,
-        requires item { FitsInMemory S.Item.row }
+        R::Parts: CopyWriterParts<S, B, M, A, H>,
         ensures extended { OnOk result (WithNewPass {H = H} H.real self.old.place (λ first last.
-            PushesShared (asks_alone self.old (length items.now)) H.whole
-            (room_for false (type_size S.Item.row) self.old (length items.now)) items.now
-            self.old self.new first last)) }
+            PushesItems R.Parts.several S.DROPS H.whole (type_size S.Item.row) (length items.now)
+            items.now self.old self.new first last)) }
         ensures items { OnOk result (self.new.items ≡ self.old.items ++ items.now) }
         ensures refused { IfErr result (λ e.
             WithNewPass {H = H} H.real self.old.place (λ first last.
-            MakesSharedRoom (asks_alone self.old (length items.now)) H.whole
-            (room_for false (type_size S.Item.row) self.old (length items.now))
+            AsksRoom R.Parts.several S.DROPS H.whole (type_size S.Item.row) (length items.now)
             self.old self.new first last (Err e))) }
-        ensures within { StaysWithin (length items.now) self.old self.new (is_ok result) }
+        ensures own { IfAsked (room_for S.DROPS (type_size S.Item.row) self.old
+            (length items.now)) (λ k. AsksForRoom B.list B.places B.grows B.refuses self.old k
+            (size_at self.new.place) result) }
+        ensures within { StaysWithin R.Parts.several (length items.now)
+            self.old self.new (is_ok result) }
     {
         let mut pass = self.pass();
         let extended = self.try_extend_from_slice_as(items, &mut pass);
         pass.show();
         extended
+    }
+
+    /// A copy of the items more, behind the others, where the window has places for all of them. It
+    /// adds nothing.
+    ///
+    /// # Errors
+    ///
+    /// `AllocError` where it hasn't; nothing is changed then.
+    pub(crate) fn try_extend_within(&mut self, items: &[S::Item]) -> Result<(), AllocError>
+    where
+        S: CopySlice,
+        S::Item: Copy,
+        R::Parts: CopyWriterParts<S, B, M, A, H>,
+        ensures done { OnOk result ((length items.now ≤ spare_places self.old)
+            × (self.new ≡ with_more items.now self.old)) }
+        ensures full { OnErr result ((spare_places self.old < length items.now)
+            × (self.new ≡ self.old)) }
+    {
+        if items.len() > self.spare() {
+            return Err(AllocError);
+        }
+        self.parts.extend_reserved(items);
+        Ok(())
     }
 }

@@ -1,13 +1,14 @@
 //! Room for one of several writers, who has to be alone for it.
-ghost use Rattle.std.specs.Prelude.{◌≡◌, ◌≤◌, ◌<◌, ◌+◌, ◌-◌, false, length, OnOk};
-ghost use Rattle.std.specs.Mem.{FitsInMemory, type_size};
+ghost use Rattle.std.specs.Prelude.{◌≡◌, ◌≤◌, ◌<◌, ◌+◌, ◌-◌, ◌∷◌, [], false, length, OnOk};
+ghost use Rattle.std.specs.Mem.{type_size};
 ghost use Rattle.arc_parts.specs.Shared.{MakesSharedRoom, MakesRoomBeside, ReclaimsShared};
-ghost use Rattle.arc_parts.specs.Shared.{asks_alone, as_shared, is_on_block};
+ghost use Rattle.arc_parts.specs.Shared.{asks_alone, as_shared, extended, is_on_block, IsSharedPlace};
 ghost use Rattle.arc_parts.specs.Steps.{IsPassAt};
-ghost use Rattle.arc_parts.specs.Window.{IsOfBuffer, PartsView};
+ghost use Rattle.arc_parts.specs.Window.{IsOfBuffer};
 ghost use Rattle.arc_parts.specs.Writers.{capacity_of, room_for};
 
 use super::{SharedParts, SharedStorage};
+use crate::role::WriterParts;
 use crate::sole::SoleParts;
 use arc_buffer::buffer::BufferMut;
 use arc_buffer::kinds::Slice;
@@ -24,58 +25,33 @@ impl<S: Slice, B: BufferMut<S::Item> + Drop, M: Drop, A: Allocator + Copy, H: Ma
     A,
     H,
 > {
-    /// Makes room for so many items more.
-    ///
-    /// # Errors
-    ///
-    /// Where the window hasn't the places already, in this order:
-    ///
-    /// - `NotUnique` on a block where another owner lives.
-    /// - `CapacityOverflow` where a block would have to grow to more than 2^63 - 1 places or bytes.
-    /// - `AllocError` where memory is refused for a larger block, or for a first one of any size.
-    ///
-    /// Everything is then as before.
-    ///
-    /// # Allocates
-    ///
-    /// Once for a first block, and once where the block grows, as a sole writer's.
-    ///
-    /// # History
-    ///
-    /// On a block, where the window hasn't the places already, Alone with the answer. Where a first
-    /// block is made, the pass, which was of none, becomes that block's.
-    #[inline(always)]
-    #[tactic(auto, using(crate::proofs::Rooms::spare_shared))]
-    pub fn try_reserve_as(
-        &mut self,
-        additional: usize,
-        pass: &mut Pass<H>,
-    ) -> Result<(), TryReserveError>
-        requires item { FitsInMemory S.Item.row }
-        requires pass { IsPassAt self.old.place pass.old }
-        ensures room { MakesSharedRoom (asks_alone self.old additional) H.whole
-            (room_for false (type_size S.Item.row) self.old additional)
-            self.old self.new pass.old pass.new result }
-        ensures items { self.new.items ≡ self.old.items }
-        ensures enough { OnOk result
-            (length self.new.items + additional ≤ capacity_of self.new.role) }
-    {
-        if additional <= self.spare() {
-            return Ok(());
-        }
-        self.try_make_room(additional, pass)
-    }
-
     /// How many places there are behind the items.
     #[inline(always)]
     #[tactic(auto, using(crate::proofs::Rooms::several_again))]
-    fn spare(&self) -> usize
+    pub(super) fn spare(&self) -> usize
         ensures spare { result ≡ capacity_of self.now.role - length self.now.items }
         ensures several { as_shared self.now ≡ self.now }
         ensures enough { length self.now.items ≤ capacity_of self.now.role }
+        ensures place { IsSharedPlace self.now.place }
     {
         self.known_place();
         self.capacity() - self.len()
+    }
+
+    /// An item more, behind the others, where there is a place for it.
+    #[inline(always)]
+    pub(super) fn push_reserved(&mut self, item: S::Item)
+        requires { length self.old.items + 1 ≤ capacity_of self.old.role }
+        ensures { self.new ≡ extended (item ∷ []) self.old }
+    {
+        self.known_kind();
+        match &mut self.on {
+            SharedStorage::Several(writer) => writer.push_reserved(item),
+            SharedStorage::Alone(parts) => {
+                parts.known_uncounted();
+                parts.push_reserved(item);
+            }
+        }
     }
 
     /// Whether they stand on a block.
@@ -92,12 +68,11 @@ impl<S: Slice, B: BufferMut<S::Item> + Drop, M: Drop, A: Allocator + Copy, H: Ma
     /// `try_reserve_as` where there are too few places, apart so that the test is inlined alone.
     #[cold]
     #[inline(never)]
-    fn try_make_room(
+    pub(super) fn try_make_room(
         &mut self,
         additional: usize,
         pass: &mut Pass<H>,
     ) -> Result<(), TryReserveError>
-        requires item { FitsInMemory S.Item.row }
         requires short { capacity_of self.old.role - length self.old.items < additional }
         requires pass { IsPassAt self.old.place pass.old }
         ensures room { MakesSharedRoom (asks_alone self.old additional) H.whole
@@ -121,7 +96,6 @@ impl<S: Slice, B: BufferMut<S::Item> + Drop, M: Drop, A: Allocator + Copy, H: Ma
         additional: usize,
         pass: &mut Pass<H>,
     ) -> (Self, Result<(), TryReserveError>)
-        requires item { FitsInMemory S.Item.row }
         requires short { capacity_of self.role - length self.items < additional }
         requires pass { IsPassAt self.place pass.old }
         ensures room { MakesSharedRoom (asks_alone self additional) H.whole
@@ -157,7 +131,6 @@ impl<S: Slice, B: BufferMut<S::Item> + Drop, M: Drop, A: Allocator + Copy, H: Ma
         pass: &mut Pass<H>,
     ) -> (Self, Result<(), TryReserveError>)
         requires kind { S.DROPS ≡ false }
-        requires item { FitsInMemory S.Item.row }
         requires place { ¬ IsOfBuffer sole.place }
         requires pass { IsPassAt sole.place pass.old }
         ensures room { MakesRoomBeside H.whole
@@ -172,34 +145,9 @@ impl<S: Slice, B: BufferMut<S::Item> + Drop, M: Drop, A: Allocator + Copy, H: Ma
         (sole.into_shared_memory(), made)
     }
 
-    /// Whether there is room for so many items more without memory; then it is made.
-    ///
-    /// # History
-    ///
-    /// On a block, where the window hasn't the places already, Alone with the answer.
-    #[tactic(auto, using(crate::proofs::Rooms::spare_reclaimed))]
-    pub fn try_reclaim_as(&mut self, additional: usize, pass: &mut Pass<H>) -> bool
-        requires item { FitsInMemory S.Item.row }
-        requires pass { IsPassAt self.old.place pass.old }
-        ensures room { ReclaimsShared (asks_alone self.old additional)
-            (room_for false (type_size S.Item.row) self.old additional)
-            self.old self.new pass.old pass.new result }
-        ensures items { self.new.items ≡ self.old.items }
-    {
-        if additional <= self.spare() {
-            return true;
-        }
-        self.known_kind();
-        let nothing = Self::on_nothing(self.alloc);
-        let (parts, found) = mem::replace(self, nothing).with_places_as(additional, pass);
-        self.take_in(parts);
-        found
-    }
-
     /// The same by value, where there are too few places.
     #[tactic(auto, using(crate::proofs::Rooms::asked_reclaimed, crate::proofs::Rooms::refused_reclaimed, crate::proofs::Rooms::idle_reclaimed, crate::proofs::Rooms::no_buffer_shared, crate::proofs::Rooms::no_buffer_reclaimed))]
-    fn with_places_as(self, additional: usize, pass: &mut Pass<H>) -> (Self, bool)
-        requires item { FitsInMemory S.Item.row }
+    pub(super) fn with_places_as(self, additional: usize, pass: &mut Pass<H>) -> (Self, bool)
         requires short { capacity_of self.role - length self.items < additional }
         requires several { as_shared self ≡ self }
         requires pass { IsPassAt self.place pass.old }

@@ -8,6 +8,7 @@ ghost use Rattle.arc_parts.specs.Steps.{IsPassAt};
 ghost use Rattle.arc_parts.specs.Writers.{capacity_of};
 
 use super::{SharedParts, SharedStorage};
+use crate::role::WriterParts;
 use crate::sole::SoleParts;
 use arc_buffer::buffer::BufferMut;
 use arc_buffer::kinds::Slice;

@@ -1,5 +1,5 @@
 //! What a sole writer has to tell who writes in the role of one of several.
-ghost use Rattle.std.specs.Prelude.{◌≡◌, ℕ, ◌↔◌, true, false, IsTrue};
+ghost use Rattle.std.specs.Prelude.{◌≡◌, ℕ, ◌↔◌, false, IsTrue};
 ghost use Rattle.arc_sort_writers.specs.NativeWriters.{IsAlonePlace};
 ghost use Rattle.arc_block.specs.Place.{IsOnBlock, at_owner};
 ghost use Rattle.arc_parts.specs.Shared.{AsksAlone};

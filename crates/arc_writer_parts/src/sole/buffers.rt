@@ -1,17 +1,16 @@
 //! A sole writer's parts over a caller's buffer: made of one, and taken back as one.
-ghost use Rattle.std.specs.Prelude.{◌≡◌, true, length, Some, None};
-ghost use Rattle.std.specs.Prelude.{IfOk, IfErr, IfSome, IfNone};
+ghost use Rattle.std.specs.Prelude.{◌≡◌, true, length};
+ghost use Rattle.std.specs.Prelude.{IfOk, IfErr};
 ghost use Rattle.arc_owners.specs.count.Calls.{IsPassOfNone, Leaves};
 ghost use Rattle.arc_block.specs.Block.{buffer_info};
-ghost use Rattle.arc_block.specs.Metadata.{IsMetadataAt, IsOnCallers};
-ghost use Rattle.arc_block.specs.Place.{at_owner, metadata_at};
+ghost use Rattle.arc_block.specs.Place.{at_owner};
 ghost use Rattle.arc_parts.specs.Steps.{IsPassAt};
 ghost use Rattle.arc_parts.specs.Window.{IsBufferWhole};
 ghost use Rattle.arc_parts.specs.Writers.{MakesBufferWriter};
 ghost use Rattle.arc_block.specs.Place.{size_at};
 
 use super::{SoleParts, SoleStorage};
-use arc_buffer::buffer::{BorrowMetadata, BufferMut};
+use arc_buffer::buffer::BufferMut;
 use arc_buffer::kinds::Slice;
 use arc_owners::mark::Mark;
 use arc_owners::owners::Pass;
@@ -83,33 +82,6 @@ impl<S: Slice, B: BufferMut<S::Item> + Drop, M: Drop, A: Allocator + Copy, H: Ma
                 Ok(buffer) => Ok(buffer),
                 Err(back) => Err(Self::in_buffer(back)),
             },
-        }
-    }
-
-    /// The metadata of the block, where it was made with some.
-    pub fn metadata(&self) -> Option<&M>
-        ensures some { IfSome result (λ m. metadata_at self.now.place ≡ Some m.now) }
-        ensures none { IfNone result (metadata_at self.now.place ≡ None) }
-    {
-        match &self.on {
-            SoleStorage::Native(parts) => parts.metadata(),
-            SoleStorage::Vector(parts) => parts.metadata(),
-            SoleStorage::Buffer(parts) => parts.metadata(),
-        }
-    }
-
-    /// The metadata of the caller's buffer on which the parts stand.
-    pub fn borrowed_metadata(&self) -> Option<&B::Metadata>
-    where
-        B: BorrowMetadata,
-        ensures some { IfSome result (λ m.
-            IsMetadataAt B.list B.metadata self.now.place self.now.items m.now) }
-        ensures none { IfNone result (¬ IsOnCallers self.now.place) }
-    {
-        match &self.on {
-            SoleStorage::Native(parts) => parts.borrowed_metadata::<B>(),
-            SoleStorage::Vector(parts) => parts.borrowed_metadata(),
-            SoleStorage::Buffer(parts) => Some(parts.borrowed_metadata()),
         }
     }
 }

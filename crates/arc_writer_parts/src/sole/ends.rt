@@ -1,26 +1,25 @@
 //! How a sole writer's parts end, and what they become.
-ghost use Rattle.std.specs.Prelude.{◌≡◌, ◌≤◌, ◌↔◌, true, false, length, IfOk, IfErr, IsTrue, is_ok};
-ghost use Rattle.arc_owners.specs.count.Calls.{Asks, Leaves, Learns, IsNewPass, IsPassOfNone};
+ghost use Rattle.std.specs.Prelude.{◌≡◌, ◌↔◌, true, IfOk, IfErr, IsTrue, is_ok};
+ghost use Rattle.arc_owners.specs.count.Calls.{Asks, Leaves};
 ghost use Rattle.arc_block.specs.LayoutFacts.{layout_facts};
 ghost use Rattle.arc_owners.specs.count.Calls.{SeesAlone, IsPassFor};
 ghost use Rattle.arc_parts.specs.declared.storage.Storage.TheVariants.{Block as In};
 ghost use Rattle.arc_parts.specs.declared.storage.Storage.TheVariants.{Native as On};
 ghost use Rattle.arc_block.specs.Block.{IsWritable};
-ghost use Rattle.arc_block.specs.Place.{at_owner, IsOnBlock};
+ghost use Rattle.arc_block.specs.Place.{at_owner};
 ghost use Rattle.arc_block.specs.Table.{reader};
-ghost use Rattle.arc_parts.specs.Steps.{IsPassAt, EndsAt, Makes, Begins};
-ghost use Rattle.arc_parts.specs.Writers.{as_reader, as_sole, Freezes, IsWholeWriter};
+ghost use Rattle.arc_parts.specs.Steps.{IsPassAt};
+ghost use Rattle.arc_parts.specs.Writers.{as_sole, IsWholeWriter};
 ghost use Rattle.arc_parts.specs.Writers.{BecomesSole, RefusesSole};
-ghost use Rattle.arc_parts.specs.Window.{IsHeld, IsBlockHeld, window_of};
+ghost use Rattle.arc_parts.specs.Window.{IsBlockHeld};
 ghost use Rattle.arc_parts.specs.Window.{IsWithin, parts_of, window_seen};
-ghost use Rattle.arc_block.specs.Moves.{IsRefused, layout_move};
 
 use super::{SoleParts, SoleStorage};
 use arc_block::block::{Block, MAX_OWNERS, NativeBlock};
 use arc_block::layout::Layout;
 use arc_buffer::buffer::BufferMut;
 use arc_buffer::kinds::Slice;
-use arc_owners::mark::{Mark, Stepping};
+use arc_owners::mark::Mark;
 use arc_owners::owners::Pass;
 use arc_parts::parts::Parts;
 use arc_parts::storage::Storage;
@@ -148,81 +147,6 @@ impl<S: Slice, B: BufferMut<S::Item> + Drop, M: Drop, A: Allocator + Copy, H: Ma
         }
     }
 
-    /// The same items and places, which others may read from now on. It adds nothing and takes no
-    /// memory.
-    pub fn freeze(self) -> Parts<S, B, M, A, H>
-        ensures { result ≡ as_reader self }
-    {
-        let SoleParts { on } = self;
-        match on {
-            SoleStorage::Native(parts) => parts.freeze(),
-            SoleStorage::Vector(parts) => parts.freeze(),
-            SoleStorage::Buffer(parts) => parts.freeze(),
-        }
-    }
-
-    /// The same items and places, which others may read from now on, as a window under the layout
-    /// `L` is. On nothing they are what no items are made of: a native block of no places, of which
-    /// the pass becomes one, where the layout has no static data.
-    ///
-    /// # Errors
-    ///
-    /// The parts, where the layout doesn't hold the block, or where memory for one of no places is
-    /// refused; the pass is then as before.
-    ///
-    /// # Allocates
-    ///
-    /// On nothing, where the layout has no static data.
-    pub fn try_freeze_as<L: Layout>(self, pass: &mut Pass<H>) -> Result<Parts<S, B, M, A, H>, Self>
-        requires pass { IsPassAt self.place pass.old }
-        ensures frozen { IfOk result (λ parts.
-            Freezes (layout_facts L.Layout) S.DROPS H.whole self parts pass.old pass.new) }
-        ensures stays { IfOk result (λ parts. IsOnBlock self.place
-            → (parts ≡ as_reader self) × (pass.new ≡ pass.old)) }
-        ensures made { IfOk result (λ parts. (¬ IsOnBlock self.place)
-            → Makes L.STATIC S.DROPS H.whole self.items (window_of parts)
-            × Begins (window_of parts) pass.old pass.new) }
-        ensures items { IfOk result (λ parts. parts.items ≡ self.items) }
-        ensures role { IfOk result (λ parts. parts.role ≡ reader) }
-        ensures held { IfOk result (λ parts. IsHeld (layout_facts L.Layout) parts.place) }
-        ensures refused { IfErr result (λ back. (back ≡ self)
-            × IsRefused (layout_move (layout_facts L.Layout) self.place) × (pass.new ≡ pass.old)) }
-    {
-        let SoleParts { on } = self;
-        match on {
-            SoleStorage::Native(parts) => match parts.try_freeze_as::<L, B>(pass) {
-                Ok(parts) => Ok(parts),
-                Err(back) => Err(Self::in_native(back)),
-            },
-            SoleStorage::Vector(parts) => match parts.try_freeze_as::<L>(pass) {
-                Ok(parts) => Ok(parts),
-                Err(back) => Err(Self::in_vector(back)),
-            },
-            SoleStorage::Buffer(parts) => match parts.try_freeze_as::<L>(pass) {
-                Ok(parts) => Ok(parts),
-                Err(back) => Err(Self::in_buffer(back)),
-            },
-        }
-    }
-
-    /// The same parts, as those of a window under the layout `L`, where that holds their block. It
-    /// adds nothing and takes no memory.
-    ///
-    /// # Errors
-    ///
-    /// The parts, exactly where they stand on a block that the layout doesn't hold.
-    pub fn try_with_layout<L: Layout>(self) -> Result<Self, Self>
-        ensures moved { IfOk result (λ parts. (parts ≡ self)
-            × IsBlockHeld (layout_facts L.Layout) self.place) }
-        ensures refused { IfErr result (λ back. (back ≡ self)
-            × (¬ IsBlockHeld (layout_facts L.Layout) self.place)) }
-    {
-        if self.is_held::<L>() {
-            return Ok(self);
-        }
-        Err(self)
-    }
-
     /// Whether a layout holds the block, where there is one.
     pub(crate) fn is_held<L: Layout>(&self) -> bool
         ensures { IsTrue result ↔ IsBlockHeld (layout_facts L.Layout) self.now.place }
@@ -276,43 +200,6 @@ impl<S: Slice, B: BufferMut<S::Item> + Drop, M: Drop, A: Allocator + Copy, H: Ma
         }
     }
 
-    /// Ends the parts, and gives the block back.
-    ///
-    /// # History
-    ///
-    /// On a block Down, without a step.
-    pub fn release_as(self, pass: &mut Pass<H>)
-        requires pass { IsPassAt self.place pass.old }
-        ensures entry { at_owner self.place (pass.new ≡ pass.old) (λ o.
-            Leaves o pass.old pass.new true) }
-    {
-        let SoleParts { on } = self;
-        match on {
-            SoleStorage::Native(parts) => parts.release_as(pass),
-            SoleStorage::Vector(parts) => parts.release_as(pass),
-            SoleStorage::Buffer(parts) => parts.release_as(pass),
-        }
-    }
-
-    /// What a drop does: under `Open` the owner ends with a new pass, and the block is given back
-    /// with its items; under `Whole` it is forgotten, without a step, and its items stay. The pass
-    /// is the one that the owner ended with; on no block, and under `Whole`, it is of none.
-    ///
-    /// # History
-    ///
-    /// On a block Down under `Open`, without a step, and nothing under `Whole`.
-    pub fn let_go(self) -> Pass<H>
-        ensures forgotten { H.whole ≡ true → IsPassOfNone result }
-        ensures ended { H.whole ≡ false → EndsAt self.place result }
-    {
-        let SoleParts { on } = self;
-        match on {
-            SoleStorage::Native(parts) => parts.let_go(),
-            SoleStorage::Vector(parts) => parts.let_go(),
-            SoleStorage::Buffer(parts) => parts.let_go(),
-        }
-    }
-
     /// Shows a pass the block's whole history so far, in which no other owner lives. It adds
     /// nothing.
     pub fn only(&self, pass: &mut Pass<H>)
@@ -324,40 +211,6 @@ impl<S: Slice, B: BufferMut<S::Item> + Drop, M: Drop, A: Allocator + Copy, H: Ma
             SoleStorage::Native(parts) => parts.only(pass),
             SoleStorage::Vector(parts) => parts.only(pass),
             SoleStorage::Buffer(parts) => parts.only(pass),
-        }
-    }
-
-    /// Afterwards the first pass has seen at least what the other had. It adds nothing.
-    pub fn learn(&self, pass: &mut Pass<H>, other: &Pass<H>)
-        requires pass { IsPassAt self.now.place pass.old }
-        requires other { IsPassAt self.now.place other.now }
-        ensures { at_owner self.now.place (pass.new ≡ pass.old) (λ o.
-            Learns o.block pass.old other.now pass.new) }
-    {
-        match &self.on {
-            SoleStorage::Native(parts) => parts.learn(pass, other),
-            SoleStorage::Vector(parts) => parts.learn(pass, other),
-            SoleStorage::Buffer(parts) => parts.learn(pass, other),
-        }
-    }
-}
-
-impl<S: Slice, B: BufferMut<S::Item> + Drop, M: Drop, A: Allocator + Copy, H: Stepping> SoleParts<
-    S,
-    B,
-    M,
-    A,
-    H,
-> {
-    /// A new pass of the block, which has seen at least how this owner became one, and made
-    /// nothing; on no block a pass of none. It adds nothing.
-    pub fn pass(&self) -> Pass<H>
-        ensures { at_owner self.now.place (IsPassOfNone result) (λ o. IsNewPass o result) }
-    {
-        match &self.on {
-            SoleStorage::Native(parts) => parts.pass(),
-            SoleStorage::Vector(parts) => parts.pass(),
-            SoleStorage::Buffer(parts) => parts.pass(),
         }
     }
 }

@@ -1,16 +1,12 @@
 //! A sole writer's parts over a vector: made of one, and taken back as one.
 ghost use Rattle.arc_owners.specs.history.Histories.{Counted};
-ghost use Rattle.std.specs.Prelude.{◌≡◌, ◌≤◌, true, IfOk, IfErr};
+ghost use Rattle.std.specs.Prelude.{◌≡◌, ◌≤◌, IfOk, IfErr};
 ghost use Rattle.std.specs.Vec.{vec_capacity};
-ghost use Rattle.arc_owners.specs.count.Calls.{IsPassOfNone, Leaves};
+ghost use Rattle.arc_owners.specs.count.Calls.{IsPassOfNone};
 ghost use Rattle.arc_block.specs.Block.{vector};
-ghost use Rattle.arc_block.specs.Place.{at_owner};
-ghost use Rattle.arc_parts.specs.Steps.{IsPassAt};
-ghost use Rattle.arc_parts.specs.Window.{IsVecPart, IsBoxWhole};
 ghost use Rattle.arc_parts.specs.Writers.{MakesWriterOver};
-ghost use Rattle.arc_block.specs.Place.{size_at};
 
-use super::{SoleParts, SoleStorage};
+use super::SoleParts;
 use arc_buffer::buffer::BufferMut;
 use arc_buffer::kinds::Slice;
 use arc_owners::mark::Mark;
@@ -54,68 +50,6 @@ impl<S: Slice, B: BufferMut<S::Item> + Drop, M: Drop, A: Allocator + Copy, H: Ma
         match SoleVector::try_from_vec_as(alloc, items, pass) {
             Ok(parts) => Ok(Self::in_vector(parts)),
             Err(back) => Err(back),
-        }
-    }
-
-    /// The items as the block's vector, moved to its front, where the block is a vector. Items that
-    /// are dropped one by one have to be all of it.
-    ///
-    /// # Errors
-    ///
-    /// The parts, on another block or none, and where items that are dropped one by one are a part
-    /// alone; the pass is then as before.
-    ///
-    /// # History
-    ///
-    /// Taken, Down without a step.
-    pub fn try_into_vec_as(self, pass: &mut Pass<H>) -> Result<Vec<S::Item, A>, Self>
-        requires pass { IsPassAt self.place pass.old }
-        ensures taken { IfOk result (λ v. IsVecPart S.DROPS self.items self.place
-            × (v.items ≡ self.items) × (vec_capacity v ≡ size_at self.place)) }
-        ensures entry { IfOk result (λ _. at_owner self.place ⊥ (λ o.
-            Leaves o pass.old pass.new true)) }
-        ensures refused { IfErr result (λ back. (back ≡ self)
-            × (¬ IsVecPart S.DROPS self.items self.place) × (pass.new ≡ pass.old)) }
-    {
-        let SoleParts { on } = self;
-        match on {
-            SoleStorage::Native(parts) => Err(Self::in_native(parts.not_vector())),
-            SoleStorage::Vector(parts) => match parts.try_into_vec_as(pass) {
-                Ok(items) => Ok(items),
-                Err(back) => Err(Self::in_vector(back)),
-            },
-            SoleStorage::Buffer(parts) => Err(Self::in_buffer(parts.not_memory())),
-        }
-    }
-
-    /// The items as the block's vector, where they are all of it and it has no places more: so it
-    /// is a box.
-    ///
-    /// # Errors
-    ///
-    /// The parts, on another block or none, and where the items are a part of the vector's places
-    /// alone; the pass is then as before.
-    ///
-    /// # History
-    ///
-    /// Taken, Down without a step.
-    pub fn try_into_box_vec_as(self, pass: &mut Pass<H>) -> Result<Vec<S::Item, A>, Self>
-        requires pass { IsPassAt self.place pass.old }
-        ensures taken { IfOk result (λ v. IsBoxWhole self.items self.place
-            × (v.items ≡ self.items) × (vec_capacity v ≡ size_at self.place)) }
-        ensures entry { IfOk result (λ _. at_owner self.place ⊥ (λ o.
-            Leaves o pass.old pass.new true)) }
-        ensures refused { IfErr result (λ back. (back ≡ self)
-            × (¬ IsBoxWhole self.items self.place) × (pass.new ≡ pass.old)) }
-    {
-        let SoleParts { on } = self;
-        match on {
-            SoleStorage::Native(parts) => Err(Self::in_native(parts.not_vector())),
-            SoleStorage::Vector(parts) => match parts.try_into_box_vec_as(pass) {
-                Ok(items) => Ok(items),
-                Err(back) => Err(Self::in_vector(back)),
-            },
-            SoleStorage::Buffer(parts) => Err(Self::in_buffer(parts.not_memory())),
         }
     }
 }

@@ -2,6 +2,7 @@
 
 use arc_buffer::kinds::Plain;
 use arc_owners::owners::Pass;
+use arc_writer_parts::role::WriterParts;
 use arc_writer_parts::shared::SharedParts;
 use arc_writer_parts::sole::SoleParts;
 use counting_heap::CountingHeap;

@@ -2,6 +2,7 @@
 use arc_buffer::kinds::Plain;
 use arc_owners::error::TryReserveError;
 use arc_owners::owners::Pass;
+use arc_writer_parts::role::WriterParts;
 use arc_writer_parts::sole::SoleParts;
 use std::alloc::Global;
 use std::test::Fail;

@@ -27,7 +27,7 @@ returns-in-Some-clause-may g c =
     may-share w b c.args.self
     (sym (held-as h (Write w) c.in-Write.is g.S.Small.SmallOf.seen b) ∙ c.self.view_is)
     (fits-as h (Write w) c.in-Write.is g.S.Small.SmallOf.seen b c.self.invariant.0)
-    g.S.Slice.DROPS c.known_kind.ensures c.known_place.ensures c.in-Some.ensures.shared.1
+    g.S.Slice.DROPS c.known_kind.ensures c.known_place.ensures.place c.in-Some.ensures.shared.1
 
 pub returns-clause-may_not : goal.returns-clause-may_not
 returns-clause-may_not g c =

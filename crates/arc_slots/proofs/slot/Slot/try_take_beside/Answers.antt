@@ -6,12 +6,12 @@ use Rattle.arc_slots.proofs.Slots.{fits-as}
 use Rattle.arc_slots.proofs.Takes.{TakenApart, apart-writer}
 use Rattle.arc_slots.proofs.Takes.{slot-refuses, slot-takes}
 use Rattle.arc_slots.proofs.slot.Slot.try_take_beside.Given.{Over}
-use Rattle.arc_slots.proofs.slot.Slot.try_take_beside.Goals.{After-into_shared_parts}
+use Rattle.arc_slots.proofs.slot.Slot.try_take_beside.Goals.{After-into_parts}
 use Rattle.arc_slots.proofs.slot.Slot.try_take_beside.Goals as goal
 
-apart : (g : Over) (c : After-into_shared_parts g)
+apart : (g : Over) (c : After-into_parts g)
     → TakenApart c.self.inside.block c.args.self c.in-Several.window.role
-    c.into_shared_parts.result c.args.passes.now.of_blocks.items
+    c.into_parts.result c.args.passes.now.of_blocks.items
     c.lend-pass.new.self.of_blocks.items c.lend-pass.result
 apart g c =
     let small = g.S.Small.SmallOf.seen in
@@ -21,16 +21,16 @@ apart g c =
     apart-writer w
     (beside-seen small h w b c.in-Several.is c.args.self c.self.view_is g.S.TableKind.SHARES
     c.self.invariant) (fits-as h (Several w) c.in-Several.is small b c.self.invariant.0)
-    c.into_shared_parts.ensures.parts c.requires.pass c.lend-pass.ensures.taken
+    c.into_parts.ensures.parts c.requires.pass c.lend-pass.ensures.taken
 
 pub returns-in-Ok-clause-taken : goal.returns-in-Ok-clause-taken
 returns-in-Ok-clause-taken g c =
-    slot-takes (apart g (goal.at.returns-in-Ok-clause-taken g c).After-into_shared_parts)
+    slot-takes (apart g (goal.at.returns-in-Ok-clause-taken g c).After-into_parts)
     g.S.Slice.DROPS Vector c.try_into_vec_as-taken.new.pass c.give_back.new.self.of_blocks.items
     c.give_back.ensures c.in-Ok.ensures.taken.0 c.in-Ok.ensures.entries
 
 pub returns-in-Err-clause-refused : goal.returns-in-Err-clause-refused
 returns-in-Err-clause-refused g c =
-    slot-refuses (apart g (goal.at.returns-in-Err-clause-refused g c).After-into_shared_parts)
+    slot-refuses (apart g (goal.at.returns-in-Err-clause-refused g c).After-into_parts)
     g.S.Slice.DROPS Vector c.try_into_vec_as-taken.new.pass c.give_back.new.self.of_blocks.items
     c.give_back.ensures c.in-Err.ensures.refused.1

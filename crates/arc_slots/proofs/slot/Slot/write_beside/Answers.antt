@@ -35,7 +35,7 @@ filled g c =
     slot-fills-beside g.S.Small.SmallOf.seen _ _ c.self.inside.block c.in-Several.is _
     c.self.view_is _ c.self.invariant _ c.known_undropped.ensures _ _ _
     c.lend-pass.new.self.of_blocks.items c.lend-pass.result c.write_beside_as.new.pass
-    c.lend-pass.ensures.taken c.requires.pass c.known_shared_place.ensures.place _
+    c.lend-pass.ensures.taken c.requires.pass c.known_place.ensures.place _
     c.write_beside_as.new.window _ _ c.in-Ok.ensures.written
     (λ old. c.keep-self-inside.ensures.same (wants ∙ old))
     (λ fresh. c.keep-self-inside.ensures.new (wants ∙ fresh))
@@ -49,7 +49,7 @@ unfilled g c =
     slot-unfills-beside g.S.Small.SmallOf.seen _ _ c.self.inside.block c.in-Several.is _
     c.self.view_is _ c.self.invariant _ c.known_undropped.ensures _ _ _
     c.lend-pass.new.self.of_blocks.items c.lend-pass.result c.write_beside_as.new.pass
-    c.lend-pass.ensures.taken c.requires.pass c.known_shared_place.ensures.place _ c.in-Err.e
+    c.lend-pass.ensures.taken c.requires.pass c.known_place.ensures.place _ c.in-Err.e
     c.write_beside_as.new.window _ c.in-Err.ensures.refused c.give_back.ensures
 
 pub invariant_of-self : goal.invariant_of-self

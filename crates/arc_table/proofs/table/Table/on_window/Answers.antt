@@ -20,9 +20,11 @@ use Rattle.arc_commands.specs.Commands.{ListCmd, ListReply}
 use Rattle.arc_commands.specs.Seen.{map_command, seen_reply}
 use Rattle.arc_commands.specs.declared.command.Reply.TheVariants as reply
 use Rattle.arc_slots.specs.Answers.{Answers}
-use Rattle.arc_slots.specs.Slots.{with_slot}
+use Rattle.arc_slots.specs.Slots.{stand_of, with_slot}
+use Rattle.arc_slots.specs.Stands.{HasPassFor}
 use Rattle.arc_slots.proofs.Index.{many-windows, same-indexed, same-parts, set-indexed, set-window}
 use Rattle.arc_slots.proofs.Index.{window-there}
+use Rattle.arc_slots.proofs.Taken.{has_life}
 use Rattle.arc_table.proofs.Stepped.{at-next, at-place, carried, known, unanswered}
 use Rattle.arc_table.proofs.table.Table.on_window.Given.{Over}
 use Rattle.arc_table.proofs.table.Table.on_window.Goals.{After-index_mut-slot, After-push_made}
@@ -182,12 +184,23 @@ told g c =
       so.2,
     ))
 
-pub answer-requires-clause-pass : goal.answer-requires-clause-pass
-answer-requires-clause-pass g c =
+-- the table has the pass of the block on which the window stands, in which its owner lives
+has-pass : (g : Over) (c : After-index_mut-slot g)
+    → HasPassFor c.self.inside.passes.of_blocks.items (stand_of c.index_mut-slot.result.now)
+has-pass g c =
     let s = c.self.inside.slots in
     known (setting g) (windows_of s.index.items s.numbers.items s.places.items)
     c.self.inside.passes.of_blocks.items c.self.invariant.0 c.args.i c.index_mut-slot.result.now
-    (stood g (goal.at.answer-requires-clause-pass g c).After-index_mut-slot)
+    (stood g c)
+
+pub answer-requires-clause-pass : goal.answer-requires-clause-pass
+answer-requires-clause-pass g c =
+    has-pass g (goal.at.answer-requires-clause-pass g c).After-index_mut-slot
+
+pub answer-requires-clause-lives : goal.answer-requires-clause-lives
+answer-requires-clause-lives g c =
+    has_life c.self.inside.passes.of_blocks.items (stand_of c.index_mut-slot.result.now)
+    (has-pass g (goal.at.answer-requires-clause-lives g c).After-index_mut-slot)
 
 pub push_made-requires-clause-indexed : goal.push_made-requires-clause-indexed
 push_made-requires-clause-indexed g c =

@@ -1,5 +1,5 @@
 -- The window that is extended stands on nothing.
-use Rattle.std.proofs.Common.{◌≡◌, ◌++◌, subst}
+use Rattle.std.proofs.Common.{◌≡◌, ◌++◌, false, subst}
 use Rattle.std.specs.Mem.{type_size}
 use Rattle.arc_parts.specs.Window.{PartsView}
 use Rattle.arc_write.specs.Extend.{PushesEach}
@@ -13,9 +13,8 @@ returns-in-Ok-clause-made g c =
       did.2,
       did.3,
       subst (λ (w : PartsView g.row.S-Item.Denot g.row.M.Denot). PushesEach g.row.H.Denot
-          g.H.Mark.real g.S.Slice.DROPS g.H.Mark.whole (type_size g.row.S-Item) g.B.Buffer.list
-          g.B.Buffer.places g.B.BufferMut.grows
-          g.B.BufferMut.refuses did.1 w
+          g.H.Mark.real false g.S.Slice.DROPS g.H.Mark.whole (type_size g.row.S-Item)
+          g.B.Buffer.list g.B.Buffer.places g.B.BufferMut.grows g.B.BufferMut.refuses did.1 w
           c.try_extend.new.self) c.new-window.ensures did.4,
     )
 

@@ -1,0 +1,48 @@
+//! Writers of items of any type: room is made and items are pushed by code that knows no more of
+//! the type than that its values can be dropped, or copied.
+ghost use Rattle.std.specs.Prelude.{◌≡◌, ◌≤◌, ◌+◌, ◌++◌, ◌∷◌, [], length, IfErr, OnErr, OnOk};
+ghost use Rattle.arc_parts.specs.Writers.{capacity_of};
+
+use arc_slice::ArcSliceMut;
+use arc_slice::buffer::{Owned, Plain, Slice};
+use arc_slice::error::TryReserveError;
+use arc_slice::layout::DefaultLayoutMut;
+
+/// Room for so many items more, of any kind: whether it was found without memory, and then whether
+/// it is there.
+pub fn room_made<S: Slice>(
+    window: &mut ArcSliceMut<S, DefaultLayoutMut, 1>,
+    more: usize,
+) -> (bool, Result<(), TryReserveError>)
+    ensures { OnOk result.1 (length window.new.items + more ≤ capacity_of window.new.role) }
+{
+    (window.try_reclaim(more), window.try_reserve(more))
+}
+
+/// An item more behind the others, once there is room for two. Where there is none it comes back.
+pub fn pushed<T: Drop>(
+    window: &mut ArcSliceMut<Owned<T>, DefaultLayoutMut, 1>,
+    item: T,
+) -> Result<(), (TryReserveError, T)>
+    ensures made { OnOk result (window.new.items ≡ window.old.items ++ item ∷ []) }
+    ensures refused { IfErr result (λ r. (r.1 ≡ item) × (window.new.items ≡ window.old.items)) }
+{
+    match window.try_reserve(2) {
+        Ok(()) => window.try_push(item),
+        Err(e) => Err((e, item)),
+    }
+}
+
+/// The same by one of several writers, of what is copied.
+pub fn pushed_beside<T: Copy + Drop>(
+    window: &mut ArcSliceMut<Plain<T>, DefaultLayoutMut, 0>,
+    item: T,
+) -> Result<(), (TryReserveError, T)>
+    ensures made { OnOk result (window.new.items ≡ window.old.items ++ item ∷ []) }
+    ensures refused { OnErr result (window.new.items ≡ window.old.items) }
+{
+    match window.try_reserve(2) {
+        Ok(()) => window.try_push(item),
+        Err(e) => Err((e, item)),
+    }
+}

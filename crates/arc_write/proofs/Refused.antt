@@ -1,0 +1,53 @@
+-- Room that a writer of either role is refused leaves all as it was.
+use Rattle.std.proofs.Common.{◌≡◌, ℕ, Bool, true, false, refl, sym, ap, ◌∙◌}
+use Rattle.std.specs.Prelude.{Result, Ok, Err, is_ok}
+use Rattle.std.proofs.lemmas.Bool.{false≢true}
+use Rattle.arc_owners.specs.declared.count.tokens.Pass.{Pass}
+use Rattle.arc_owners.specs.declared.error.TryReserveError.{TryReserveError}
+use Rattle.arc_parts.specs.declared.room.Room.{Room}
+use Rattle.arc_parts.specs.declared.room.Room.TheVariants.{Spare, Behind, Front, Fresh}
+use Rattle.arc_parts.specs.declared.room.Room.TheVariants.{Growth, Own, Refused}
+use Rattle.arc_parts.specs.Shared.{MakesRoomAlone, MakesRoomIf, MakesSharedRoom}
+use Rattle.arc_parts.specs.Shared.{as_shared, as_unique, asks_alone}
+use Rattle.arc_block.specs.Table.{one_writer_of_several}
+use Rattle.arc_parts.specs.Window.{PartsView}
+use Rattle.arc_parts.specs.Writers.{room_for, MakesRoom}
+use Rattle.arc_writer_parts.specs.Roles.{AsksRoom, HasWritersRole}
+
+module _ {T M H : Type 0} (one_pass : Bool) (e : TryReserveError) where
+  sole-stays : (drops : Bool) (room : Room) (old new : PartsView T M) (before after : Pass H)
+      → MakesRoom drops one_pass room old new before after (Err e) → new ≡ old
+  sole-stays drops Spare old new before after made = absurd (false≢true (ap is_ok made.0))
+  sole-stays drops Behind old new before after made = absurd (false≢true (ap is_ok made.0))
+  sole-stays drops Front old new before after made = absurd (false≢true (ap is_ok made.0))
+  sole-stays drops (Fresh places) old new before after made = made.1
+  sole-stays drops (Growth places) old new before after made = made.1
+  sole-stays drops (Own additional) old new before after made = made.1
+  sole-stays drops (Refused refusal) old new before after made = made.1
+
+  module _ (room : Room) (old new : PartsView T M) (role : HasWritersRole true old.role) where
+    alone-stays : (before after : Pass H)
+        → MakesRoomAlone one_pass room old new before after (Err e) → new ≡ old
+    alone-stays before after made = made.shared
+        ∙ ap as_shared (sole-stays false room (as_unique old) made.sole before after made.makes)
+        ∙ ap (λ r. record old { role = r }) (sym role)
+
+    by-answer : (found : Bool) (before after : Pass H)
+        → MakesRoomIf found one_pass room old new before after (Err e) → new ≡ old
+    by-answer true before after made = alone-stays before after made
+    by-answer false before after made = made.1
+
+    several-stays : (asks : Bool) (before after : Pass H)
+        → MakesSharedRoom asks one_pass room old new before after (Err e) → new ≡ old
+    several-stays true before after made = by-answer made.0 made.1 after made.3
+    several-stays false before after made = alone-stays before after made
+
+  pub refused_stays : (several drops : Bool) (item_size additional : ℕ) (old new : PartsView T M)
+      (before after : Pass H) → HasWritersRole several old.role
+      → AsksRoom several drops one_pass item_size additional old new before after (Err e)
+      → new ≡ old
+  refused_stays false drops item_size additional old new before after role made =
+      sole-stays drops (room_for drops item_size old additional) old new before after made
+  refused_stays true drops item_size additional old new before after role made =
+      several-stays (room_for false item_size old additional) old new role
+      (asks_alone old additional) before after made

@@ -1,6 +1,0 @@
-use Rattle.std.proofs.Common.{◌≡◌, replicate}
-use Rattle.arc_parts.specs.Writers.{with_more}
-use Rattle.arc_write.proofs.slice_mut.ArcSliceMut.fill.Given as goal
-
-abbrev pub invariant-loop : goal.invariant-loop
-invariant-loop g l = l.self ≡ with_more (replicate l.counter l.byte) l.initial.self

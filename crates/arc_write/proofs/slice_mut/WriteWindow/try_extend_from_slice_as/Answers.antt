@@ -1,0 +1,30 @@
+use Rattle.std.proofs.Common.{subst}
+use Rattle.std.specs.Prelude.{is_ok, length}
+use Rattle.std.specs.Mem.{type_size}
+use Rattle.arc_block.specs.LayoutFacts.{layout_facts}
+use Rattle.arc_parts.specs.Window.{PartsView}
+use Rattle.arc_write.specs.Within.{StaysWithin}
+use Rattle.arc_write.proofs.Held.{extend_held}
+use Rattle.arc_write.proofs.Within.{extend_within}
+use Rattle.arc_write.proofs.slice_mut.WriteWindow.try_extend_from_slice_as.Goals as goal
+
+pub invariant_of-self : goal.invariant_of-self
+invariant_of-self g c =
+    let of = g.R.Parts.WriterParts in let call = c.try_extend_from_slice_as in
+    let old = of.seen c.self.inside.parts in let new = of.seen call.new.self in (
+      extend_held (layout_facts g.L.Layout) of.several g.S.Slice.DROPS g.H.Mark.whole
+          (type_size g.row.S-Item) (length c.args.items.now) c.args.items.now old new
+          c.args.pass.now call.new.pass (λ e. e) call.result call.ensures.extended
+          call.ensures.refused c.self.invariant.0,
+      ∣ g.met.S.AnyItems.all_are_legal _ ∣₁,
+    )
+
+pub returns-clause-within : goal.returns-clause-within
+returns-clause-within g c =
+    let of = g.R.Parts.WriterParts in let call = c.try_extend_from_slice_as in
+    subst (λ (w : PartsView g.row.S-Item.Denot g.row.M.Denot). StaysWithin of.several
+    (length c.args.items.now) w (of.seen call.new.self) (is_ok call.result)) c.self.view_is
+    (extend_within of.several g.S.Slice.DROPS g.H.Mark.whole (type_size g.row.S-Item)
+    (length c.args.items.now) (of.seen c.self.inside.parts) (of.seen call.new.self)
+    c.args.pass.now call.new.pass c.args.items.now (λ e. e) call.result
+    call.ensures.extended call.ensures.refused)

@@ -1,0 +1,15 @@
+use Rattle.std.proofs.Common.{sym, subst}
+use Rattle.std.specs.Mem.{type_size}
+use Rattle.arc_block.specs.LayoutFacts.{layout_facts}
+use Rattle.arc_write.proofs.Held.{reclaimed_held}
+use Rattle.arc_write.proofs.slice_mut.WriteWindow.try_reclaim_as.Goals as goal
+
+pub invariant_of-self : goal.invariant_of-self
+invariant_of-self g c =
+    let of = g.R.Parts.WriterParts in let call = c.try_reclaim_as in (
+      reclaimed_held (layout_facts g.L.Layout) of.several g.S.Slice.DROPS
+          (type_size g.row.S-Item) c.args.additional (of.seen c.self.inside.parts)
+          (of.seen call.new.self) c.args.pass.now call.new.pass call.result call.ensures.room
+          c.self.invariant.0,
+      subst (λ xs. ∥ g.S.Slice.is_legal xs ∥₁) (sym call.ensures.items) c.self.invariant.1,
+    )

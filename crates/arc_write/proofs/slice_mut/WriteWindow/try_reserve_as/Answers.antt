@@ -1,0 +1,28 @@
+use Rattle.std.proofs.Common.{sym, subst}
+use Rattle.std.specs.Prelude.{is_ok}
+use Rattle.std.specs.Mem.{type_size}
+use Rattle.arc_block.specs.LayoutFacts.{layout_facts}
+use Rattle.arc_parts.specs.Window.{PartsView}
+use Rattle.arc_write.specs.Within.{StaysWithin}
+use Rattle.arc_write.proofs.Held.{room_held}
+use Rattle.arc_write.proofs.Within.{room_within}
+use Rattle.arc_write.proofs.slice_mut.WriteWindow.try_reserve_as.Goals as goal
+
+pub invariant_of-self : goal.invariant_of-self
+invariant_of-self g c =
+    let of = g.R.Parts.WriterParts in let call = c.try_reserve_as in (
+      room_held (layout_facts g.L.Layout) of.several g.S.Slice.DROPS g.H.Mark.whole
+          (type_size g.row.S-Item) c.args.additional (of.seen c.self.inside.parts)
+          (of.seen call.new.self) c.args.pass.now call.new.pass call.result call.ensures.room
+          c.self.invariant.0,
+      subst (λ xs. ∥ g.S.Slice.is_legal xs ∥₁) (sym call.ensures.items) c.self.invariant.1,
+    )
+
+pub returns-clause-within : goal.returns-clause-within
+returns-clause-within g c =
+    let of = g.R.Parts.WriterParts in let call = c.try_reserve_as in
+    subst (λ (w : PartsView g.row.S-Item.Denot g.row.M.Denot). StaysWithin of.several
+    c.args.additional w (of.seen call.new.self) (is_ok call.result)) c.self.view_is
+    (room_within of.several g.S.Slice.DROPS g.H.Mark.whole (type_size g.row.S-Item)
+    c.args.additional (of.seen c.self.inside.parts) (of.seen call.new.self) c.args.pass.now
+    call.new.pass call.result call.ensures.room)

@@ -1,0 +1,37 @@
+use Rattle.std.proofs.Common.{subst}
+use Rattle.std.specs.Prelude.{is_ok, length, ℕ, List, false}
+use Rattle.std.specs.Str.{IsUtf8}
+use Rattle.std.proofs.lemmas.Str.{IsUtf8-append}
+use Rattle.arc_block.specs.LayoutFacts.{layout_facts}
+use Rattle.arc_parts.specs.Window.{PartsView}
+use Rattle.arc_write.specs.Within.{StaysWithin}
+use Rattle.arc_write.proofs.Held.{extend_held}
+use Rattle.arc_write.proofs.Legal.{extend_legal}
+use Rattle.arc_write.proofs.Within.{extend_within}
+use Rattle.arc_write.proofs.slice_mut.text.WriteWindow+Text+L+R+B+M+A+H.try_extend_from_str_as.Goals as goal
+
+pub invariant_of-self : goal.invariant_of-self
+invariant_of-self g c =
+    let of = g.R.Parts.WriterParts in let call = c.try_extend_from_slice_as in
+    let bytes = c.as_bytes.result.now in
+    let old = of.seen c.self.inside.parts in let new = of.seen call.new.self in (
+      extend_held (layout_facts g.L.Layout) of.several false g.H.Mark.whole 1 (length bytes)
+          bytes old new c.args.pass.now call.new.pass (λ e. e) call.result
+          call.ensures.extended call.ensures.refused c.self.invariant.0,
+      extend_legal IsUtf8 of.several false g.H.Mark.whole 1 (length bytes)
+          bytes old new c.args.pass.now call.new.pass (λ e. e)
+          (λ ys h. IsUtf8-append ys _ h c.as_bytes.ensures.utf8) call.result
+          call.ensures.items call.ensures.refused c.self.invariant.1,
+    )
+
+pub returns-clause-within : goal.returns-clause-within
+returns-clause-within g c =
+    let of = g.R.Parts.WriterParts in let call = c.try_extend_from_slice_as in
+    let bytes = c.as_bytes.result.now in let new = of.seen call.new.self in
+    subst (λ (text : List ℕ). StaysWithin of.several (length text) c.args.self.now new
+    (is_ok call.result)) c.as_bytes.ensures.value
+    (subst (λ (w : PartsView ℕ g.row.M.Denot). StaysWithin of.several (length bytes) w new
+    (is_ok call.result)) c.self.view_is
+    (extend_within of.several false g.H.Mark.whole 1 (length bytes) (of.seen c.self.inside.parts)
+    new c.args.pass.now call.new.pass bytes (λ e. e) call.result call.ensures.extended
+    call.ensures.refused))

@@ -1,0 +1,407 @@
+//! The two roles of writers, and what their parts have in common.
+ghost use Rattle.std.specs.Prelude.{◌≡◌, ◌≤◌, ◌+◌, ◌++◌, ◌∷◌, [], length, Bool, List, true, false};
+ghost use Rattle.std.specs.Prelude.{IfOk, IfErr, OnOk, IfSome, IfNone, Some, None, Err};
+ghost use Rattle.std.specs.Borrow.{Array, Lends, sem};
+ghost use Rattle.std.specs.Mem.{type_size};
+ghost use Rattle.std.specs.Vec.{vec_capacity};
+ghost use Rattle.arc_owners.specs.count.Calls.{IsNewPass, IsPassOfNone, Learns};
+ghost use Rattle.arc_block.specs.LayoutFacts.{layout_facts};
+ghost use Rattle.arc_block.specs.Metadata.{IsMetadataAt, IsOnCallers};
+ghost use Rattle.arc_block.specs.Moves.{IsRefused, layout_move};
+ghost use Rattle.arc_block.specs.Place.{at_owner, IsOnBlock, metadata_at, size_at};
+ghost use Rattle.arc_block.specs.Table.{reader};
+ghost use Rattle.arc_parts.specs.Steps.{Begins, EndsAt, EndsShownAt, IsPassAt, Makes};
+ghost use Rattle.arc_parts.specs.Window.{IsBlockHeld, IsBoxWhole, IsHeld, IsVecPart, PartsView};
+ghost use Rattle.arc_parts.specs.Window.{window_of};
+ghost use Rattle.arc_parts.specs.Writers.{after_advance, after_truncate, as_reader, capacity_of};
+ghost use Rattle.arc_parts.specs.Writers.{Freezes, room_for, with_items, with_more};
+ghost use Rattle.arc_sort_writers.specs.Growth.{AsksForRoom, IfAsked, without_item};
+ghost use Rattle.arc_writer_parts.specs.Roles.{AsksRoom, HasWritersRole, PushesItems, ReclaimsRoom};
+ghost use Rattle.arc_writer_parts.specs.Roles.{RefusesTakingOut, ReleasesAt, ReleasesHintedAt};
+ghost use Rattle.arc_writer_parts.specs.Roles.{StandsAsWriter, TakesOutAt};
+
+use crate::shared::SharedParts;
+use crate::sole::SoleParts;
+use arc_block::layout::Layout;
+use arc_buffer::buffer::{BorrowMetadata, BufferMut};
+use arc_buffer::kinds::Slice;
+use arc_owners::error::TryReserveError;
+use arc_owners::mark::{Mark, Stepping};
+use arc_owners::owners::Pass;
+use arc_parts::parts::Parts;
+use std::alloc::Allocator;
+
+/// A writer's role: its block's only owner where `UNIQUE` is 1, and one of several writers where it
+/// is 0. There are no others.
+pub struct Role<const UNIQUE: u8>;
+
+/// The parts of a window whose writer has this role.
+pub trait RoleOf<
+    S: Slice,
+    B: BufferMut<<S as Slice>::Item> + Drop,
+    M: Drop,
+    A: Allocator + Copy,
+    H: Mark,
+> {
+    /// They.
+    type Parts: WriterParts<S, B, M, A, H>;
+}
+
+impl<S: Slice, B: BufferMut<S::Item> + Drop, M: Drop, A: Allocator + Copy, H: Mark> RoleOf<
+    S,
+    B,
+    M,
+    A,
+    H,
+> for Role<1> {
+    type Parts = SoleParts<S, B, M, A, H>;
+}
+
+impl<S: Slice, B: BufferMut<S::Item> + Drop, M: Drop, A: Allocator + Copy, H: Mark> RoleOf<
+    S,
+    B,
+    M,
+    A,
+    H,
+> for Role<0> {
+    type Parts = SharedParts<S, B, M, A, H>;
+}
+
+/// A row of the table of lists with its owner, who writes it: the items, where they stand, and how
+/// many places they have. No other owner reaches these.
+pub trait WriterParts<
+    S: Slice,
+    B: BufferMut<<S as Slice>::Item> + Drop,
+    M: Drop,
+    A: Allocator + Copy,
+    H: Mark,
+>: Sized {
+    /// The row.
+    ghost seen: { Self → PartsView S.Item M };
+
+    /// Whether its owner is one of several writers, and not the only owner of his block.
+    ghost several: { Bool };
+
+    /// The same parts with other items in their places.
+    ghost with_list: { Self → List S.Item → Self };
+
+    /// They stand on nothing, or on a block that counts its owners and may be written; those of one
+    /// of several writers on one that keeps its items in memory of ours. Does nothing: its contract
+    /// is the law.
+    fn known_place(&self)
+        ensures place { StandsAsWriter several (seen self.now).place }
+        ensures role { HasWritersRole several (seen self.now).role };
+
+    /// How many items there are.
+    fn len(&self) -> usize
+        ensures { result ≡ length (seen self.now).items };
+
+    /// The items.
+    fn as_slice(&self) -> &[S::Item]
+        ensures { result.now ≡ (seen self.now).items };
+
+    /// How many places there are for items, from the first of them on.
+    fn capacity(&self) -> usize
+        ensures capacity { result ≡ capacity_of (seen self.now).role }
+        ensures enough { length (seen self.now).items ≤ result };
+
+    /// The items, to be changed in their places: what is written there they are afterwards.
+    fn as_mut_slice(&mut self) -> &mut [S::Item]
+        ensures* writes_back { sem 𝓛 (Lends Self.row (Array S.Item.row 0) self.entry result
+            (with_list self.old)) }
+        ensures value { result.now ≡ (seen self.old).items };
+
+    /// Takes so many items off the front; their places are none of the window's any more.
+    fn advance(&mut self, count: usize)
+        requires { count ≤ length (seen self.old).items }
+        ensures { seen self.new ≡ after_advance count (seen self.old) };
+
+    /// Leaves the first so many items, if there are more.
+    fn truncate(&mut self, len: usize)
+        ensures { seen self.new ≡ after_truncate S.DROPS len (seen self.old) };
+
+    /// Makes room for so many items more.
+    ///
+    /// # Errors
+    ///
+    /// Where the window hasn't the places already, in this order:
+    ///
+    /// - `NotUnique` of one of several writers, on a block where another owner lives.
+    /// - `Unsupported` where items that are dropped one by one end before the block's full places.
+    /// - Over a caller's buffer its own refusal.
+    /// - `CapacityOverflow` where a block would have to grow to more than 2^63 - 1 places or bytes.
+    /// - `AllocError` where memory is refused for a larger block, or for a first one of any size.
+    ///
+    /// Everything is then as before.
+    ///
+    /// # Allocates
+    ///
+    /// Once for a first block, and once where the block grows: where the places behind the items
+    /// aren't enough, unless items that aren't dropped one by one are no more than the places in
+    /// front of them, and the whole block is large enough.
+    ///
+    /// # History
+    ///
+    /// Of a sole writer nothing is added; of one of several, on a block, where the window hasn't
+    /// the places already, Alone with the answer. Where a first block is made, the pass, which was
+    /// of none, becomes that block's.
+    fn try_reserve_as(
+        &mut self,
+        additional: usize,
+        pass: &mut Pass<H>,
+    ) -> Result<(), TryReserveError>
+        requires pass { IsPassAt (seen self.old).place pass.old }
+        ensures room { AsksRoom several S.DROPS H.whole (type_size S.Item.row) additional
+            (seen self.old) (seen self.new) pass.old pass.new result }
+        ensures items { (seen self.new).items ≡ (seen self.old).items }
+        ensures enough { OnOk result (length (seen self.new).items + additional
+            ≤ capacity_of (seen self.new).role) }
+        ensures own { IfAsked (room_for S.DROPS (type_size S.Item.row) (seen self.old) additional)
+            (λ k. AsksForRoom B.list B.places B.grows B.refuses (seen self.old) k
+            (size_at (seen self.new).place) result) };
+
+    /// Whether there is room for so many items more without memory; then it is made.
+    ///
+    /// # History
+    ///
+    /// Of a sole writer nothing is added; of one of several, on a block, where the window hasn't
+    /// the places already, Alone with the answer.
+    fn try_reclaim_as(&mut self, additional: usize, pass: &mut Pass<H>) -> bool
+        requires pass { IsPassAt (seen self.old).place pass.old }
+        ensures room { ReclaimsRoom several S.DROPS (type_size S.Item.row) additional
+            (seen self.old) (seen self.new) pass.old pass.new result }
+        ensures items { (seen self.new).items ≡ (seen self.old).items };
+
+    /// An item more, behind the others, once there is room for it.
+    ///
+    /// # Errors
+    ///
+    /// Those of `try_reserve_as`, with the item.
+    ///
+    /// # Allocates
+    ///
+    /// As `try_reserve_as`.
+    ///
+    /// # History
+    ///
+    /// As `try_reserve_as`.
+    fn try_push_as(
+        &mut self,
+        item: S::Item,
+        pass: &mut Pass<H>,
+    ) -> Result<(), (TryReserveError, S::Item)>
+        requires pass { IsPassAt (seen self.old).place pass.old }
+        ensures pushed { OnOk result (PushesItems several S.DROPS H.whole (type_size S.Item.row) 1
+            (item ∷ []) (seen self.old) (seen self.new) pass.old pass.new) }
+        ensures items { OnOk result ((seen self.new).items ≡ (seen self.old).items ++ item ∷ []) }
+        ensures refused { IfErr result (λ r. (r.1 ≡ item)
+            × AsksRoom several S.DROPS H.whole (type_size S.Item.row) 1
+            (seen self.old) (seen self.new) pass.old pass.new (Err r.0)) }
+        ensures own { IfAsked (room_for S.DROPS (type_size S.Item.row) (seen self.old) 1) (λ k.
+            AsksForRoom B.list B.places B.grows B.refuses (seen self.old) k
+            (size_at (seen self.new).place) (without_item result)) };
+
+    /// The items as the block's vector, moved to its front, where the block is a vector and no
+    /// other owner lives. Items that are dropped one by one have to be all of it.
+    ///
+    /// # Errors
+    ///
+    /// The parts, on another block or none, where items that are dropped one by one are a part
+    /// alone, and where another owner lives.
+    ///
+    /// # History
+    ///
+    /// Taken, of a sole writer Down without a step, and of one of several Alone and Down. Refused,
+    /// of one of several Alone with no, where only the count could decide, and else nothing.
+    fn try_into_vec_as(self, pass: &mut Pass<H>) -> Result<Vec<S::Item, A>, Self>
+        requires pass { IsPassAt (seen self).place pass.old }
+        ensures taken { IfOk result (λ v. IsVecPart S.DROPS (seen self).items (seen self).place
+            × (v.items ≡ (seen self).items) × (vec_capacity v ≡ size_at (seen self).place)) }
+        ensures entries { IfOk result (λ _.
+            TakesOutAt several (seen self).place pass.old pass.new) }
+        ensures refused { IfErr result (λ back. (back ≡ self) × RefusesTakingOut several
+            (IsVecPart S.DROPS (seen self).items (seen self).place) (seen self).place
+            pass.old pass.new) };
+
+    /// The items as the block's vector, where they are all of it, it has no places more, and no
+    /// other owner lives: so it is a box.
+    ///
+    /// # Errors
+    ///
+    /// The parts, on another block or none, where the items are a part of the vector's places
+    /// alone, and where another owner lives.
+    ///
+    /// # History
+    ///
+    /// As `try_into_vec_as`.
+    fn try_into_box_vec_as(self, pass: &mut Pass<H>) -> Result<Vec<S::Item, A>, Self>
+        requires pass { IsPassAt (seen self).place pass.old }
+        ensures taken { IfOk result (λ v. IsBoxWhole (seen self).items (seen self).place
+            × (v.items ≡ (seen self).items) × (vec_capacity v ≡ size_at (seen self).place)) }
+        ensures entries { IfOk result (λ _.
+            TakesOutAt several (seen self).place pass.old pass.new) }
+        ensures refused { IfErr result (λ back. (back ≡ self) × RefusesTakingOut several
+            (IsBoxWhole (seen self).items (seen self).place) (seen self).place
+            pass.old pass.new) };
+
+    /// The same items and places, which others may read from now on. It adds nothing and takes no
+    /// memory.
+    fn freeze(self) -> Parts<S, B, M, A, H>
+        ensures { result ≡ as_reader (seen self) };
+
+    /// The same items, which others may read from now on, as a window under the layout `L` is. On
+    /// nothing they are what no items are made of: a native block of no places, of which the pass
+    /// becomes one, where the layout has no static data.
+    ///
+    /// # Errors
+    ///
+    /// The parts, where the layout doesn't hold the block, or where memory for one of no places is
+    /// refused; the pass is then as before.
+    ///
+    /// # Allocates
+    ///
+    /// On nothing, where the layout has no static data.
+    fn try_freeze_as<L: Layout>(self, pass: &mut Pass<H>) -> Result<Parts<S, B, M, A, H>, Self>
+        requires pass { IsPassAt (seen self).place pass.old }
+        ensures frozen { IfOk result (λ parts. Freezes (layout_facts L.Layout) S.DROPS H.whole
+            (seen self) parts pass.old pass.new) }
+        ensures stays { IfOk result (λ parts. IsOnBlock (seen self).place
+            → (parts ≡ as_reader (seen self)) × (pass.new ≡ pass.old)) }
+        ensures made { IfOk result (λ parts. (¬ IsOnBlock (seen self).place)
+            → Makes L.STATIC S.DROPS H.whole (seen self).items (window_of parts)
+            × Begins (window_of parts) pass.old pass.new) }
+        ensures items { IfOk result (λ parts. parts.items ≡ (seen self).items) }
+        ensures role { IfOk result (λ parts. parts.role ≡ reader) }
+        ensures held { IfOk result (λ parts. IsHeld (layout_facts L.Layout) parts.place) }
+        ensures refused { IfErr result (λ back. (back ≡ self)
+            × IsRefused (layout_move (layout_facts L.Layout) (seen self).place)
+            × (pass.new ≡ pass.old)) };
+
+    /// The same parts, as those of a window under the layout `L`, where that holds their block. It
+    /// adds nothing and takes no memory.
+    ///
+    /// # Errors
+    ///
+    /// The parts, exactly where they stand on a block that the layout doesn't hold.
+    fn try_with_layout<L: Layout>(self) -> Result<Self, Self>
+        ensures moved { IfOk result (λ parts. (parts ≡ self)
+            × IsBlockHeld (layout_facts L.Layout) (seen self).place) }
+        ensures refused { IfErr result (λ back. (back ≡ self)
+            × (¬ IsBlockHeld (layout_facts L.Layout) (seen self).place)) };
+
+    /// The metadata of the block, where it was made with some.
+    fn metadata(&self) -> Option<&M>
+        ensures some { IfSome result (λ m. metadata_at (seen self.now).place ≡ Some m.now) }
+        ensures none { IfNone result (metadata_at (seen self.now).place ≡ None) };
+
+    /// The metadata of the caller's buffer on which the parts stand.
+    fn borrowed_metadata(&self) -> Option<&B::Metadata>
+    where
+        B: BorrowMetadata,
+        ensures some { IfSome result (λ m. IsMetadataAt B.list B.metadata
+            (seen self.now).place (seen self.now).items m.now) }
+        ensures none { IfNone result (¬ IsOnCallers (seen self.now).place) };
+
+    /// Ends the parts; the last owner gives the block back.
+    ///
+    /// # History
+    ///
+    /// On a block Down; of a sole writer and of a vector without a step.
+    fn release_as(self, pass: &mut Pass<H>)
+        requires pass { IsPassAt (seen self).place pass.old }
+        ensures entry { ReleasesAt several (seen self).place pass.old pass.new };
+
+    /// Ends the parts: one of several writers reads the count first, and where no other owner lives
+    /// gives the block back without a further step.
+    ///
+    /// # History
+    ///
+    /// On a block of a sole writer Down, without a step, and of one of several Alone with the
+    /// answer, then Down.
+    fn release_with_unique_hint_as(self, pass: &mut Pass<H>)
+        requires pass { IsPassAt (seen self).place pass.old }
+        ensures entry { ReleasesHintedAt several (seen self).place pass.old pass.new };
+
+    /// What a drop does: under `Open` the owner ends with a new pass, and the last one gives the
+    /// block back with its items; under `Whole` it is forgotten, without a step, and its items
+    /// stay. The pass is the one that the owner ended with; on no block, and under `Whole`, it is
+    /// of none.
+    ///
+    /// # History
+    ///
+    /// On a block Down under `Open`, of a sole writer without a step, and nothing under `Whole`.
+    fn let_go(self) -> Pass<H>
+        ensures forgotten { H.whole ≡ true → IsPassOfNone result }
+        ensures ended { H.whole ≡ false → EndsAt (seen self).place result };
+
+    /// Drops the parts, as a window that is dropped does with its own.
+    fn end(self)
+        ensures ended { H.whole ≡ false → EndsShownAt H H.real (seen self).place };
+
+    /// Afterwards the first pass has seen at least what the other had. It adds nothing.
+    fn learn(&self, pass: &mut Pass<H>, other: &Pass<H>)
+        requires pass { IsPassAt (seen self.now).place pass.old }
+        requires other { IsPassAt (seen self.now).place other.now }
+        ensures { at_owner (seen self.now).place (pass.new ≡ pass.old) (λ o.
+            Learns o.block pass.old other.now pass.new) };
+
+    /// A new pass of the block, which has seen at least how this owner became one, and made
+    /// nothing; on no block a pass of none. It adds nothing.
+    fn pass(&self) -> Pass<H>
+    where
+        H: Stepping,
+        ensures { at_owner (seen self.now).place (IsPassOfNone result) (λ o. IsNewPass o result) };
+
+    /// With other items they stand where they stood.
+    ghost keeps: { (parts : Self) (items : List S.Item)
+        → seen (with_list parts items) ≡ with_items (seen parts) items };
+}
+
+/// Parts of items that are copied.
+pub trait CopyWriterParts<
+    S: Slice,
+    B: BufferMut<<S as Slice>::Item> + Drop,
+    M: Drop,
+    A: Allocator + Copy,
+    H: Mark,
+>: WriterParts<S, B, M, A, H>
+where
+    S::Item: Copy,
+{
+    /// A copy of the items more, behind the others, once there is room for them.
+    ///
+    /// # Errors
+    ///
+    /// Those of `try_reserve_as`.
+    ///
+    /// # Allocates
+    ///
+    /// As `try_reserve_as`.
+    ///
+    /// # History
+    ///
+    /// As `try_reserve_as`.
+    fn try_extend_from_slice_as(
+        &mut self,
+        items: &[S::Item],
+        pass: &mut Pass<H>,
+    ) -> Result<(), TryReserveError>
+        requires pass { IsPassAt (Self.seen self.old).place pass.old }
+        ensures extended { OnOk result (PushesItems Self.several S.DROPS H.whole
+            (type_size S.Item.row) (length items.now) items.now
+            (Self.seen self.old) (Self.seen self.new) pass.old pass.new) }
+        ensures items { OnOk result
+            ((Self.seen self.new).items ≡ (Self.seen self.old).items ++ items.now) }
+        ensures refused { IfErr result (λ e. AsksRoom Self.several S.DROPS H.whole
+            (type_size S.Item.row) (length items.now)
+            (Self.seen self.old) (Self.seen self.new) pass.old pass.new (Err e)) }
+        ensures own { IfAsked (room_for S.DROPS (type_size S.Item.row) (Self.seen self.old)
+            (length items.now)) (λ k. AsksForRoom B.list B.places B.grows B.refuses
+            (Self.seen self.old) k (size_at (Self.seen self.new).place) result) };
+
+    /// A copy of the items more, behind the others, where there are places for them.
+    fn extend_reserved(&mut self, items: &[S::Item])
+        requires { length (Self.seen self.old).items + length items.now
+            ≤ capacity_of (Self.seen self.old).role }
+        ensures { Self.seen self.new ≡ with_more items.now (Self.seen self.old) };
+}
