@@ -4,3 +4,5 @@ pub mod Raws
 pub mod Held
 pub mod Attempts
 pub mod More
+pub mod SoleSorts
+pub mod Taken

@@ -37,33 +37,47 @@ NeedsBlock {T} has_static items =
 abbrev pub StandsBy : Type 0 → Type 0 → Type 0
 StandsBy T M = Storage T (NativeView T) (BlockView T M) (List T)
 
+-- the part from the place start to the place end of a native block
+abbrev pub part_of_native : {T M : Type 0} → NativeView T → (start end : ℕ) → Window T M
+part_of_native block start end = record {
+  items = sub block.items (start - block.first) (end - block.first);
+  place = on_block (Some block.owner) start (native_info block);
+}
+
+-- from the item start to the item end of a block of a caller's making
+abbrev pub part_of_block : {T M : Type 0} → BlockView T M → (start end : ℕ) → Window T M
+part_of_block block start end = record {
+  items = sub block.items start end;
+  place = on_block (Some block.owner) start block.facts;
+}
+
 -- The part from start to end of what a window stands on. Of a native block these are the numbers of
 -- places, of others those of items.
 abbrev pub window_seen : {T M : Type 0} → StandsBy T M → ℕ → ℕ → Window T M
 window_seen (Nothing none) start end = record { items = []; place = nowhere }
 window_seen (Static items) start end = record { items = sub items start end; place = static_data }
-window_seen (Native block) start end = record {
-  items = sub block.items (start - block.first) (end - block.first);
-  place = on_block (Some block.owner) start (native_info block);
-}
-window_seen (Block block) start end = record {
-  items = sub block.items start end;
-  place = on_block (Some block.owner) start block.facts;
-}
+window_seen (Native block) start end = part_of_native block start end
+window_seen (Block block) start end = part_of_block block start end
 window_seen (Raw items) start end = record {
   items = sub items start end;
   place = on_block None start (raw_info (length items));
 }
 
--- start to end lies within what the window stands on; a block has a place for each item; a window
--- on nothing has no items
+-- start to end lies within the items of a block, which has a place for each
+abbrev pub IsPartOfNative : {T : Type 0} → NativeView T → (start end : ℕ) → Type 0
+IsPartOfNative block start end = IsAmong block start end
+    × (block.first + length block.items ≤ block.size)
+
+abbrev pub IsPartOfBlock : {T M : Type 0} → BlockView T M → (start end : ℕ) → Type 0
+IsPartOfBlock block start end = (start ≤ end) × (end ≤ length block.items)
+    × (length block.items ≤ block.facts.size)
+
+-- start to end lies within what the window stands on; a window on nothing has no items
 abbrev pub IsWithin : {T M : Type 0} → StandsBy T M → ℕ → ℕ → Type 0
 IsWithin (Nothing none) start end = (start ≡ 0) × (end ≡ 0)
 IsWithin (Static items) start end = (start ≤ end) × (end ≤ length items)
-IsWithin (Native block) start end = IsAmong block start end
-    × (block.first + length block.items ≤ block.size)
-IsWithin (Block block) start end = (start ≤ end) × (end ≤ length block.items)
-    × (length block.items ≤ block.facts.size)
+IsWithin (Native block) start end = IsPartOfNative block start end
+IsWithin (Block block) start end = IsPartOfBlock block start end
 IsWithin (Raw items) start end = (start ≤ end) × (end ≤ length items)
 
 -- a native block of this size

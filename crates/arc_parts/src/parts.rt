@@ -14,6 +14,8 @@ ghost use Rattle.arc_block.specs.Place.{nowhere, static_data, on_block, moved, I
 ghost use Rattle.arc_block.specs.Table.{reader};
 ghost use Rattle.arc_parts.specs.Window.{window_of, NeedsBlock, IsHeld};
 ghost use Rattle.arc_parts.specs.Window.{parts_of, window_seen, IsWithin};
+ghost use Rattle.arc_parts.specs.Window.{part_of_native, part_of_block};
+ghost use Rattle.arc_parts.specs.Window.{IsPartOfNative, IsPartOfBlock};
 ghost use Rattle.arc_parts.specs.Steps.{Makes, Begins, EndsShownAt};
 
 use crate::shared_buffer::SharedBuffer;
@@ -26,12 +28,13 @@ use arc_buffer::kinds::Slice;
 use arc_owners::error::AllocError;
 use arc_owners::mark::{Mark, Open};
 use arc_owners::owners::Pass;
+pub use sole::SoleSort;
 use std::alloc::{Allocator, Global};
 use std::marker::Model;
 pub use vectors::cut_to;
 
 /// What a reader's parts stand on.
-pub type PartsStorage<S, B, M, A, H> = Storage<
+type PartsStorage<S, B, M, A, H> = Storage<
     <S as Slice>::Item,
     NativeBlock<S, A, MAX_OWNERS, H>,
     Block<S, B, M, A, MAX_OWNERS, H>,
@@ -105,7 +108,7 @@ impl<S: Slice, B: Buffer<S::Item> + Drop, M: Drop, A: Allocator + Copy, H: Mark>
     /// The part from `start` to before `end` of what is stood on. Of a native block these are the
     /// numbers of places, of others those of items.
     #[inline(always)]
-    pub fn over(on: PartsStorage<S, B, M, A, H>, start: usize, end: usize, alloc: A) -> Self
+    fn over(on: PartsStorage<S, B, M, A, H>, start: usize, end: usize, alloc: A) -> Self
         requires { IsWithin on start end }
         ensures { result ≡ parts_of (window_seen on start end) }
     {
@@ -119,7 +122,7 @@ impl<S: Slice, B: Buffer<S::Item> + Drop, M: Drop, A: Allocator + Copy, H: Mark>
 
     /// What the parts stand on, from where to before where, and the allocator.
     #[inline(always)]
-    pub fn into_storage(self) -> (PartsStorage<S, B, M, A, H>, usize, usize, A)
+    fn into_storage(self) -> (PartsStorage<S, B, M, A, H>, usize, usize, A)
         ensures within { IsWithin result.0 result.1 result.2 }
         ensures parts { self ≡ parts_of (window_seen result.0 result.1 result.2) }
     {
@@ -130,6 +133,34 @@ impl<S: Slice, B: Buffer<S::Item> + Drop, M: Drop, A: Allocator + Copy, H: Mark>
             alloc,
         } = self;
         (on, start, end, alloc)
+    }
+
+    /// The part from the place `start` to before the place `end` of a native block.
+    #[inline(always)]
+    pub fn on_native(
+        alloc: A,
+        block: NativeBlock<S, A, MAX_OWNERS, H>,
+        start: usize,
+        end: usize,
+    ) -> Self
+        requires { IsPartOfNative block start end }
+        ensures { result ≡ parts_of (part_of_native block start end) }
+    {
+        Parts::over(Storage::Native(block), start, end, alloc)
+    }
+
+    /// The part from the item `start` to before the item `end` of a block of a caller's making.
+    #[inline(always)]
+    pub fn on_block(
+        alloc: A,
+        block: Block<S, B, M, A, MAX_OWNERS, H>,
+        start: usize,
+        end: usize,
+    ) -> Self
+        requires { IsPartOfBlock block start end }
+        ensures { result ≡ parts_of (part_of_block block start end) }
+    {
+        Parts::over(Storage::Block(block), start, end, alloc)
     }
 
     /// No items, on nothing.
@@ -334,4 +365,5 @@ mod buffers;
 mod ends;
 mod moves;
 mod owners;
+mod sole;
 mod vectors;

@@ -14,7 +14,7 @@ ghost use Rattle.arc_parts.specs.Room.{IfSpare, IfFront, IfOwn, IsBuffersRefusal
 ghost use Rattle.arc_parts.specs.Steps.{EndsShownAt};
 ghost use Rattle.arc_parts.specs.Writers.{capacity_of, room_for, with_room, MakesBufferWriter};
 ghost use Rattle.arc_parts.specs.Writers.{IsWriterPlace};
-ghost use Rattle.arc_sort_writers.specs.SortParts.{block_part};
+ghost use Rattle.arc_parts.specs.SoleParts.{block_part};
 ghost use Rattle.arc_block.specs.Place.{size_at, offset_at};
 ghost use Rattle.arc_parts.specs.Window.{IsOfBuffer};
 ghost use Rattle.arc_parts.specs.Shared.{is_vector_at};
@@ -49,7 +49,8 @@ impl<S: Slice, B: BufferMut<S::Item> + Drop, M: Drop, A: Allocator + Copy, H: Ma
     ghost use Rattle.arc_owners.specs.memory.SoleBoxes.{sole_in, sole_value};
     ghost use Rattle.arc_block.specs.Contents.{held_in};
     ghost use Rattle.arc_parts.specs.Window.{PartsView};
-    ghost use Rattle.arc_sort_writers.specs.SortParts.{block_part, IsBufferWithin};
+    ghost use Rattle.arc_parts.specs.SoleParts.{block_part};
+    ghost use Rattle.arc_sort_writers.specs.SortParts.{IsBufferWithin};
 
     ghost Value = { PartsView S.Item M };
 

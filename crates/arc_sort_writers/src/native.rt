@@ -15,7 +15,8 @@ ghost use Rattle.arc_parts.specs.Steps.{IsPassAt, EndsShownAt};
 ghost use Rattle.arc_block.specs.Table.{sole_writer};
 ghost use Rattle.arc_parts.specs.Writers.{capacity_of, room_for, with_room, IsNewWriter};
 ghost use Rattle.arc_parts.specs.Writers.{IsWriterOver, MakesWriter, MakesRoom, IsWriterPlace};
-ghost use Rattle.arc_sort_writers.specs.SortParts.{sole_native_part, CanGrowNative};
+ghost use Rattle.arc_parts.specs.SoleParts.{sole_native_part};
+ghost use Rattle.arc_sort_writers.specs.SortParts.{CanGrowNative};
 ghost use Rattle.arc_parts.specs.Window.{IsOfBuffer};
 ghost use Rattle.arc_parts.specs.Shared.{is_vector_at};
 

@@ -12,7 +12,8 @@ ghost use Rattle.arc_parts.specs.Room.{IfSpare, IfFresh, IfBehind, IfGrowth, IfF
 ghost use Rattle.arc_parts.specs.Steps.{IsPassAt, EndsShownAt};
 ghost use Rattle.arc_parts.specs.Writers.{capacity_of, room_for, with_room, IsWriterOver};
 ghost use Rattle.arc_parts.specs.Writers.{MakesRoom, IsWriterPlace};
-ghost use Rattle.arc_sort_writers.specs.SortParts.{vector_part, CanGrow};
+ghost use Rattle.arc_parts.specs.SoleParts.{vector_part};
+ghost use Rattle.arc_sort_writers.specs.SortParts.{CanGrow};
 ghost use Rattle.arc_block.specs.Place.{size_at, offset_at};
 ghost use Rattle.arc_parts.specs.Window.{IsOfBuffer};
 ghost use Rattle.arc_parts.specs.Shared.{is_vector_at};
@@ -59,7 +60,8 @@ impl<S: Slice, B: Buffer<S::Item> + Drop, M: Drop, A: Allocator + Copy, H: Mark>
     for SoleVector<S, B, M, A, H> {
     ghost use Rattle.arc_owners.specs.memory.SoleBoxes.{sole_in};
     ghost use Rattle.arc_parts.specs.Window.{PartsView};
-    ghost use Rattle.arc_sort_writers.specs.SortParts.{vector_part, IsVectorWithin};
+    ghost use Rattle.arc_parts.specs.SoleParts.{vector_part};
+    ghost use Rattle.arc_sort_writers.specs.SortParts.{IsVectorWithin};
 
     ghost Value = { PartsView S.Item M };
 

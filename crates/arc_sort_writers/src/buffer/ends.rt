@@ -13,7 +13,8 @@ ghost use Rattle.arc_block.specs.Table.{reader};
 ghost use Rattle.arc_parts.specs.Window.{IsBufferWhole, IsVecPart, IsBoxWhole, IsHeld, IsBlockHeld};
 ghost use Rattle.arc_parts.specs.Window.{window_of};
 ghost use Rattle.arc_parts.specs.Writers.{as_reader, Freezes, IsWholeWriter};
-ghost use Rattle.arc_sort_writers.specs.SortParts.{block_part, IsBufferWithin};
+ghost use Rattle.arc_parts.specs.SoleParts.{block_part};
+ghost use Rattle.arc_sort_writers.specs.SortParts.{IsBufferWithin};
 
 use super::SoleBuffer;
 use arc_block::block::{Block, Content, MAX_OWNERS, SoleCount};
@@ -23,7 +24,6 @@ use arc_buffer::kinds::Slice;
 use arc_owners::mark::{Mark, Stepping};
 use arc_owners::owners::Pass;
 use arc_parts::parts::Parts;
-use arc_parts::storage::Storage;
 use std::alloc::Allocator;
 
 impl<S: Slice, B: BufferMut<S::Item> + Drop, M: Drop, A: Allocator + Copy, H: Mark> SoleBuffer<
@@ -78,12 +78,7 @@ impl<S: Slice, B: BufferMut<S::Item> + Drop, M: Drop, A: Allocator + Copy, H: Ma
         ensures { result ≡ as_reader self }
     {
         let (count, start, end, alloc) = self.into_count();
-        Parts::over(
-            Storage::Block(Block::of_sole_buffer(count)),
-            start,
-            end,
-            alloc,
-        )
+        Parts::on_block(alloc, Block::of_sole_buffer(count), start, end)
     }
 
     /// `try_freeze_as` of a sole writer's parts.

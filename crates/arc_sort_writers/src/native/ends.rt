@@ -25,7 +25,6 @@ use arc_memory::WriterMemory;
 use arc_owners::mark::{Mark, Stepping};
 use arc_owners::owners::Pass;
 use arc_parts::parts::Parts;
-use arc_parts::storage::Storage;
 use std::alloc::Allocator;
 use std::marker::PhantomData;
 use std::mem;
@@ -100,8 +99,8 @@ impl<S: Slice, M: Drop, A: Allocator + Copy, H: Mark> SoleNative<S, M, A, H> {
             Some(count) => {
                 let first = memory.start();
                 let end = first + end_in::<S, A>(&memory, behind);
-                let on = Storage::Native(NativeBlock::of_sole(count, memory));
-                Parts::over(on, first + start, end, alloc)
+                let block = NativeBlock::of_sole(count, memory);
+                Parts::on_native(alloc, block, first + start, end)
             }
             None => {
                 drop(memory);

@@ -11,7 +11,8 @@ ghost use Rattle.arc_parts.specs.Steps.{IsPassAt, EndsAt, Makes, Begins};
 ghost use Rattle.arc_parts.specs.Writers.{as_reader, Freezes, IsWholeWriter};
 ghost use Rattle.arc_parts.specs.Window.{IsHeld, IsBlockHeld, IsBufferWhole, window_of};
 ghost use Rattle.arc_block.specs.Moves.{IsRefused, layout_move};
-ghost use Rattle.arc_sort_writers.specs.SortParts.{vector_part, IsVectorWithin};
+ghost use Rattle.arc_parts.specs.SoleParts.{vector_part};
+ghost use Rattle.arc_sort_writers.specs.SortParts.{IsVectorWithin};
 
 use super::{SoleVector, VectorFields};
 use arc_block::block::{Block, end_sole};
@@ -21,7 +22,6 @@ use arc_buffer::kinds::Slice;
 use arc_owners::mark::{Mark, Stepping};
 use arc_owners::owners::Pass;
 use arc_parts::parts::Parts;
-use arc_parts::storage::Storage;
 use std::alloc::Allocator;
 
 impl<S: Slice, B: Buffer<S::Item> + Drop, M: Drop, A: Allocator + Copy, H: Mark> SoleVector<
@@ -53,12 +53,7 @@ impl<S: Slice, B: Buffer<S::Item> + Drop, M: Drop, A: Allocator + Copy, H: Mark>
         ensures { result ≡ as_reader self }
     {
         let (count, items, start, end, alloc) = self.into_memory();
-        Parts::over(
-            Storage::Block(Block::of_sole(count, items)),
-            start,
-            end,
-            alloc,
-        )
+        Parts::on_block(alloc, Block::of_sole(count, items), start, end)
     }
 
     /// `try_freeze_as` of a sole writer's parts.

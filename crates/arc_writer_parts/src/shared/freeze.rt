@@ -8,7 +8,6 @@ use arc_buffer::buffer::BufferMut;
 use arc_buffer::kinds::Slice;
 use arc_owners::mark::Mark;
 use arc_parts::parts::Parts;
-use arc_parts::storage::Storage;
 use arc_sort_writers::shared::SharedNative;
 use std::alloc::Allocator;
 
@@ -29,6 +28,6 @@ impl<S: Slice, B: BufferMut<S::Item> + Drop, M: Drop, A: Allocator + Copy, H: Ma
     {
         let start = writer.start();
         let end = start + writer.len();
-        Parts::over(Storage::Native(writer.freeze()), start, end, alloc)
+        Parts::on_native(alloc, writer.freeze(), start, end)
     }
 }

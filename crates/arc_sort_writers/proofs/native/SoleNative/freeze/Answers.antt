@@ -12,12 +12,12 @@ returns-in-Some g c =
     let drops = g.S.Slice.DROPS in let m = c.self.inside.memory in
     let start = c.self.inside.start in let behind = c.self.inside.behind in
     let end = length m.places.vec.items - behind in
-    c.over.ensures
+    c.on_native.ensures
     ∙ frozen_native drops (count_owner c.in-Some.count) m start behind c.self.inside.beyond
     c.end_in.result
-    c.start-first.result c.of_sole.result c.args.self
+    c.start-first.result c.of_sole-block.result c.args.self
     (ap (λ n. with_fewer c.self.inside.beyond (sole_native drops (option_map count_owner n) m start
     end))
     (sym c.in-Some.is)
     ∙ c.self.view_is)
-    c.of_sole.ensures c.start-first.ensures c.end_in.ensures
+    c.of_sole-block.ensures c.start-first.ensures c.end_in.ensures
