@@ -6,7 +6,6 @@ ghost use Rattle.arc_memory.specs.LentMemory.{LentMemory-set};
 use crate::base::Base;
 use crate::frozen_places::FrozenPlaces;
 use crate::head_size::HeadSize;
-use crate::kept::Kept;
 use crate::kept_places::KeptPlaces;
 use crate::writer_memory::WriterMemory;
 use arc_owners::lifetime::EndedLifetime;
@@ -59,12 +58,12 @@ impl<T: Drop, A: Allocator> KeptItems<T, A> {
     /// All items, once the lifetime has ended, with their memory, and the room for its header, for
     /// its only writer. No item is moved, and no memory read.
     #[inline(always)]
-    pub fn regain(
+    pub fn regain<V: Drop>(
         self,
         ended: EndedLifetime,
-        room: HeaderRoom<Header<Kept<T, A>>>,
-        head: HeadSize<Header<Kept<T, A>>>,
-    ) -> WriterMemory<T, A>
+        room: HeaderRoom<Header<V>>,
+        head: HeadSize<Header<V>>,
+    ) -> WriterMemory<T, V, A>
         requires ended { ended.lifetime ≡ self.kept.inheritance.memory.lifetime }
         requires room { IsRoomOf room head.size self.kept.piece }
         ensures items { result.places.vec.items ≡ self.full.items }
