@@ -63,11 +63,13 @@ native_facts drops size = memory_info native drops size size
 abbrev pub partly_full : {M : Type 0} → Bool → (size full : ℕ) → BlockInfo M
 partly_full drops size full = memory_info native drops size full
 
--- what is seen of a block through one of its owners: who that is, the items, and what is known of
--- the block
+-- What is seen of a block through one of its owners: who that is, the items that it reads, the
+-- number of the place where the first of them lies, and what is known of the block. Of a block of a
+-- caller's making places are items, and all are read.
 pub record BlockView (T M : Type 0) : Type 0 where
   pub owner : Owner
   pub items : List T
+  pub first : ℕ
   pub facts : BlockInfo M
 
 -- a block of this sort whose only owner has its items as this vector, whose places are the block's
@@ -75,6 +77,7 @@ abbrev pub held_as : {T M A : Type 0} → Sort → Bool → Owner → Vec T A �
 held_as sort drops owner items = record {
   owner = owner;
   items = items.items;
+  first = 0;
   facts = memory_info sort drops (vec_capacity items) (length items.items);
 }
 
@@ -103,12 +106,18 @@ abbrev pub buffer_block : {T M : Type 0} → List T → (places : ℕ) → Optio
 buffer_block items places metadata owner = record {
   owner = owner;
   items = items;
+  first = 0;
   facts = buffer_info false places (length items) metadata;
 }
 
 -- a block of an `Arc` of a caller's buffer with these items
 abbrev pub raw_block : {T M : Type 0} → List T → Owner → BlockView T M
-raw_block items owner = record { owner = owner; items = items; facts = raw_info (length items) }
+raw_block items owner = record {
+  owner = owner;
+  items = items;
+  first = 0;
+  facts = raw_info (length items);
+}
 
 abbrev pub IsBuffer : Sort → Type 0
 IsBuffer native = ⊥

@@ -1,5 +1,6 @@
 pub mod Block
 pub mod Contents
+pub mod Kept
 pub mod Natives
 pub mod Place
 pub mod Table

@@ -1,3 +1,4 @@
+pub mod Alone
 pub mod Borrowed
 pub mod Contents
 pub mod Cuts
@@ -15,4 +16,5 @@ pub mod Ranges
 pub mod Regained
 pub mod Runs
 pub mod SameVecs
+pub mod SeenItems
 pub mod Spots

@@ -11,5 +11,6 @@ pub mod SharedWriters
 pub mod KeptPlaces
 pub mod PieceParts
 pub mod Pieces
+pub mod SeenItems
 pub mod Sources
 pub mod LendsWriters

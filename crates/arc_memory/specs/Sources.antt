@@ -1,5 +1,5 @@
 -- Where the places of a writer's memory come from.
-use Rattle.std.specs.Prelude.{◌≡◌, ℕ}
+use Rattle.std.specs.Prelude.{◌≡◌, refl, ℕ}
 use Rattle.std.specs.Coded.{coded_ℕ}
 use base.Stored.{Coded-set}
 use denote.RawPtr.{Ptr, coded_ptr}
@@ -23,3 +23,7 @@ module _ {T V A : Type 0} where
   abbrev pub IsPiece : Source T V A → Type 0
   IsPiece Nothing = ⊥
   IsPiece (Piece p) = Unit {0}
+
+  pub IsPiece-set : (s : Source T V A) (e f : IsPiece s) → e ≡ f
+  IsPiece-set Nothing e f = absurd e
+  IsPiece-set (Piece p) e f = refl

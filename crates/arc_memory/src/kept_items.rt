@@ -8,7 +8,7 @@ use crate::frozen_places::FrozenPlaces;
 use crate::head_size::HeadSize;
 use crate::kept_places::KeptPlaces;
 use crate::writer_memory::WriterMemory;
-use arc_owners::lifetime::EndedLifetime;
+use arc_owners::lifetime::{EndedLifetime, LifetimeToken};
 use arc_owners::owners::{Header, HeaderRoom};
 use std::alloc::Allocator;
 
@@ -53,6 +53,16 @@ impl<T: Drop, A: Allocator> KeptItems<T, A> {
         ensures { result ≡ self.now.kept.inheritance.memory.whole }
     {
         self.kept.piece.count()
+    }
+
+    /// The items, for as long as a share of the lifetime is borrowed. It reads no memory beside
+    /// this.
+    #[inline(always)]
+    pub fn as_slice<'a>(&'a self, share: &'a LifetimeToken) -> &'a [T]
+        requires { share.now.lifetime ≡ self.now.full.memory.lifetime }
+        ensures { result.now ≡ self.now.full.items }
+    {
+        unsafe { self.full.as_slice(share, self.base.at, 0, self.len) }
     }
 
     /// All items, once the lifetime has ended, with their memory, and the room for its header, for

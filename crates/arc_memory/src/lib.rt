@@ -5,7 +5,8 @@
 //! joined, edited by a vector that lodges in them (`Lodging`), and lent for a lifetime to several
 //! writers (`LentPlaces`), who may freeze their items for readers (`FrozenPlaces`). Memory that is
 //! lent for the lease of a block's owners has several writers (`WriterPart`) and readers
-//! (`FrozenReader`), and leaves in the counted box what is kept for its end (`Kept`). Memory of our
+//! (`FrozenReader`, who read by `Seen`), and leaves in the counted box what is kept for its end
+//! (`Kept`). Memory of our
 //! own is one piece (`Piece`): in front the room for a header, in which that box lies, and behind
 //! it the places. It is one writer's (`WriterMemory`), who lends its places and has them back, and
 //! moves no item for it.
@@ -26,6 +27,7 @@ pub use native::Native;
 pub use open_writer::OpenWriter;
 pub use piece::Piece;
 pub use places::Places;
+pub use seen::Seen;
 pub use shared_writer::SharedWriter;
 pub use source::{PieceWithRoom, Source};
 pub use writer_memory::WriterMemory;
@@ -51,6 +53,7 @@ mod piece_right;
 mod place_arrays;
 mod place_slots;
 mod places;
+mod seen;
 mod shared_writer;
 mod source;
 mod writer_memory;

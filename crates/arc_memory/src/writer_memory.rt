@@ -39,7 +39,7 @@ impl<T: Drop, V: Drop, A: Allocator> WriterMemory<T, V, A> {
     ghost use Rattle.arc_memory.specs.PieceParts.{AreAllOfPiece, IsRoomOf};
     ghost use Rattle.arc_memory.specs.Sources.{IsPiece};
     ghost use Rattle.arc_memory.specs.LendsPlaces.{LendsMemory};
-    ghost use Rattle.arc_memory.specs.WriterMemories.{SameMemory};
+    ghost use Rattle.arc_memory.specs.WriterMemories.{SameMemory, IsOnePlace};
 
     /// No places, and no memory. Nothing is asked of an allocator.
     pub fn nothing() -> Self
@@ -144,6 +144,49 @@ impl<T: Drop, V: Drop, A: Allocator> WriterMemory<T, V, A> {
             Ok(memory) => Ok(memory.with_array(items)),
             Err(_) => Err(items),
         }
+    }
+
+    /// One item, in new memory that has one place.
+    ///
+    /// # Errors
+    ///
+    /// The item, where `new` answers `AllocError`.
+    ///
+    /// # Allocates
+    ///
+    /// Once.
+    pub fn of_one(alloc: A, item: T) -> Result<Self, T>
+        ensures items { IfOk result (λ m. m.places.vec.items ≡ item ∷ []) }
+        ensures memory { IfOk result (λ m. IsOnePlace m) }
+        ensures refused { IfErr result (λ back. back ≡ item) }
+    {
+        match Self::new(alloc, 1) {
+            Ok(mut memory) => {
+                memory.push_reserved(item);
+                Ok(memory)
+            }
+            Err(_) => Err(item),
+        }
+    }
+
+    /// The item that lies alone. Its memory is freed.
+    #[tactic(auto, using(crate::proofs::Alone::alone))]
+    pub fn into_one(self) -> T
+        requires { length self.places.vec.items ≡ 1 }
+        ensures { self.places.vec.items ≡ result ∷ [] }
+    {
+        let mut memory = self;
+        memory.take_last()
+    }
+
+    /// The last item, whose place is empty from then on.
+    pub fn take_last(&mut self) -> T
+        requires { 0 < length self.old.places.vec.items }
+        ensures items { self.old.places.vec.items
+            ≡ self.new.places.vec.items ++ result ∷ [] }
+        ensures memory { SameMemory self.old self.new }
+    {
+        self.places.take_last()
     }
 
     /// This memory, which is empty and has as many places as the array items, with these.

@@ -58,9 +58,10 @@ module _ {T M A : Type 0} where
   vector_part drops owner v start end =
       memory_part vector drops owner (vec_capacity v) (length v.items) start v.items start end
 
+module _ {T M V A : Type 0} where
   -- the part from start to end of a writer's items, whose memory is a native block's, as its only
   -- owner's
-  abbrev pub sole_native_part : Bool → Owner → WriterMemory T A → (start end : ℕ) → PartsView T M
+  abbrev pub sole_native_part : Bool → Owner → WriterMemory T V A → (start end : ℕ) → PartsView T M
   sole_native_part drops owner memory start end =
       let first = memory.places.under.start in let items = memory.places.vec.items in
       memory_part native drops owner memory.places.under.whole (first + length items)

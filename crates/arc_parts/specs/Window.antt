@@ -7,11 +7,10 @@ use Rattle.arc_block.specs.Block.{Sort, native, vector, raw}
 use Rattle.arc_block.specs.Block.{IsBuffer, BlockInfo, BlockView, native_facts, raw_info}
 use Rattle.arc_block.specs.Layouts.{LayoutFacts, holds_block}
 use Rattle.arc_block.specs.Place.{Place, nowhere, static_data, on_block, IsOnBlock, made_place}
-use Rattle.arc_block.specs.Natives.{NativeView, native_info, IsAmong}
+use Rattle.arc_block.specs.Natives.{IsAmong}
 use Rattle.arc_block.specs.Table.{RowOf, reader}
 use Rattle.arc_parts.specs.declared.storage.Storage.{Storage}
-use Rattle.arc_parts.specs.declared.storage.Storage.TheVariants.{Nothing, Static, Native, Block}
-use Rattle.arc_parts.specs.declared.storage.Storage.TheVariants.{Raw}
+use Rattle.arc_parts.specs.declared.storage.Storage.TheVariants.{Free, Block, Raw}
 
 -- what is seen of a window: its items, and where it stands: on a block as one of its owners, where
 -- the block counts them
@@ -35,28 +34,24 @@ NeedsBlock {T} has_static items =
 
 -- what a window stands on: of an `Arc` that is a block by itself its buffer's items are seen
 abbrev pub StandsBy : Type 0 → Type 0 → Type 0
-StandsBy T M = Storage T (NativeView T) (BlockView T M) (List T)
+StandsBy T M = Storage T (BlockView T M) (List T)
 
--- the part from the place start to the place end of a native block
-abbrev pub part_of_native : {T M : Type 0} → NativeView T → (start end : ℕ) → Window T M
-part_of_native block start end = record {
-  items = sub block.items (start - block.first) (end - block.first);
-  place = on_block (Some block.owner) start (native_info block);
-}
-
--- from the item start to the item end of a block of a caller's making
+-- the part from the place start to the place end of a block
 abbrev pub part_of_block : {T M : Type 0} → BlockView T M → (start end : ℕ) → Window T M
 part_of_block block start end = record {
-  items = sub block.items start end;
+  items = sub block.items (start - block.first) (end - block.first);
   place = on_block (Some block.owner) start block.facts;
 }
 
--- The part from start to end of what a window stands on. Of a native block these are the numbers of
+-- from the item start to the item end of a slice that is there for good; else there is nothing
+abbrev pub free_part : {T M : Type 0} → (there : Bool) → List T → (start end : ℕ) → Window T M
+free_part false items start end = record { items = []; place = nowhere }
+free_part true items start end = record { items = sub items start end; place = static_data }
+
+-- The part from start to end of what a window stands on. Of a block these are the numbers of
 -- places, of others those of items.
 abbrev pub window_seen : {T M : Type 0} → StandsBy T M → ℕ → ℕ → Window T M
-window_seen (Nothing none) start end = record { items = []; place = nowhere }
-window_seen (Static items) start end = record { items = sub items start end; place = static_data }
-window_seen (Native block) start end = part_of_native block start end
+window_seen (Free free) start end = free_part free.there free.items start end
 window_seen (Block block) start end = part_of_block block start end
 window_seen (Raw items) start end = record {
   items = sub items start end;
@@ -64,19 +59,17 @@ window_seen (Raw items) start end = record {
 }
 
 -- start to end lies within the items of a block, which has a place for each
-abbrev pub IsPartOfNative : {T : Type 0} → NativeView T → (start end : ℕ) → Type 0
-IsPartOfNative block start end = IsAmong block start end
-    × (block.first + length block.items ≤ block.size)
-
 abbrev pub IsPartOfBlock : {T M : Type 0} → BlockView T M → (start end : ℕ) → Type 0
-IsPartOfBlock block start end = (start ≤ end) × (end ≤ length block.items)
-    × (length block.items ≤ block.facts.size)
+IsPartOfBlock block start end = IsAmong block start end
+    × (block.first + length block.items ≤ block.facts.size)
+
+abbrev pub IsFreePart : {T : Type 0} → (there : Bool) → List T → (start end : ℕ) → Type 0
+IsFreePart false items start end = (start ≡ 0) × (end ≡ 0)
+IsFreePart true items start end = (start ≤ end) × (end ≤ length items)
 
 -- start to end lies within what the window stands on; a window on nothing has no items
 abbrev pub IsWithin : {T M : Type 0} → StandsBy T M → ℕ → ℕ → Type 0
-IsWithin (Nothing none) start end = (start ≡ 0) × (end ≡ 0)
-IsWithin (Static items) start end = (start ≤ end) × (end ≤ length items)
-IsWithin (Native block) start end = IsPartOfNative block start end
+IsWithin (Free free) start end = IsFreePart free.there free.items start end
 IsWithin (Block block) start end = IsPartOfBlock block start end
 IsWithin (Raw items) start end = (start ≤ end) × (end ≤ length items)
 

@@ -14,13 +14,12 @@ ghost use Rattle.arc_block.specs.Place.{nowhere, static_data, on_block, moved, I
 ghost use Rattle.arc_block.specs.Table.{reader};
 ghost use Rattle.arc_parts.specs.Window.{window_of, NeedsBlock, IsHeld};
 ghost use Rattle.arc_parts.specs.Window.{parts_of, window_seen, IsWithin};
-ghost use Rattle.arc_parts.specs.Window.{part_of_native, part_of_block};
-ghost use Rattle.arc_parts.specs.Window.{IsPartOfNative, IsPartOfBlock};
+ghost use Rattle.arc_parts.specs.Window.{part_of_block, IsPartOfBlock};
 ghost use Rattle.arc_parts.specs.Steps.{Makes, Begins, EndsShownAt};
 
 use crate::shared_buffer::SharedBuffer;
-use crate::storage::Storage;
-use arc_block::block::{Block, MAX_OWNERS, NativeBlock};
+use crate::storage::{Free, Storage};
+use arc_block::block::{Block, MAX_OWNERS};
 use arc_block::layout::{Layout, stands_on_nothing};
 use arc_block::static_slice::{StaticItems, StaticSlice};
 use arc_buffer::buffer::Buffer;
@@ -36,7 +35,6 @@ pub use vectors::cut_to;
 /// What a reader's parts stand on.
 type PartsStorage<S, B, M, A, H> = Storage<
     <S as Slice>::Item,
-    NativeBlock<S, A, MAX_OWNERS, H>,
     Block<S, B, M, A, MAX_OWNERS, H>,
     SharedBuffer<<S as Slice>::Item, B, A>,
 >;
@@ -88,10 +86,8 @@ impl<S: Slice, B: Buffer<S::Item> + Drop, M: Drop, A: Allocator + Copy, H: Mark>
             alloc,
         } = self;
         match on {
-            Storage::Native(block) => drop(block),
             Storage::Block(block) => drop(block),
-            Storage::Static(items) => drop(items),
-            Storage::Nothing(items) => drop(items),
+            Storage::Free(free) => drop(free),
             Storage::Raw(shared) => drop(shared),
         }
         drop(alloc);
@@ -105,8 +101,8 @@ impl<S: Slice, B: Buffer<S::Item> + Drop, M: Drop, A: Allocator + Copy, H: Mark>
     A,
     H,
 > {
-    /// The part from `start` to before `end` of what is stood on. Of a native block these are the
-    /// numbers of places, of others those of items.
+    /// The part from `start` to before `end` of what is stood on. Of a block these are the numbers of
+    /// places, of others those of items.
     #[inline(always)]
     fn over(on: PartsStorage<S, B, M, A, H>, start: usize, end: usize, alloc: A) -> Self
         requires { IsWithin on start end }
@@ -135,21 +131,8 @@ impl<S: Slice, B: Buffer<S::Item> + Drop, M: Drop, A: Allocator + Copy, H: Mark>
         (on, start, end, alloc)
     }
 
-    /// The part from the place `start` to before the place `end` of a native block.
-    #[inline(always)]
-    pub fn on_native(
-        alloc: A,
-        block: NativeBlock<S, A, MAX_OWNERS, H>,
-        start: usize,
-        end: usize,
-    ) -> Self
-        requires { IsPartOfNative block start end }
-        ensures { result ≡ parts_of (part_of_native block start end) }
-    {
-        Parts::over(Storage::Native(block), start, end, alloc)
-    }
-
-    /// The part from the item `start` to before the item `end` of a block of a caller's making.
+    /// The part from the place `start` to before the place `end` of a block, among those of the
+    /// items that its owner reads.
     #[inline(always)]
     pub fn on_block(
         alloc: A,
@@ -169,7 +152,10 @@ impl<S: Slice, B: Buffer<S::Item> + Drop, M: Drop, A: Allocator + Copy, H: Mark>
         ensures { result ≡ record { items = []; place = nowhere; role = reader } }
     {
         Parts {
-            on: Storage::Nothing(StaticItems::none()),
+            on: Storage::Free(Free {
+                items: StaticItems::none(),
+                there: false,
+            }),
             start: 0,
             end: 0,
             alloc,
@@ -182,7 +168,7 @@ impl<S: Slice, B: Buffer<S::Item> + Drop, M: Drop, A: Allocator + Copy, H: Mark>
     {
         let (items, start, end) = items.into_items();
         Parts {
-            on: Storage::Static(items),
+            on: Storage::Free(Free { items, there: true }),
             start,
             end,
             alloc,
@@ -192,7 +178,7 @@ impl<S: Slice, B: Buffer<S::Item> + Drop, M: Drop, A: Allocator + Copy, H: Mark>
     /// All of a native block that was just made; the pass becomes the block's.
     fn over_new<L: Layout>(
         alloc: A,
-        block: NativeBlock<S, A, MAX_OWNERS, H>,
+        block: Block<S, B, M, A, MAX_OWNERS, H>,
         end: usize,
         new: Pass<H>,
         pass: &mut Pass<H>,
@@ -207,16 +193,16 @@ impl<S: Slice, B: Buffer<S::Item> + Drop, M: Drop, A: Allocator + Copy, H: Mark>
     {
         *pass = new;
         Parts {
-            on: Storage::Native(block),
+            on: Storage::Block(block),
             start: 0,
             end,
             alloc,
         }
     }
 
-    /// All items of a block of a caller's making, of which there are so many.
+    /// All items of a block whose owner reads them from the front on, of which there are so many.
     fn over_all(alloc: A, block: Block<S, B, M, A, MAX_OWNERS, H>, end: usize) -> Self
-        requires all { end ≡ length block.items }
+        requires all { (block.first ≡ 0) × (end ≡ length block.items) }
         requires places { length block.items ≤ block.facts.size }
         ensures { result ≡ record {
           items = block.items;
@@ -260,7 +246,7 @@ impl<S: Slice, B: Buffer<S::Item> + Drop, M: Drop, A: Allocator + Copy, H: Mark>
         if stands_on_nothing::<L>(items.len()) {
             return Ok(Self::on_nothing(alloc));
         }
-        let (block, new) = NativeBlock::try_from_slice(alloc, items)?;
+        let (block, new) = Block::try_from_slice(alloc, items)?;
         Ok(Self::over_new::<L>(alloc, block, items.len(), new, pass))
     }
 
@@ -291,7 +277,7 @@ impl<S: Slice, B: Buffer<S::Item> + Drop, M: Drop, A: Allocator + Copy, H: Mark>
             drop(array);
             return Ok(Self::on_nothing(alloc));
         }
-        let (block, new) = NativeBlock::try_from_array(alloc, array)?;
+        let (block, new) = Block::try_from_array(alloc, array)?;
         Ok(Self::over_new::<L>(alloc, block, end, new, pass))
     }
 
@@ -321,10 +307,8 @@ impl<S: Slice, B: Buffer<S::Item> + Drop, M: Drop, A: Allocator + Copy, H: Mark>
         ensures { result.now ≡ self.now.items }
     {
         match &self.on {
-            Storage::Native(block) => block.range(self.start, self.end),
             Storage::Block(block) => block.range(self.start, self.end),
-            Storage::Static(items) => items.range(self.start, self.end),
-            Storage::Nothing(items) => items.range(self.start, self.end),
+            Storage::Free(free) => free.items.range(self.start, self.end),
             Storage::Raw(shared) => shared.range(self.start, self.end),
         }
     }
@@ -336,10 +320,8 @@ impl<S: Slice, B: Buffer<S::Item> + Drop, M: Drop, A: Allocator + Copy, H: Mark>
         ensures { result.now ≡ self.now.items }
     {
         match &self.on {
-            Storage::Native(block) => block.range(self.start, self.end),
             Storage::Block(block) => block.range(self.start, self.end),
-            Storage::Static(items) => items.range(self.start, self.end),
-            Storage::Nothing(items) => items.range(self.start, self.end),
+            Storage::Free(free) => free.items.range(self.start, self.end),
             // It isn't reached, and reads as the others do, so that all are one read.
             Storage::Raw(shared) => shared.none.range(self.start, self.end),
         }

@@ -24,10 +24,11 @@ impl<
             × IsOwnMetadata B.list B.metadata self.now.items m.now) }
         ensures none { IfNone result (¬ IsCallers self.now.facts.sort) }
     {
-        match self.piece.get() {
-            Content::Buffer(held) => Some(held.buffer.borrow_metadata()),
-            Content::Raw(shared) => Some(shared.borrow_metadata()),
-            Content::Vector(_) => None,
+        match self.given() {
+            Some(Content::Buffer(held)) => Some(held.buffer.borrow_metadata()),
+            Some(Content::Raw(shared)) => Some(shared.borrow_metadata()),
+            Some(Content::Vector(_)) => None,
+            None => None,
         }
     }
 }

@@ -1,70 +1,95 @@
-//! Blocks of a caller's making with one owner, who has the vector of one that is a vector.
+//! Blocks of a caller's making with one owner, who has what lies in them, or the vector of one that
+//! is a vector.
 //!
 //! So its items are read and written by the vector's own code, and nothing is asked of the count.
-//! Meanwhile the memory of the count holds none of them.
-ghost use Rattle.std.specs.Prelude.{◌≡◌, ◌≤◌, true, false, is_ok, IfOk, IfErr};
+//! Meanwhile the block's memory holds none of them.
+ghost use Rattle.std.specs.Prelude.{◌≡◌, ◌≤◌, true, false, [], ◌∷◌, length, is_ok, IfOk, IfErr};
 ghost use Rattle.arc_owners.specs.history.Histories.{Counted};
 ghost use Rattle.arc_owners.specs.count.Calls.{IsFirst, IsPassFor, IsFreshPass, Asks};
 ghost use Rattle.arc_owners.specs.count.Calls.{IsPassOfNone, EndsByItself};
-ghost use Rattle.arc_owners.specs.memory.SoleBoxes.{sole_in, sole_value};
-ghost use Rattle.arc_block.specs.Block.{vector, held_as, IsLimited};
-ghost use Rattle.arc_block.specs.Contents.{held_in};
+ghost use Rattle.arc_owners.specs.memory.SoleCounts.{count_owner};
+ghost use Rattle.arc_memory.specs.Sources.{IsPiece, IsPiece-set};
+ghost use Rattle.arc_block.specs.Block.{native, vector, held_as, IsLimited};
+ghost use Rattle.arc_block.specs.Contents.{held_alone};
 
-use super::{Block, Content};
+use super::{Block, BlockKept, Content, Given};
 use arc_buffer::buffer::Buffer;
 use arc_buffer::kinds::Slice;
-use arc_memory::Native;
+use arc_memory::{Kept, Native, WriterMemory};
 use arc_owners::error::AllocError;
 use arc_owners::mark::Mark;
-use arc_owners::owners::{Pass, SoleBox};
+use arc_owners::owners::{Pass, SoleCount};
 use std::alloc::Allocator;
 use std::mem;
 
-/// The count of a block, with its only owner, who has the block's items elsewhere.
-pub type SoleCount<T, B, M, A, const MAX: u64, H> = SoleBox<Content<T, B, M, A>, A, MAX, H>;
+/// The count of a block of a caller's making by value, with its only owner, and the block's memory:
+/// its one place holds what the caller gave, or nothing, while the owner has that elsewhere. V is
+/// what a counted box holds that is laid there.
+///
+/// Dropped, it gives the memory back, with what lies there, and forgets the owner.
+#[derive(Drop)]
+pub struct SoleCallers<C: Drop, V: Drop, A: Allocator, const MAX: u64, H: Mark> {
+    pub count: SoleCount<MAX, H>,
+    pub memory: WriterMemory<C, V, A>,
+    ghost whole: { memory.places.under.whole ≡ 1 },
+    ghost start: { memory.places.under.start ≡ 0 },
+    ghost piece: { IsPiece memory.source } by { IsPiece-set memory.source },
+}
 
-/// The only owner of a new block that is a vector, with a pass of it, who has the vector.
+/// The only owner of a block of items of the kind `S` that is of a caller's making.
+pub type SoleOf<S, B, M, A, const MAX: u64, H> = SoleCallers<
+    Given<S, B, M, A>,
+    BlockKept<S, B, M, A>,
+    A,
+    MAX,
+    H,
+>;
+
+/// The only owner of a new block that is to be a vector, with a pass of it, who has the vector.
 /// `MAX` is at least 2.
 ///
 /// # Errors
 ///
-/// `AllocError` where memory for the count is refused.
+/// `AllocError` where memory for the block is refused.
 ///
 /// # Allocates
 ///
 /// Once.
-pub fn new_count<T: Drop, B: Drop, M: Drop, A: Allocator + Copy, const MAX: u64, H: Mark>(
+pub fn new_count<C: Drop, V: Drop, A: Allocator, const MAX: u64, H: Mark>(
     alloc: A,
-) -> Result<(SoleCount<T, B, M, A, MAX, H>, Pass<H>), AllocError>
+) -> Result<(SoleCallers<C, V, A, MAX, H>, Pass<H>), AllocError>
     requires { 2 ≤ MAX }
-    ensures made { IfOk result (λ r. IsFirst MAX H.whole Counted (sole_in r.0)) }
-    ensures pass { IfOk result (λ r. IsFreshPass (sole_in r.0) r.1) }
+    ensures made { IfOk result (λ r. IsFirst MAX H.whole Counted (count_owner r.0.count)) }
+    ensures empty { IfOk result (λ r. r.0.memory.places.vec.items ≡ []) }
+    ensures pass { IfOk result (λ r. IsFreshPass (count_owner r.0.count) r.1) }
 {
-    let (_, empty) = Native::of(Vec::new(alloc));
-    match SoleBox::new(alloc, Content::Vector(empty)) {
-        Ok(made) => Ok(made),
-        Err(empty) => {
-            drop(empty);
-            Err(AllocError)
+    match WriterMemory::new(alloc, 1) {
+        Ok(memory) => {
+            let (count, pass) = SoleCount::<MAX, H>::new();
+            Ok((SoleCallers { count, memory }, pass))
         }
+        Err(AllocError) => Err(AllocError),
     }
 }
 
-/// What a drop does: under `Open` the owner ends with a new pass, and its items are dropped; under
-/// `Whole` it is forgotten, and so are its items, which stay where they are. The pass is the one
-/// that the owner ended with; under `Whole` it is of no block.
-pub fn end_sole<T: Drop, B: Drop, M: Drop, A: Allocator + Copy, const MAX: u64, H: Mark>(
-    count: SoleCount<T, B, M, A, MAX, H>,
+/// What a drop does: under `Open` the owner ends with a new pass, and the block's memory goes with
+/// its items; under `Whole` it is forgotten, and so are these, which stay where they are. The pass
+/// is the one that the owner ended with; under `Whole` it is of no block.
+pub fn end_sole<T: Drop, C: Drop, V: Drop, A: Allocator, const MAX: u64, H: Mark>(
+    sole: SoleCallers<C, V, A, MAX, H>,
     items: Vec<T, A>,
 ) -> Pass<H>
     ensures forgotten { H.whole ≡ true → IsPassOfNone result }
-    ensures ended { H.whole ≡ false → EndsByItself (sole_in count) result true }
+    ensures ended { H.whole ≡ false → EndsByItself (count_owner sole.count) result true }
 {
-    let (value, pass) = count.let_go();
-    if value.is_some() {
+    let SoleCallers { count, memory } = sole;
+    let (ended, pass) = count.let_go();
+    if ended {
         drop(items);
+        drop(memory);
     } else {
         mem::forget(items);
+        mem::forget(memory);
     }
     pass
 }
@@ -77,16 +102,51 @@ impl<
     const MAX: u64,
     H: Mark,
 > Block<S, B, M, A, MAX, H> {
+    /// The only owner of the same block, of a caller's making, where no other one lives: in its
+    /// memory lies what the caller gave. Else the block is handed back. Takes no memory.
+    ///
+    /// # History
+    ///
+    /// Alone with the answer.
+    #[tactic(auto, using(crate::proofs::Kept::block_alike, crate::proofs::Kept::laid_room, crate::proofs::Kept::kept_ended))]
+    pub fn try_into_callers_as(
+        self,
+        pass: &mut Pass<H>,
+    ) -> Result<SoleOf<S, B, M, A, MAX, H>, Self>
+        requires pass { IsPassFor self.owner pass.old }
+        requires sort { ¬ (self.facts.sort ≡ native) }
+        ensures entry { Asks self.owner pass.old pass.new (is_ok result) }
+        ensures sole { IfOk result (λ sole. (held_alone B.list B.places S.DROPS
+            (count_owner sole.count) sole.memory.places.vec.items ≡ self)
+            × IsLimited MAX H.whole (count_owner sole.count)) }
+        ensures alone { IfOk result (λ sole. length sole.memory.places.vec.items ≡ 1) }
+        ensures others { IfErr result (λ back. back ≡ self) }
+    {
+        let Block { base, reader, head } = self;
+        match reader.try_into_sole_as(pass) {
+            Ok((sole, ended, _)) => {
+                let (count, room, kept) = sole.take_up();
+                let Kept::Callers(kept) = kept else {
+                    unreachable!()
+                };
+                let memory = kept.regain(ended, room, head);
+                Ok(SoleCallers { count, memory })
+            }
+            Err(reader) => Err(Block { base, reader, head }),
+        }
+    }
+
     /// The same owner of the same block, a vector, which may be shared from now on. It adds no
     /// entry and takes no memory.
-    pub fn of_sole(count: SoleCount<S::Item, B, M, A, MAX, H>, items: Vec<S::Item, A>) -> Self
-        requires { IsLimited MAX H.whole (sole_in count) }
-        ensures { result ≡ held_as vector S.DROPS (sole_in count) items }
+    pub fn of_sole(sole: SoleOf<S, B, M, A, MAX, H>, items: Vec<S::Item, A>) -> Self
+        requires limited { IsLimited MAX H.whole (count_owner sole.count) }
+        requires empty { sole.memory.places.vec.items ≡ [] }
+        ensures { result ≡ held_as vector S.DROPS (count_owner sole.count) items }
     {
-        let mut count = count;
-        let (_, memory) = Native::of(items);
-        drop(mem::replace(count.get_mut(), Content::Vector(memory)));
-        Block::over(count.lend())
+        let SoleCallers { count, mut memory } = sole;
+        let (_, native) = Native::of(items);
+        memory.push_reserved(Content::Vector(native));
+        Block::of_sole_memory(count, memory)
     }
 
     /// The only owner of the same block, a vector, and that, where no other one lives. Else the
@@ -97,58 +157,34 @@ impl<
     /// Alone with the answer.
     pub fn try_into_sole_as(
         self,
-        alloc: A,
         pass: &mut Pass<H>,
-    ) -> Result<(SoleCount<S::Item, B, M, A, MAX, H>, Vec<S::Item, A>), Self>
+    ) -> Result<(SoleOf<S, B, M, A, MAX, H>, Vec<S::Item, A>), Self>
         requires pass { IsPassFor self.owner pass.old }
         requires sort { self.facts.sort ≡ vector }
         ensures entry { Asks self.owner pass.old pass.new (is_ok result) }
-        ensures sole { IfOk result (λ r. (held_as vector S.DROPS (sole_in r.0) r.1 ≡ self)
-            × IsLimited MAX H.whole (sole_in r.0)) }
+        ensures sole { IfOk result (λ r. (held_as vector S.DROPS (count_owner r.0.count) r.1
+            ≡ self) × IsLimited MAX H.whole (count_owner r.0.count)) }
+        ensures empty { IfOk result (λ r. r.0.memory.places.vec.items ≡ []) }
         ensures others { IfErr result (λ back. back ≡ self) }
     {
-        let Block { piece, base, shown } = self;
-        match piece.try_into_sole_as(pass) {
-            Ok(mut count) => {
-                let (_, empty) = Native::of(Vec::new(alloc));
-                let content = mem::replace(count.get_mut(), Content::Vector(empty));
-                Ok((count, content.into_vec()))
+        match self.try_into_callers_as(pass) {
+            Ok(SoleCallers { count, mut memory }) => {
+                let given = memory.take_last();
+                Ok((SoleCallers { count, memory }, given.into_vec()))
             }
-            Err(piece) => Err(Block { piece, base, shown }),
+            Err(block) => Err(block),
         }
     }
 
-    /// The same owner of the same block, a caller's buffer, which may be shared from now on. It
-    /// adds no entry and takes no memory.
-    pub fn of_sole_buffer(count: SoleCount<S::Item, B, M, A, MAX, H>) -> Self
-        requires { IsLimited MAX H.whole (sole_in count) }
-        ensures { result
-            ≡ held_in B.list B.places S.DROPS (sole_in count) (sole_value count) }
+    /// The same owner of the same block, whose memory has what the caller gave, which may be shared
+    /// from now on. It adds no entry and takes no memory.
+    pub fn of_callers(sole: SoleOf<S, B, M, A, MAX, H>) -> Self
+        requires limited { IsLimited MAX H.whole (count_owner sole.count) }
+        requires alone { length sole.memory.places.vec.items ≡ 1 }
+        ensures { result ≡ held_alone B.list B.places S.DROPS (count_owner sole.count)
+            sole.memory.places.vec.items }
     {
-        Block::over(count.lend())
-    }
-
-    /// The only owner of the same block, which keeps its items, where no other one lives. Else the
-    /// block is handed back. Takes no memory.
-    ///
-    /// # History
-    ///
-    /// Alone with the answer.
-    pub fn try_into_sole_buffer_as(
-        self,
-        pass: &mut Pass<H>,
-    ) -> Result<SoleCount<S::Item, B, M, A, MAX, H>, Self>
-        requires pass { IsPassFor self.owner pass.old }
-        ensures entry { Asks self.owner pass.old pass.new (is_ok result) }
-        ensures sole { IfOk result (λ count.
-            (held_in B.list B.places S.DROPS (sole_in count) (sole_value count) ≡ self)
-            × IsLimited MAX H.whole (sole_in count)) }
-        ensures others { IfErr result (λ back. back ≡ self) }
-    {
-        let Block { piece, base, shown } = self;
-        match piece.try_into_sole_as(pass) {
-            Ok(count) => Ok(count),
-            Err(piece) => Err(Block { piece, base, shown }),
-        }
+        let SoleCallers { count, memory } = sole;
+        Block::of_sole_memory(count, memory)
     }
 }
