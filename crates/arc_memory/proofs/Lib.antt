@@ -1,4 +1,5 @@
 pub mod Alone
+pub mod Asked
 pub mod Borrowed
 pub mod Contents
 pub mod Cuts
