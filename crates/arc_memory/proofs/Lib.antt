@@ -18,4 +18,5 @@ pub mod Regained
 pub mod Runs
 pub mod SameVecs
 pub mod SeenItems
+pub mod SeenReads
 pub mod Spots
