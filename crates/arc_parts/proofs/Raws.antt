@@ -74,6 +74,11 @@ module _ {T M : Type 0} (inner : StandsBy T M) (from to : ℕ) (p : PartsView T 
         role = p.role;
       }
   counted_seen b items same made =
+      let make : List T → PartsView T M = λ xs. record {
+        items = xs;
+        place = on_block (Some b.owner) from (raw_info (length all));
+        role = reader;
+      } in
       let P : PartsView T M → Type 0 = λ v.
       parts_of (window_seen (Block b) from to) ≡ record {
         items = v.items;
@@ -81,4 +86,6 @@ module _ {T M : Type 0} (inner : StandsBy T M) (from to : ℕ) (p : PartsView T 
         role = v.role;
       } in
       subst P (sym on_raw_seen) (ap (λ x. parts_of (window_seen (Block x) from to)) made
-      ∙ ap (λ xs. parts_of (window_seen (Block (raw_block {M = M} xs b.owner)) from to)) same)
+      ∙ ap (λ xs. parts_of (window_seen (Block (raw_block {M = M} xs b.owner)) from to)) same
+      ∙ ap (λ n. make (sub all n (to - 0))) (omega arith) ∙ ap (λ n. make (sub all from n))
+      (omega arith))

@@ -5,26 +5,27 @@ use Rattle.arc_owners.specs.count.Calls.{Owner}
 use Rattle.arc_memory.specs.declared.writer_memory.WriterMemory.{WriterMemory}
 use Rattle.arc_buffer.specs.Slice.{sub}
 use Rattle.arc_buffer.proofs.Sub.{length-sub, sub-whole}
-use Rattle.arc_block.specs.Natives.{NativeView, native_info, native_over, native_taken, IsAmong}
+use Rattle.arc_block.specs.Block.{BlockView}
+use Rattle.arc_block.specs.Natives.{native_over, native_taken, IsAmong}
 use Rattle.arc_block.specs.Place.{on_block}
 use Rattle.arc_block.specs.Table.{sole_writer}
-use Rattle.arc_parts.specs.declared.storage.Storage.TheVariants.{Native}
-use Rattle.arc_parts.specs.Window.{PartsView, StandsBy, parts_of, part_of_native, window_seen}
+use Rattle.arc_parts.specs.declared.storage.Storage.TheVariants.{Block}
+use Rattle.arc_parts.specs.Window.{PartsView, StandsBy, parts_of, part_of_block, window_seen}
 use Rattle.arc_parts.specs.Window.{IsWithin}
 use Rattle.arc_parts.specs.SoleParts.{sole_native_part}
 use Rattle.arc_parts.specs.Writers.{writer_capacity, as_sole}
 
-module _ {T A : Type 0} where
+module _ {T V A : Type 0} where
   -- the items of a memory, and the number of the first place
-  abbrev xs : WriterMemory T A → List T
+  abbrev xs : WriterMemory T V A → List T
   xs m = m.places.vec.items
 
-  abbrev first : WriterMemory T A → ℕ
+  abbrev first : WriterMemory T V A → ℕ
   first m = m.places.under.start
 
 -- it has the places that were asked for
-taken-within : {T A : Type 0} (drops : Bool) (o : Owner) (m : WriterMemory T A)
-    (b : NativeView T) (start end : ℕ)
+taken-within : {T M V A : Type 0} (drops : Bool) (o : Owner) (m : WriterMemory T V A)
+    (b : BlockView T M) (start end : ℕ)
     → native_over drops o m ≡ native_taken drops b start end → IsAmong b start end
     → (first m ≤ start) × (start - first m ≤ end - first m) × (end - first m ≤ length (xs m))
 taken-within true o m b start end is among =
@@ -47,20 +48,20 @@ taken-within false o m b start end is among =
 
 module _ {T M : Type 0} where
   -- the part from start to end of a native block's places, as its only owner's
-  abbrev taken-part : (drops : Bool) → NativeView T → (start end : ℕ) → PartsView T M
+  abbrev taken-part : (drops : Bool) → BlockView T M → (start end : ℕ) → PartsView T M
   taken-part drops n start end = record {
     items = sub n.items (start - n.first) (end - n.first);
-    place = on_block (Some n.owner) (n.first + (start - n.first)) (native_info n);
-    role = sole_writer (writer_capacity {M = M} drops (native_info n) (n.first + (start - n.first))
+    place = on_block (Some n.owner) (n.first + (start - n.first)) n.facts;
+    role = sole_writer (writer_capacity {M = M} drops n.facts (n.first + (start - n.first))
         ((end - n.first) - (start - n.first)));
   }
 
-module _ {T M A : Type 0} where
+module _ {T M V A : Type 0} where
   -- and is the writer's part
-  taken-native : (drops : Bool) (o : Owner) (m : WriterMemory T A) (b : NativeView T)
+  taken-native : (drops : Bool) (o : Owner) (m : WriterMemory T V A) (b : BlockView T M)
       (start end at : ℕ) (p : PartsView T M)
       → native_over drops o m ≡ native_taken drops b start end → IsAmong b start end → at ≡ first m
-      → parts_of (part_of_native {M = M} b start end) ≡ p
+      → parts_of (part_of_block {M = M} b start end) ≡ p
       → sole_native_part {M = M} drops o m (start - at) (end - at) ≡ as_sole drops p
   taken-native true o m b start end at p is among begins view =
       let here : b.first + (start - b.first) ≡ start = omega (arith, among.from) in
@@ -72,8 +73,8 @@ module _ {T M A : Type 0} where
       ∙ ap (λ n. taken-part true n start end) is
       ∙ (λ i. record {
         items = sub b.items (start - b.first) (end - b.first);
-        place = on_block (Some b.owner) (here i) (native_info b);
-        role = sole_writer (writer_capacity {M = M} true (native_info b) (here i) (long i));
+        place = on_block (Some b.owner) (here i) b.facts;
+        role = sole_writer (writer_capacity {M = M} true b.facts (here i) (long i));
       })
       ∙ ap (as_sole true) view
   taken-native false o m b start end at p is among begins view =
@@ -90,14 +91,14 @@ module _ {T M A : Type 0} where
       ∙ ap (λ n. taken-part false n start end) is
       ∙ (λ i. record {
         items = items i;
-        place = on_block (Some b.owner) (here i) (native_info b);
-        role = sole_writer (b.size - here i);
+        place = on_block (Some b.owner) (here i) b.facts;
+        role = sole_writer (b.facts.size - here i);
       })
       ∙ ap (as_sole false) view
 
-  module _ (inner : StandsBy T M) (start end : ℕ) (p : PartsView T M) (b : NativeView T)
-      (view : parts_of (window_seen inner start end) ≡ p) (is : inner ≡ Native b)
-      (within : IsWithin inner start end) (drops : Bool) (o : Owner) (m : WriterMemory T A)
+  module _ (inner : StandsBy T M) (start end : ℕ) (p : PartsView T M) (b : BlockView T M)
+      (view : parts_of (window_seen inner start end) ≡ p) (is : inner ≡ Block b)
+      (within : IsWithin inner start end) (drops : Bool) (o : Owner) (m : WriterMemory T V A)
       (taken : native_over drops o m ≡ native_taken drops b start end) (at : ℕ)
       (begins : at ≡ first m) where
     among : IsAmong b start end

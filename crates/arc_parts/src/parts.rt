@@ -18,7 +18,7 @@ ghost use Rattle.arc_parts.specs.Window.{part_of_block, IsPartOfBlock};
 ghost use Rattle.arc_parts.specs.Steps.{Makes, Begins, EndsShownAt};
 
 use crate::shared_buffer::SharedBuffer;
-use crate::storage::{Free, Storage};
+use crate::storage::{FreeItems, Storage};
 use arc_block::block::{Block, MAX_OWNERS};
 use arc_block::layout::{Layout, stands_on_nothing};
 use arc_block::static_slice::{StaticItems, StaticSlice};
@@ -152,7 +152,7 @@ impl<S: Slice, B: Buffer<S::Item> + Drop, M: Drop, A: Allocator + Copy, H: Mark>
         ensures { result ≡ record { items = []; place = nowhere; role = reader } }
     {
         Parts {
-            on: Storage::Free(Free {
+            on: Storage::Free(FreeItems {
                 items: StaticItems::none(),
                 there: false,
             }),
@@ -168,7 +168,7 @@ impl<S: Slice, B: Buffer<S::Item> + Drop, M: Drop, A: Allocator + Copy, H: Mark>
     {
         let (items, start, end) = items.into_items();
         Parts {
-            on: Storage::Free(Free { items, there: true }),
+            on: Storage::Free(FreeItems { items, there: true }),
             start,
             end,
             alloc,

@@ -5,7 +5,7 @@ use arc_block::static_slice::StaticItems;
 
 /// What a window stands on that no owner has.
 #[derive(Drop)]
-pub struct Free<T> {
+pub struct FreeItems<T> {
     pub items: StaticItems<T>,
     /// A slice is there for good. Else there is nothing, and no items.
     pub there: bool,
@@ -20,20 +20,20 @@ pub struct Free<T> {
 #[derive(Drop)]
 pub enum Storage<T, B, R> {
     /// Nothing, or a slice that is there for good.
-    Free(Free<T>),
+    Free(FreeItems<T>),
     /// A block that counts its owners, of any sort.
     Block(B),
     /// An `Arc` that is a block by itself: under layouts that have one.
     Raw(R),
 }
 
-impl<T> Free<T> {
+impl<T> FreeItems<T> {
     /// The same once more.
     #[inline(always)]
     pub fn again(&self) -> Self
         ensures { result ≡ self.now }
     {
-        Free {
+        FreeItems {
             items: self.items.again(),
             there: self.there,
         }
