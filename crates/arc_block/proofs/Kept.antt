@@ -1,9 +1,15 @@
 -- What a block keeps, for readers of the same items, and what its last owner has of it.
-use Rattle.std.proofs.Common.{◌≡◌, ℕ, ◌+◌, Bool, List, [], ◌∷◌, length, sym, ap, ◌∙◌, subst}
+use Rattle.std.proofs.Common.{◌≡◌, ℕ, ◌+◌, Bool, true, List, [], ◌∷◌, length, refl, sym, ap, ◌∙◌}
+use Rattle.std.proofs.Common.{Option, None, Some, subst, arith}
+use Rattle.std.specs.Option.{IfSome}
+use Rattle.std.proofs.lemmas.Bool.{false≢true}
 use denote.RawPtr.{Ptr}
 use Rattle.arc_owners.specs.count.Calls.{Owner}
 use Rattle.arc_owners.specs.declared.mark.Mark.{Ghosts}
-use Rattle.arc_owners.specs.memory.Boxes.{owner_in, value_of, place_in}
+use Rattle.arc_owners.specs.declared.lifetime.EndedLifetime.{EndedLifetime}
+use Rattle.arc_owners.specs.declared.memory.header_room.HeaderRoom.{HeaderRoom}
+use Rattle.arc_owners.specs.memory.Boxes.{value_of, place_in}
+use Rattle.arc_memory.specs.declared.frozen_places.FrozenPlaces.{FrozenPlaces}
 use Rattle.arc_memory.specs.declared.frozen_reader.FrozenReader.{FrozenReader}
 use Rattle.arc_memory.specs.declared.kept.Kept.{Kept}
 use Rattle.arc_memory.specs.declared.kept.Kept.TheVariants.{Places, Items, Callers}
@@ -11,10 +17,12 @@ use Rattle.arc_memory.specs.declared.kept_items.KeptItems.{KeptItems}
 use Rattle.arc_memory.specs.declared.seen.Seen.{Seen}
 use Rattle.arc_memory.specs.KeptPlaces.{kept_memory, kept_place, kept_head, IsRoomFor}
 use Rattle.arc_memory.specs.SeenItems.{shown_alone}
-use Rattle.arc_block.specs.Block.{BlockView}
-use Rattle.arc_block.specs.Contents.{content_items, alone_info, held_in}
+use Rattle.arc_memory.specs.WriterParts.{IsRangeOf}
+use Rattle.arc_block.specs.Block.{BlockView, Sort, native, vector, buffer, raw}
+use Rattle.arc_block.specs.Contents.{content_items, content_info, alone_info, held_in}
 use Rattle.arc_block.specs.declared.block.content.Content.{Content}
-use Rattle.arc_block.specs.Kept.{IsKeptFor, IsBlockOf, kept_info, block_seen}
+use Rattle.arc_block.specs.declared.block.content.Content.TheVariants.{Vector, Buffer, Raw}
+use Rattle.arc_block.specs.Kept.{IsKeptFor, IsNativeKept, IsBlockOf, kept_info}
 
 -- what is laid in the room of a piece's header
 module _ {T C A : Type 0} (place place' : Ptr) (head head' : ℕ × ℕ) (kept kept' : Kept T C A) where
@@ -41,6 +49,27 @@ module _ {T C A : Type 0} (show : C → List T) (drops : Bool) (seen : Seen T C)
       → kept' ≡ kept → IsKeptFor show drops seen kept → (kept_memory kept').lifetime ≡ ended
   kept_ended ended is kept kept' same keeps =
       ap (λ k. (kept_memory k).lifetime) same ∙ kept_lasts kept keeps ∙ sym is
+
+-- what the last owner gave out, if it was the last one
+module _ {T C A X : Type 0} (kept : Kept T C A) where
+  -- the lifetime has ended for which it was lent
+  pub given_ended : (show : C → List T) (drops : Bool) (seen : Seen T C)
+      → IsKeptFor show drops seen kept
+      → (last : Option (Kept T C A × HeaderRoom X × EndedLifetime))
+      → IfSome last (λ r. r.0 ≡ kept) → IfSome last (λ r. r.2.lifetime ≡ seen.memory.lifetime)
+      → IfSome last (λ r. (kept_memory r.0).lifetime ≡ r.2.lifetime)
+  given_ended show drops seen keeps None same ended = tt
+  given_ended show drops seen keeps (Some r) same ended =
+      kept_ended show drops seen r.2.lifetime ended kept r.0 same keeps
+
+  -- the room in which it lay is that of the piece's header
+  pub given_room : (place : Ptr) (head : ℕ × ℕ) → IsRoomFor place head kept
+      → (last : Option (Kept T C A × HeaderRoom X × EndedLifetime))
+      → IfSome last (λ r. r.0 ≡ kept) → IfSome last (λ r. r.1.at ≡ place)
+      → IfSome last (λ r. IsRoomFor r.1.at head r.0)
+  given_room place head laid None same there = tt
+  given_room place head laid (Some r) same there =
+      laid_room place r.1.at head kept r.0 same there laid
 
 module _ {T C A Z H : Type 0} {MAX : ℕ} {G : Ghosts H} (show : C → List T) (drops : Bool)
     (r r' : FrozenReader T C (Kept T C A) Z MAX H G) (head head' : ℕ × ℕ) where
@@ -83,3 +112,70 @@ module _ {T B M A : Type 0} (list : B → List T) (places : B → ℕ) (drops : 
       ∙ ap (shown_alone (content_items list)) is)
       ∙ ap (λ n. make (content_items list given) n kept.full.items) keeps.2
       ∙ ap (make (content_items list given) 0) is
+
+module _ {T C A : Type 0} (show : C → List T) (drops : Bool) (range : FrozenPlaces T)
+    (seen : Seen T C) where
+  -- what is kept for these places is so for who reads them
+  range-kept : (kept : Kept T C A) → IsRangeOf range seen → IsNativeKept drops range kept
+      → IsKeptFor show drops seen kept
+  range-kept (Places kept) same keeps = (keeps.0, same.0, keeps.1 ∙ sym same.1)
+  range-kept (Items kept) same keeps =
+      (keeps.0, same.0, keeps.1 ∙ sym same.1, same.2 ∙ keeps.2, keeps.3 ∙ sym same.3)
+  range-kept (Callers kept) same keeps = absurd keeps
+
+  pub range_kept : (kept kept' : Kept T C A) → kept' ≡ kept → IsRangeOf range seen
+      → IsNativeKept drops range kept → IsKeptFor show drops seen kept'
+  range_kept kept kept' is same keeps =
+      subst (λ k. IsKeptFor show drops seen k) (sym is) (range-kept kept same keeps)
+
+  kept-range : (kept : Kept T C A) → seen.native ≡ true → range.memory ≡ seen.memory
+      → range.start ≡ seen.start → range.items ≡ seen.items → IsKeptFor show drops seen kept
+      → IsNativeKept drops range kept
+  kept-range (Places kept) sort memory start items keeps = (keeps.0, keeps.2 ∙ sym memory)
+  kept-range (Items kept) sort memory start items keeps =
+      (keeps.0, keeps.2 ∙ sym memory, start ∙ keeps.3, keeps.4 ∙ sym items)
+  kept-range (Callers kept) sort memory start items keeps =
+      absurd (false≢true (sym keeps.0 ∙ sort))
+
+  -- and the other way about
+  pub kept_range : (kept kept' : Kept T C A) → kept' ≡ kept → seen.native ≡ true
+      → range.memory ≡ seen.memory → range.start ≡ seen.start → range.items ≡ seen.items
+      → IsKeptFor show drops seen kept → IsNativeKept drops range kept'
+  kept_range kept kept' is sort memory start items keeps =
+      subst (λ k. IsNativeKept drops range k) (sym is)
+      (kept-range kept sort memory start items keeps)
+
+-- a sort that is the native one
+abbrev IsNative : Sort → Type 0
+IsNative native = Unit {0}
+IsNative vector = ⊥
+IsNative (buffer writable) = ⊥
+IsNative raw = ⊥
+
+module _ {T B M A : Type 0} (list : B → List T) (places : B → ℕ) (drops : Bool) where
+  not-native : (given : Content T B M A) → (content_info list places drops given).sort ≡ native → ⊥
+  not-native (Vector memory) is = subst IsNative (sym is) tt
+  not-native (Buffer held) is = subst IsNative (sym is) tt
+  not-native (Raw shared) is = subst IsNative (sym is) tt
+
+  none-alone : (given : List (Content T B M A)) → length given ≡ 1
+      → (alone_info list places drops given).sort ≡ native → ⊥
+  none-alone [] long is = subst IsNative (sym is) tt
+  none-alone (given ∷ others) long is = not-native given is
+
+  -- a native block reads places of ours
+  pub reads_ours : (seen : Seen T (Content T B M A)) (kept : Kept T (Content T B M A) A)
+      → (kept_info list places drops seen kept).sort ≡ native
+      → IsKeptFor (content_items list) drops seen kept → seen.native ≡ true
+  reads_ours seen (Places kept) sort keeps = keeps.1
+  reads_ours seen (Items kept) sort keeps = keeps.1
+  reads_ours seen (Callers kept) sort keeps = absurd (none-alone kept.full.items keeps.3 sort)
+
+  -- a block of a caller's making keeps what the caller gave
+  pub is_callers : (seen : Seen T (Content T B M A)) (kept kept' : Kept T (Content T B M A) A)
+      → kept' ≡ kept → IsKeptFor (content_items list) drops seen kept
+      → ((kept_info list places drops seen kept).sort ≡ native → ⊥)
+      → ((k : KeptItems (Content T B M A) A) → kept' ≡ Callers k → ⊥) → ⊥
+  is_callers seen (Places kept) kept' is keeps other none = other refl
+  is_callers seen (Items kept) kept' is keeps other none = other refl
+  is_callers seen (Callers kept) kept' is keeps other none = none kept is

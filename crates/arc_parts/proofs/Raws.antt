@@ -10,6 +10,7 @@ use Rattle.arc_buffer.proofs.Sub.{sub-sub, sub-whole, length-sub}
 use Rattle.arc_block.specs.Block.{Sort, BlockView, raw, raw_info, raw_block}
 use Rattle.arc_block.specs.Layouts.{LayoutFacts}
 use Rattle.arc_block.specs.Place.{Place, nowhere, on_block, part_place, owned_by}
+use Rattle.arc_block.specs.Table.{reader}
 use Rattle.arc_parts.specs.declared.storage.Storage.TheVariants.{Block, Raw}
 use Rattle.arc_parts.specs.Window.{PartsView, StandsBy, parts_of, window_seen, IsWithin, IsHeld}
 use Rattle.arc_parts.specs.Window.{IsAllFull, IsRawWhole}
