@@ -17,9 +17,10 @@ use Rattle.arc_memory.specs.declared.kept_items.KeptItems.{KeptItems}
 use Rattle.arc_memory.specs.declared.seen.Seen.{Seen}
 use Rattle.arc_memory.specs.KeptPlaces.{kept_memory, kept_place, kept_head, IsRoomFor}
 use Rattle.arc_memory.specs.SeenItems.{shown_alone}
+use Rattle.arc_memory.specs.PieceParts.{IsRoomOf}
 use Rattle.arc_memory.specs.WriterParts.{IsRangeOf}
-use Rattle.arc_block.specs.Block.{BlockView, Sort, native, vector, buffer, raw}
-use Rattle.arc_block.specs.Contents.{content_items, content_info, alone_info, held_in}
+use Rattle.arc_block.specs.Block.{BlockInfo, BlockView, Sort, native, vector, buffer, raw}
+use Rattle.arc_block.specs.Contents.{content_items, content_info, alone_info, held_in, held_alone}
 use Rattle.arc_block.specs.declared.block.content.Content.{Content}
 use Rattle.arc_block.specs.declared.block.content.Content.TheVariants.{Vector, Buffer, Raw}
 use Rattle.arc_block.specs.Kept.{IsKeptFor, IsNativeKept, IsBlockOf, kept_info}
@@ -179,3 +180,53 @@ module _ {T B M A : Type 0} (list : B → List T) (places : B → ℕ) (drops : 
   is_callers seen (Places kept) kept' is keeps other none = other refl
   is_callers seen (Items kept) kept' is keeps other none = other refl
   is_callers seen (Callers kept) kept' is keeps other none = none kept is
+
+-- what lies in a block of a caller's making
+module _ {T C A : Type 0} (show : C → List T) (drops : Bool) (seen : Seen T C)
+    (value : Kept T C A) (k : KeptItems C A) (is : value ≡ Callers k)
+    (keeps : IsKeptFor show drops seen value) where
+  there : IsKeptFor show drops seen (Callers k)
+  there = subst (λ v. IsKeptFor show drops seen v) is keeps
+
+  -- the lifetime has ended for which it was lent
+  pub callers_ended : (ended : ℕ) → ended ≡ seen.memory.lifetime
+      → ended ≡ k.kept.inheritance.memory.lifetime
+  callers_ended ended same = same ∙ sym there.1
+
+  -- it lies alone
+  pub callers_alone : (xs : List C) → xs ≡ k.full.items → length xs ≡ 1
+  callers_alone xs same = ap length same ∙ there.3
+
+-- the room in which it lay is that of its piece's header
+pub callers_room : {T C A X : Type 0} (place : Ptr) (head : ℕ × ℕ) (value : Kept T C A)
+    (k : KeptItems C A) (room : HeaderRoom X) → value ≡ Callers k → room.at ≡ place
+    → IsRoomFor place head value → IsRoomOf room head k.kept.piece
+callers_room place head value k room is there laid =
+    (there ∙ laid.0 ∙ ap kept_place is, laid.1 ∙ ap kept_head is)
+
+-- the only owner sees what was seen
+module _ {T B M A : Type 0} (list : B → List T) (places : B → ℕ) (drops : Bool)
+    (seen : Seen T (Content T B M A)) (value : Kept T (Content T B M A) A)
+    (k : KeptItems (Content T B M A) A) (is : value ≡ Callers k)
+    (keeps : IsKeptFor (content_items list) drops seen value) where
+  pub callers_seen : (owner owner' : Owner) → owner' ≡ owner → (xs : List (Content T B M A))
+      → xs ≡ k.full.items → held_alone list places drops owner' xs ≡ record {
+        owner = owner;
+        items = seen.items;
+        first = seen.start;
+        facts = kept_info list places drops seen value;
+      }
+  callers_seen owner owner' same xs all =
+      let lies = subst (λ v. IsKeptFor (content_items list) drops seen v) is keeps in
+      let make : Owner → List T → ℕ → BlockInfo M → BlockView T M = λ o ys n info. record {
+        owner = o;
+        items = ys;
+        first = n;
+        facts = info;
+      } in
+      ap (held_alone list places drops owner') all
+      ∙ ap (λ o. held_alone list places drops o k.full.items) same
+      ∙ ap (λ ys. make owner ys 0 (alone_info list places drops k.full.items)) lies.4
+      ∙ ap (λ n. make owner seen.items n (alone_info list places drops k.full.items)) (sym lies.2)
+      ∙ ap (λ v. make owner seen.items seen.start (kept_info list places drops seen v)) (sym is)
+
