@@ -20,7 +20,8 @@ ghost use Rattle.arc_sort_writers.specs.SortParts.{CanGrowNative};
 ghost use Rattle.arc_parts.specs.Window.{IsOfBuffer};
 ghost use Rattle.arc_parts.specs.Shared.{is_vector_at};
 
-use arc_block::block::{MAX_OWNERS, NativeCount};
+use arc_block::block::{BlockKept, MAX_OWNERS, NativeCount};
+use arc_buffer::buffer::Buffer;
 use arc_buffer::kinds::{Slice, Zeroable};
 use arc_memory::WriterMemory;
 use arc_owners::error::{AllocError, TryReserveError};
@@ -36,10 +37,16 @@ use std::marker::{Model, PhantomData};
 /// or on nothing: the items, where they stand, and how many places they have.
 ///
 /// Dropped, they end as a window does.
-pub struct SoleNative<S: Slice, M: Drop = (), A: Allocator + Copy = Global, H: Mark = Open> {
+pub struct SoleNative<
+    S: Slice,
+    B: Buffer<S::Item> + Drop = Vec<<S as Slice>::Item>,
+    M: Drop = (),
+    A: Allocator + Copy = Global,
+    H: Mark = Open,
+> {
     // None where they stand on nothing: then there are no places.
     count: Option<NativeCount<MAX_OWNERS, H>>,
-    memory: WriterMemory<S::Item, A>,
+    memory: WriterMemory<S::Item, BlockKept<S, B, M, A>, A>,
     start: usize,
     // How many items lie behind these in the memory: those that were cut off, where they are
     // dropped one by one, and else none. So a push has no end to move.
@@ -52,7 +59,8 @@ pub struct SoleNative<S: Slice, M: Drop = (), A: Allocator + Copy = Global, H: M
     marker: PhantomData<M>,
 }
 
-impl<S: Slice, M: Drop, A: Allocator + Copy, H: Mark> Model for SoleNative<S, M, A, H> {
+impl<S: Slice, B: Buffer<S::Item> + Drop, M: Drop, A: Allocator + Copy, H: Mark> Model
+    for SoleNative<S, B, M, A, H> {
     ghost use Rattle.std.specs.Prelude.{◌-◌, length};
     ghost use Rattle.std.specs.Option.{option_map};
     ghost use Rattle.arc_owners.specs.memory.SoleCounts.{count_owner};
@@ -70,7 +78,8 @@ impl<S: Slice, M: Drop, A: Allocator + Copy, H: Mark> Model for SoleNative<S, M,
         × CanLeave S.DROPS (option_map count_owner p.count) p.memory p.beyond };
 }
 
-impl<S: Slice, M: Drop, A: Allocator + Copy, H: Mark> Drop for SoleNative<S, M, A, H> {
+impl<S: Slice, B: Buffer<S::Item> + Drop, M: Drop, A: Allocator + Copy, H: Mark> Drop
+    for SoleNative<S, B, M, A, H> {
     fn drop(self)
         ensures ended { H.whole ≡ false → EndsShownAt H H.real self.place }
     {
@@ -93,7 +102,10 @@ impl<S: Slice, M: Drop, A: Allocator + Copy, H: Mark> Drop for SoleNative<S, M, 
 
 /// Where a window's items end among those of its memory, where so many lie behind them.
 #[inline(always)]
-fn end_in<S: Slice, A: Allocator>(memory: &WriterMemory<S::Item, A>, behind: usize) -> usize
+fn end_in<S: Slice, V: Drop, A: Allocator>(
+    memory: &WriterMemory<S::Item, V, A>,
+    behind: usize,
+) -> usize
     requires inside { behind ≤ length memory.now.places.vec.items }
     requires none { S.DROPS ≡ false → behind ≡ 0 }
     ensures { result ≡ length memory.now.places.vec.items - behind }
@@ -105,7 +117,13 @@ fn end_in<S: Slice, A: Allocator>(memory: &WriterMemory<S::Item, A>, behind: usi
     }
 }
 
-impl<S: Slice, M: Drop, A: Allocator + Copy, H: Mark> SoleNative<S, M, A, H> {
+impl<S: Slice, B: Buffer<S::Item> + Drop, M: Drop, A: Allocator + Copy, H: Mark> SoleNative<
+    S,
+    B,
+    M,
+    A,
+    H,
+> {
     /// No items and no places, on nothing.
     pub fn on_nothing(alloc: A) -> Self
         ensures { result ≡ record { items = []; place = nowhere; role = sole_writer 0 } }
@@ -156,7 +174,7 @@ impl<S: Slice, M: Drop, A: Allocator + Copy, H: Mark> SoleNative<S, M, A, H> {
     pub fn len(&self) -> usize
         ensures { result ≡ length self.now.items }
     {
-        end_in::<S, A>(&self.memory, self.behind) - self.start
+        end_in::<S, BlockKept<S, B, M, A>, A>(&self.memory, self.behind) - self.start
     }
 
     /// The items.
@@ -164,7 +182,7 @@ impl<S: Slice, M: Drop, A: Allocator + Copy, H: Mark> SoleNative<S, M, A, H> {
     pub fn as_slice(&self) -> &[S::Item]
         ensures { result.now ≡ self.now.items }
     {
-        let end = end_in::<S, A>(&self.memory, self.behind);
+        let end = end_in::<S, BlockKept<S, B, M, A>, A>(&self.memory, self.behind);
         &self.memory.as_slice()[self.start..end]
     }
 
@@ -338,7 +356,7 @@ impl<S: Slice, M: Drop, A: Allocator + Copy, H: Mark> SoleNative<S, M, A, H> {
     }
 
     /// All items of this memory, which becomes that of a new block. The pass becomes the block's.
-    fn on_new(alloc: A, memory: WriterMemory<S::Item, A>, pass: &mut Pass<H>) -> Self
+    fn on_new(alloc: A, memory: WriterMemory<S::Item, BlockKept<S, B, M, A>, A>, pass: &mut Pass<H>) -> Self
         requires start { memory.places.under.start ≡ 0 }
         requires block { IsPiece memory.source }
         ensures { IsWriterOver Counted native S.DROPS H.whole memory.places.vec.items
@@ -362,7 +380,7 @@ impl<S: Slice, M: Drop, A: Allocator + Copy, H: Mark> SoleNative<S, M, A, H> {
     pub fn over(
         alloc: A,
         count: NativeCount<MAX_OWNERS, H>,
-        memory: WriterMemory<S::Item, A>,
+        memory: WriterMemory<S::Item, BlockKept<S, B, M, A>, A>,
         start: usize,
         end: usize,
     ) -> Self

@@ -17,7 +17,7 @@ ghost use Rattle.arc_parts.specs.Window.{IsVecPart, IsBoxWhole};
 ghost use Rattle.arc_block.specs.Moves.{IsRefused, layout_move};
 
 use super::{SoleNative, end_in};
-use arc_block::block::{MAX_OWNERS, NativeBlock, NativeCount};
+use arc_block::block::{Block, BlockKept, MAX_OWNERS, NativeCount};
 use arc_block::layout::Layout;
 use arc_buffer::buffer::{BorrowMetadata, Buffer};
 use arc_buffer::kinds::Slice;
@@ -30,9 +30,9 @@ use std::marker::PhantomData;
 use std::mem;
 
 /// The fields of a sole writer's parts on a native block but the marker, in their order.
-type NativeFields<T, A, H> = (
+type NativeFields<T, V, A, H> = (
     Option<NativeCount<MAX_OWNERS, H>>,
-    WriterMemory<T, A>,
+    WriterMemory<T, V, A>,
     usize,
     usize,
     usize,
@@ -42,9 +42,9 @@ type NativeFields<T, A, H> = (
 /// What a drop does: under `Open` the owner ends with a new pass, and its items are dropped; under
 /// `Whole` it is forgotten, and so are its items, which stay where they are. The pass is the one
 /// that the owner ended with; under `Whole` it is of no block.
-pub(super) fn end_native<T: Drop, A: Allocator + Copy, const MAX: u64, H: Mark>(
+pub(super) fn end_native<T: Drop, V: Drop, A: Allocator + Copy, const MAX: u64, H: Mark>(
     count: NativeCount<MAX, H>,
-    memory: WriterMemory<T, A>,
+    memory: WriterMemory<T, V, A>,
 ) -> Pass<H>
     ensures forgotten { H.whole ≡ true → IsPassOfNone result }
     ensures ended { H.whole ≡ false → EndsByItself (count_owner count) result true }
@@ -58,10 +58,16 @@ pub(super) fn end_native<T: Drop, A: Allocator + Copy, const MAX: u64, H: Mark>(
     pass
 }
 
-impl<S: Slice, M: Drop, A: Allocator + Copy, H: Mark> SoleNative<S, M, A, H> {
+impl<S: Slice, B: Buffer<S::Item> + Drop, M: Drop, A: Allocator + Copy, H: Mark> SoleNative<
+    S,
+    B,
+    M,
+    A,
+    H,
+> {
     /// The fields but the marker, in their order.
     #[inline(always)]
-    fn into_fields(self) -> NativeFields<S::Item, A, H>
+    fn into_fields(self) -> NativeFields<S::Item, BlockKept<S, B, M, A>, A, H>
         ensures within { IsNativeWithin S.DROPS H.whole (option_map count_owner result.0)
             result.1 result.2 result.3 }
         ensures left { CanLeave S.DROPS (option_map count_owner result.0) result.1 result.4 }
@@ -83,7 +89,7 @@ impl<S: Slice, M: Drop, A: Allocator + Copy, H: Mark> SoleNative<S, M, A, H> {
 
     /// The same items and places, which others may read from now on. It adds nothing and takes no
     /// memory.
-    pub fn freeze<B: Buffer<S::Item> + Drop>(self) -> Parts<S, B, M, A, H>
+    pub fn freeze(self) -> Parts<S, B, M, A, H>
         ensures { result ≡ as_reader self }
     {
         let SoleNative {
@@ -98,9 +104,9 @@ impl<S: Slice, M: Drop, A: Allocator + Copy, H: Mark> SoleNative<S, M, A, H> {
         match count {
             Some(count) => {
                 let first = memory.start();
-                let end = first + end_in::<S, A>(&memory, behind);
-                let block = NativeBlock::of_sole(count, memory);
-                Parts::on_native(alloc, block, first + start, end)
+                let end = first + end_in::<S, BlockKept<S, B, M, A>, A>(&memory, behind);
+                let block = Block::of_sole_native(count, memory);
+                Parts::on_block(alloc, block, first + start, end)
             }
             None => {
                 drop(memory);
@@ -120,7 +126,7 @@ impl<S: Slice, M: Drop, A: Allocator + Copy, H: Mark> SoleNative<S, M, A, H> {
     /// # Allocates
     ///
     /// On nothing, where the layout has no static data.
-    pub fn try_freeze_as<L: Layout, B: Buffer<S::Item> + Drop>(
+    pub fn try_freeze_as<L: Layout>(
         self,
         pass: &mut Pass<H>,
     ) -> Result<Parts<S, B, M, A, H>, Self>
@@ -176,7 +182,9 @@ impl<S: Slice, M: Drop, A: Allocator + Copy, H: Mark> SoleNative<S, M, A, H> {
     }
 
     /// None: nothing of a caller's lies there.
-    pub fn borrowed_metadata<B: Buffer<S::Item> + BorrowMetadata>(&self) -> Option<&B::Metadata>
+    pub fn borrowed_metadata(&self) -> Option<&B::Metadata>
+    where
+        B: BorrowMetadata,
         ensures some { IfSome result (λ m.
             IsMetadataAt B.list B.metadata self.now.place self.now.items m.now) }
         ensures none { IfNone result (¬ IsOnCallers self.now.place) }
@@ -312,7 +320,13 @@ impl<S: Slice, M: Drop, A: Allocator + Copy, H: Mark> SoleNative<S, M, A, H> {
     }
 }
 
-impl<S: Slice, M: Drop, A: Allocator + Copy, H: Stepping> SoleNative<S, M, A, H> {
+impl<S: Slice, B: Buffer<S::Item> + Drop, M: Drop, A: Allocator + Copy, H: Stepping> SoleNative<
+    S,
+    B,
+    M,
+    A,
+    H,
+> {
     /// A new pass of the block, which has seen at least how this owner became one, and made
     /// nothing; on no block a pass of none. It adds nothing.
     pub fn pass(&self) -> Pass<H>

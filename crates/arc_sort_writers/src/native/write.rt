@@ -8,6 +8,8 @@ ghost use Rattle.arc_parts.specs.Writers.{capacity_of, room_for, MakesRoom, Push
 ghost use Rattle.arc_parts.specs.Writers.{with_more, after_advance, after_truncate};
 
 use super::{SoleNative, end_in};
+use arc_block::block::BlockKept;
+use arc_buffer::buffer::Buffer;
 use arc_buffer::kinds::Slice;
 use arc_owners::error::TryReserveError;
 use arc_owners::mark::Mark;
@@ -15,7 +17,13 @@ use arc_owners::owners::Pass;
 use arc_parts::room::Room;
 use std::alloc::Allocator;
 
-impl<S: Slice, M: Drop, A: Allocator + Copy, H: Mark> SoleNative<S, M, A, H> {
+impl<S: Slice, B: Buffer<S::Item> + Drop, M: Drop, A: Allocator + Copy, H: Mark> SoleNative<
+    S,
+    B,
+    M,
+    A,
+    H,
+> {
     ghost use Rattle.arc_sort_writers.specs.Lends.{lends_native_items};
 
     /// The items, to be changed in their places: what is written there they are afterwards.
@@ -25,7 +33,7 @@ impl<S: Slice, M: Drop, A: Allocator + Copy, H: Mark> SoleNative<S, M, A, H> {
             S.TryFromSliceError.row H.Mark S.Slice A.Allocator self.entry result) }
         ensures value { result.now ≡ self.old.items }
     {
-        let end = end_in::<S, A>(&self.memory, self.behind);
+        let end = end_in::<S, BlockKept<S, B, M, A>, A>(&self.memory, self.behind);
         self.memory.as_mut_part(self.start, end)
     }
 
@@ -112,7 +120,7 @@ impl<S: Slice, M: Drop, A: Allocator + Copy, H: Mark> SoleNative<S, M, A, H> {
         let Some(end) = self.start.checked_add(len) else {
             return;
         };
-        if end_in::<S, A>(&self.memory, self.behind) <= end {
+        if end_in::<S, BlockKept<S, B, M, A>, A>(&self.memory, self.behind) <= end {
             return;
         }
         if S::DROPS {
@@ -123,7 +131,13 @@ impl<S: Slice, M: Drop, A: Allocator + Copy, H: Mark> SoleNative<S, M, A, H> {
     }
 }
 
-impl<S: Slice, M: Drop, A: Allocator + Copy, H: Mark> SoleNative<S, M, A, H>
+impl<S: Slice, B: Buffer<S::Item> + Drop, M: Drop, A: Allocator + Copy, H: Mark> SoleNative<
+    S,
+    B,
+    M,
+    A,
+    H,
+>
 where
     S::Item: Copy,
 {

@@ -2,7 +2,7 @@
 ghost use Rattle.std.specs.Prelude.{◌≡◌, ◌↔◌, ℕ, true, false, IfOk, IfErr, IsTrue, IfSome, IfNone};
 ghost use Rattle.std.specs.Prelude.{Some, None};
 ghost use Rattle.arc_owners.specs.count.Calls.{Leaves, Learns, IsNewPass, IsPassOfNone, SeesAlone};
-ghost use Rattle.arc_owners.specs.memory.SoleBoxes.{sole_in};
+ghost use Rattle.arc_owners.specs.memory.SoleCounts.{count_owner};
 ghost use Rattle.arc_block.specs.LayoutFacts.{layout_facts};
 ghost use Rattle.arc_block.specs.Metadata.{IsMetadataAt, IsOnCallers};
 ghost use Rattle.arc_block.specs.Place.{at_owner, metadata_at, IsOnBlock};
@@ -15,7 +15,7 @@ ghost use Rattle.arc_parts.specs.SoleParts.{vector_part};
 ghost use Rattle.arc_sort_writers.specs.SortParts.{IsVectorWithin};
 
 use super::{SoleVector, VectorFields};
-use arc_block::block::{Block, end_sole};
+use arc_block::block::{Block, SoleCallers, end_sole};
 use arc_block::layout::Layout;
 use arc_buffer::buffer::{BorrowMetadata, Buffer};
 use arc_buffer::kinds::Slice;
@@ -33,9 +33,12 @@ impl<S: Slice, B: Buffer<S::Item> + Drop, M: Drop, A: Allocator + Copy, H: Mark>
 > {
     /// The count, the vector, from where to before where of it the items are, and the allocator.
     #[inline(always)]
-    pub(super) fn into_memory(self) -> VectorFields<S::Item, B, M, A, H>
-        ensures within { IsVectorWithin S.DROPS H.whole (sole_in result.0) result.1 result.2 result.3 }
-        ensures parts { self ≡ vector_part S.DROPS (sole_in result.0) result.1 result.2 result.3 }
+    pub(super) fn into_memory(self) -> VectorFields<S, B, M, A, H>
+        ensures within { IsVectorWithin S.DROPS H.whole (count_owner result.0.count) result.1 result.2
+            result.3 }
+        ensures empty { result.0.memory.places.vec.items ≡ [] }
+        ensures parts { self ≡ vector_part S.DROPS (count_owner result.0.count) result.1 result.2
+            result.3 }
     {
         let SoleVector {
             count,
@@ -152,8 +155,10 @@ impl<S: Slice, B: Buffer<S::Item> + Drop, M: Drop, A: Allocator + Copy, H: Mark>
             Leaves o pass.old pass.new true) }
     {
         let (count, items, _, _, _) = self.into_memory();
-        drop(count.into_value_as(pass));
+        let SoleCallers { count, memory } = count;
+        count.end_as(pass);
         drop(items);
+        drop(memory);
     }
 
     /// What a drop does: under `Open` the owner ends with a new pass, and the block is given back
@@ -178,7 +183,7 @@ impl<S: Slice, B: Buffer<S::Item> + Drop, M: Drop, A: Allocator + Copy, H: Mark>
         ensures { at_owner self.now.place (pass.new ≡ pass.old) (λ o.
             SeesAlone o pass.old pass.new) }
     {
-        self.count.only(pass);
+        self.count.count.only(pass);
     }
 
     /// Afterwards the first pass has seen at least what the other had. It adds nothing.
@@ -188,7 +193,7 @@ impl<S: Slice, B: Buffer<S::Item> + Drop, M: Drop, A: Allocator + Copy, H: Mark>
         ensures { at_owner self.now.place (pass.new ≡ pass.old) (λ o.
             Learns o.block pass.old other.now pass.new) }
     {
-        self.count.learn(pass, other);
+        self.count.count.learn(pass, other);
     }
 }
 
@@ -204,6 +209,6 @@ impl<S: Slice, B: Buffer<S::Item> + Drop, M: Drop, A: Allocator + Copy, H: Stepp
     pub fn pass(&self) -> Pass<H>
         ensures { at_owner self.now.place (IsPassOfNone result) (λ o. IsNewPass o result) }
     {
-        self.count.pass()
+        self.count.count.pass()
     }
 }
