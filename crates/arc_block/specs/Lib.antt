@@ -12,3 +12,4 @@ pub mod Unique
 pub mod Moves
 pub mod LendsBuffers
 pub mod Metadata
+pub mod SoleCallers

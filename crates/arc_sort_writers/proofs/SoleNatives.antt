@@ -14,10 +14,10 @@ use Rattle.arc_memory.specs.WriterMemories.{SameMemory}
 use Rattle.arc_buffer.specs.Slice.{sub}
 use Rattle.arc_buffer.proofs.Sub.{length-sub, sub-whole}
 use Rattle.arc_block.specs.Block.{native, memory_info}
-use Rattle.arc_block.specs.Natives.{NativeView, native_info, native_over}
+use Rattle.arc_block.specs.Natives.{native_over}
 use Rattle.arc_block.specs.Place.{Place, IsOnBlock, on_block, size_at}
 use Rattle.arc_block.specs.Table.{reader, sole_writer}
-use Rattle.arc_parts.specs.Window.{PartsView, IsNativeOf, parts_of, part_of_native}
+use Rattle.arc_parts.specs.Window.{PartsView, IsNativeOf, parts_of, part_of_block}
 use Rattle.arc_parts.specs.declared.room.Room.TheVariants.{Front}
 use Rattle.arc_parts.specs.Room.{ends_full}
 use Rattle.arc_parts.specs.Writers.{writer_capacity, capacity_of, with_room}
@@ -30,19 +30,19 @@ use Rattle.arc_sort_writers.proofs.MemoryParts.{cut_owned}
 use Rattle.arc_sort_writers.proofs.Writers.{nothing_more}
 use Rattle.arc_sort_writers.proofs.Lent.{written_long, written_part}
 
-module _ {T A : Type 0} where
+module _ {T V A : Type 0} where
   -- the items of a memory, the number of the first place, and how many places there are
-  abbrev xs : WriterMemory T A → List T
+  abbrev xs : WriterMemory T V A → List T
   xs m = m.places.vec.items
 
-  abbrev first : WriterMemory T A → ℕ
+  abbrev first : WriterMemory T V A → ℕ
   first m = m.places.under.start
 
-  abbrev size : WriterMemory T A → ℕ
+  abbrev size : WriterMemory T V A → ℕ
   size m = m.places.under.whole
 
   -- where a part ends behind which so many items lie
-  abbrev last : WriterMemory T A → ℕ → ℕ
+  abbrev last : WriterMemory T V A → ℕ → ℕ
   last m behind = length (xs m) - behind
 
 module _ {T M : Type 0} where
@@ -66,10 +66,10 @@ module _ {T M : Type 0} where
   fewer-cut true less n part = refl
   fewer-cut false less n part = refl
 
-module _ {T M A : Type 0} where
+module _ {T M V A : Type 0} where
   module _ (drops one_pass : Bool) where
     -- the slice from start to there is the writer's items
-    pub slice_native : (owner : Option Owner) (m : WriterMemory T A) (start behind beyond end : ℕ)
+    pub slice_native : (owner : Option Owner) (m : WriterMemory T V A) (start behind beyond end : ℕ)
         (seen : PartsView T M)
         → with_fewer beyond (sole_native {M = M} drops owner m start (last m behind)) ≡ seen
         → IsNativeWithin drops one_pass owner m start behind
@@ -82,7 +82,7 @@ module _ {T M A : Type 0} where
         ∙ ap (λ s. s.items) view
 
     -- where the writer has room behind the items, none lie behind them in the memory
-    none_behind : (o : Owner) (m : WriterMemory T A) (start behind beyond more : ℕ)
+    none_behind : (o : Owner) (m : WriterMemory T V A) (start behind beyond more : ℕ)
         (seen : PartsView T M)
         → with_fewer beyond (sole_native {M = M} drops (Some o) m start (last m behind)) ≡ seen
         → IsNativeWithin drops one_pass (Some o) m start behind
@@ -103,7 +103,7 @@ module _ {T M A : Type 0} where
         some in
         omega (arith, ends, within.1)
 
-    push-behind : (o : Owner) (m w : WriterMemory T A) (start behind beyond : ℕ) (ys : List T)
+    push-behind : (o : Owner) (m w : WriterMemory T V A) (start behind beyond : ℕ) (ys : List T)
         (seen : PartsView T M)
         → with_fewer beyond (sole_native {M = M} drops (Some o) m start (last m behind)) ≡ seen
         → IsNativeWithin drops one_pass (Some o) m start behind
@@ -125,7 +125,7 @@ module _ {T M A : Type 0} where
         ∙ ap (with_more ys) view
 
     -- where the writer has room for items, they stand behind the others
-    pub push_native : (owner : Option Owner) (m w : WriterMemory T A) (start behind beyond : ℕ)
+    pub push_native : (owner : Option Owner) (m w : WriterMemory T V A) (start behind beyond : ℕ)
         (ys : List T) (seen : PartsView T M)
         → with_fewer beyond (sole_native {M = M} drops owner m start (last m behind)) ≡ seen
         → IsNativeWithin drops one_pass owner m start behind
@@ -154,7 +154,7 @@ module _ {T M A : Type 0} where
 
     -- with more items behind the others, where there is room, the part lies within them, and as
     -- many places are left
-    pub within_more : (owner : Option Owner) (m w : WriterMemory T A) (start behind beyond : ℕ)
+    pub within_more : (owner : Option Owner) (m w : WriterMemory T V A) (start behind beyond : ℕ)
         (ys : List T) (seen : PartsView T M)
         → with_fewer beyond (sole_native {M = M} drops owner m start (last m behind)) ≡ seen
         → IsNativeWithin drops one_pass owner m start behind
@@ -211,7 +211,7 @@ module _ {T M A : Type 0} where
             omega (arith, fits, none, within.1, m.own)
 
     -- how many items there are
-    pub long_native : (owner : Option Owner) (m : WriterMemory T A) (start behind beyond : ℕ)
+    pub long_native : (owner : Option Owner) (m : WriterMemory T V A) (start behind beyond : ℕ)
         (seen : PartsView T M)
         → with_fewer beyond (sole_native {M = M} drops owner m start (last m behind)) ≡ seen
         → IsNativeWithin drops one_pass owner m start behind
@@ -230,7 +230,7 @@ module _ {T M A : Type 0} where
         )
 
     -- items that were lent are those that were written, in the same places
-    pub lent_native : (owner : Option Owner) (m : WriterMemory T A) (start behind beyond : ℕ)
+    pub lent_native : (owner : Option Owner) (m : WriterMemory T V A) (start behind beyond : ℕ)
         (ws : List T) (seen : PartsView T M)
         → with_fewer beyond (sole_native {M = M} drops owner m start (last m behind)) ≡ seen
         → IsNativeWithin drops one_pass owner m start behind
@@ -253,7 +253,7 @@ module _ {T M A : Type 0} where
         (λ i. make (items i) (long i)) ∙ ap (λ s. with_items s ws) view
 
   -- the items cut short, where those behind them are gone from the memory
-  pub cut_native : (drops one_pass : Bool) (owner : Option Owner) (m w : WriterMemory T A)
+  pub cut_native : (drops one_pass : Bool) (owner : Option Owner) (m w : WriterMemory T V A)
       (start behind beyond n : ℕ) (seen : PartsView T M)
       → with_fewer beyond (sole_native {M = M} drops owner m start (last m behind)) ≡ seen
       → IsNativeWithin drops one_pass owner m start behind
@@ -285,7 +285,7 @@ module _ {T M A : Type 0} where
       ∙ ap (after_truncate false n) view
 
   -- and where they stay there
-  pub cut_native_owned : (drops one_pass : Bool) (owner : Option Owner) (m : WriterMemory T A)
+  pub cut_native_owned : (drops one_pass : Bool) (owner : Option Owner) (m : WriterMemory T V A)
       (start behind beyond more n : ℕ) (seen : PartsView T M)
       → with_fewer beyond (sole_native {M = M} drops owner m start (last m behind)) ≡ seen
       → IsNativeWithin drops one_pass owner m start behind
@@ -316,7 +316,7 @@ module _ {T M A : Type 0} where
       ∙ ap (after_truncate true n) same
 
   -- where none lie behind them and they are moved to the front of the memory
-  pub front_native : (drops one_pass : Bool) (owner : Option Owner) (m w : WriterMemory T A)
+  pub front_native : (drops one_pass : Bool) (owner : Option Owner) (m w : WriterMemory T V A)
       (start behind beyond : ℕ) (seen : PartsView T M)
       → with_fewer beyond (sole_native {M = M} drops owner m start (last m behind)) ≡ seen
       → IsNativeWithin drops one_pass owner m start behind
@@ -346,7 +346,7 @@ module _ {T M A : Type 0} where
       ∙ ap (with_room Front) view
 
   -- then they are as many, with all of the memory's places
-  pub front_room : (drops one_pass : Bool) (owner : Option Owner) (m w : WriterMemory T A)
+  pub front_room : (drops one_pass : Bool) (owner : Option Owner) (m w : WriterMemory T V A)
       (start behind beyond : ℕ) (seen : PartsView T M)
       → with_fewer beyond (sole_native {M = M} drops owner m start (last m behind)) ≡ seen
       → IsNativeWithin drops one_pass owner m start behind
@@ -372,7 +372,7 @@ module _ {T M A : Type 0} where
       room-of (Some o) = omega arith
 
   -- where items aren't dropped one by one, full places aren't counted
-  pub uncounted_native : (drops : Bool) (owner : Option Owner) (m : WriterMemory T A)
+  pub uncounted_native : (drops : Bool) (owner : Option Owner) (m : WriterMemory T V A)
       (start end beyond : ℕ) (seen : PartsView T M)
       → with_fewer beyond (sole_native {M = M} drops owner m start end) ≡ seen → drops ≡ false
       → (len more : ℕ) → with_full len more seen.place ≡ seen.place
@@ -384,7 +384,7 @@ module _ {T M A : Type 0} where
       subst (λ (s : PartsView T M). with_full len more s.place ≡ s.place) view refl
 
   -- who has an item at each of the block's places has all of the memory's
-  pub whole_native : (drops one_pass : Bool) (owner : Option Owner) (m : WriterMemory T A)
+  pub whole_native : (drops one_pass : Bool) (owner : Option Owner) (m : WriterMemory T V A)
       (start behind beyond n : ℕ) (seen : PartsView T M)
       → with_fewer beyond (sole_native {M = M} drops owner m start (last m behind)) ≡ seen
       → IsNativeWithin drops one_pass owner m start behind
@@ -400,25 +400,25 @@ module _ {T M A : Type 0} where
       sym ((λ i. sub (xs m) (front i) (ends i)) ∙ sub-whole (xs m)) ∙ ap (λ s. s.items) view
 
   -- the same items as a reader's, once the block's memory is lent again
-  pub frozen_native : (drops : Bool) (o : Owner) (m : WriterMemory T A)
-      (start behind beyond end at : ℕ) (b : NativeView T) (seen : PartsView T M)
+  pub frozen_native : (drops : Bool) (o : Owner) (m : WriterMemory T V A)
+      (start behind beyond end at : ℕ) (b : BlockView T M) (seen : PartsView T M)
       → with_fewer beyond (sole_native {M = M} drops (Some o) m start (last m behind)) ≡ seen
       → b ≡ native_over drops o m → at ≡ first m → end ≡ last m behind
-      → parts_of (part_of_native {M = M} b (at + start) (at + end)) ≡ as_reader seen
+      → parts_of (part_of_block {M = M} b (at + start) (at + end)) ≡ as_reader seen
   frozen_native drops o m start behind beyond end at b seen view is begins ends =
       let from : (first m + start) - first m ≡ start = omega arith in
       let to : (first m + last m behind) - first m ≡ last m behind = omega arith in
       let make : ℕ → ℕ → PartsView T M = λ s e. record {
         items = sub (xs m) s e;
-        place = on_block (Some o) (first m + start) (native_info (native_over drops o m));
+        place = on_block (Some o) (first m + start) (native_over {M = M} drops o m).facts;
         role = reader;
       } in
-      (λ i. parts_of (part_of_native {M = M} (is i) (begins i + start) (begins i + ends i)))
+      (λ i. parts_of (part_of_block {M = M} (is i) (begins i + start) (begins i + ends i)))
       ∙ (λ i. make (from i) (to i))
       ∙ ap as_reader view
 
 -- where items are dropped one by one, no places are left
-pub none_left : {T A : Type 0} {drops : Bool} (owner : Option Owner) (m : WriterMemory T A)
+pub none_left : {T V A : Type 0} {drops : Bool} (owner : Option Owner) (m : WriterMemory T V A)
     (beyond : ℕ)
     → drops ≡ true → CanLeave drops owner m beyond → beyond ≡ 0
 none_left None m beyond owned left = left

@@ -25,18 +25,18 @@ abbrev pub IsVectorWithin : {T A : Type 0} → Bool → Bool → Owner → Vec T
 IsVectorWithin drops one_pass owner v start end = IsLimited MAX_OWNERS one_pass owner
     × (start ≤ end) × (end ≤ length v.items) × (drops ≡ false → end ≡ length v.items)
 
-module _ {T M A : Type 0} where
+module _ {T M V A : Type 0} where
   -- what is seen of a sole writer from start to end of the items in memory that is a native block's
   -- with this owner; or who stands on nothing
-  abbrev pub sole_native : Bool → Option Owner → WriterMemory T A → (start end : ℕ) → PartsView T M
+  abbrev pub sole_native : Bool → Option Owner → WriterMemory T V A → (start end : ℕ) → PartsView T M
   sole_native drops None memory start end = idle_writer
   sole_native drops (Some owner) memory start end = sole_native_part drops owner memory start end
 
-module _ {T A : Type 0} where
+module _ {T V A : Type 0} where
   -- The part from start on, behind which so many items lie, is one of a native block's items. None
   -- lie behind items that aren't dropped one by one; others begin at the block's first place. On
   -- nothing there are no items and no memory.
-  abbrev pub IsNativeWithin : Bool → Bool → Option Owner → WriterMemory T A → (start behind : ℕ)
+  abbrev pub IsNativeWithin : Bool → Bool → Option Owner → WriterMemory T V A → (start behind : ℕ)
       → Type 0
   IsNativeWithin drops one_pass None memory start behind =
       (start ≡ 0) × (behind ≡ 0) × (memory.places.vec.items ≡ [])
@@ -48,7 +48,7 @@ module _ {T A : Type 0} where
 
   -- So many of a native block's last places are left to nobody, where no items lie: none where
   -- items are dropped one by one, and none on nothing.
-  abbrev pub CanLeave : Bool → Option Owner → WriterMemory T A → (beyond : ℕ) → Type 0
+  abbrev pub CanLeave : Bool → Option Owner → WriterMemory T V A → (beyond : ℕ) → Type 0
   CanLeave drops None memory beyond = beyond ≡ 0
   CanLeave drops (Some owner) memory beyond = (drops ≡ true → beyond ≡ 0)
       × (length memory.places.vec.items + beyond ≤ memory.places.under.count)

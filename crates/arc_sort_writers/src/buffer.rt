@@ -5,9 +5,9 @@ ghost use Rattle.std.specs.Prelude.{◌≡◌, ◌≤◌, ◌+◌, ◌-◌, true
 ghost use Rattle.std.specs.Prelude.{Err, ℕ, IsTrue, ◌↔◌};
 ghost use Rattle.std.specs.Mem.{type_size};
 ghost use Rattle.arc_owners.specs.count.Calls.{IsPassOfNone};
-ghost use Rattle.arc_owners.specs.memory.SoleBoxes.{sole_in, sole_value};
+ghost use Rattle.arc_owners.specs.memory.SoleCounts.{count_owner};
 ghost use Rattle.arc_block.specs.Block.{buffer, buffer_info};
-ghost use Rattle.arc_block.specs.Contents.{held_in};
+ghost use Rattle.arc_block.specs.Contents.{held_alone};
 ghost use Rattle.arc_sort_writers.specs.Growth.{AsksForRoom};
 ghost use Rattle.arc_parts.specs.declared.room.Room.TheVariants.{Front, Growth, Own};
 ghost use Rattle.arc_parts.specs.Room.{IfSpare, IfFront, IfOwn, IsBuffersRefusal, IsBuffersRoom};
@@ -19,12 +19,12 @@ ghost use Rattle.arc_block.specs.Place.{size_at, offset_at};
 ghost use Rattle.arc_parts.specs.Window.{IsOfBuffer};
 ghost use Rattle.arc_parts.specs.Shared.{is_vector_at};
 
-use arc_block::block::{CallersBuffer, Content, MAX_OWNERS, SoleCount};
+use arc_block::block::{CallersBuffer, Content, MAX_OWNERS, SoleCallers, SoleOf};
 use arc_buffer::buffer::{Buffer, BufferMut};
 use arc_buffer::kinds::Slice;
 use arc_owners::error::TryReserveError;
 use arc_owners::mark::Mark;
-use arc_owners::owners::{Pass, SoleBox};
+use arc_owners::owners::Pass;
 use arc_parts::room::Room;
 use std::alloc::Allocator;
 use std::marker::Model;
@@ -38,7 +38,7 @@ pub struct SoleBuffer<
     A: Allocator + Copy,
     H: Mark,
 > {
-    count: SoleCount<S::Item, B, M, A, MAX_OWNERS, H>,
+    count: SoleOf<S, B, M, A, MAX_OWNERS, H>,
     start: usize,
     end: usize,
     alloc: A,
@@ -46,8 +46,8 @@ pub struct SoleBuffer<
 
 impl<S: Slice, B: BufferMut<S::Item> + Drop, M: Drop, A: Allocator + Copy, H: Mark> Model
     for SoleBuffer<S, B, M, A, H> {
-    ghost use Rattle.arc_owners.specs.memory.SoleBoxes.{sole_in, sole_value};
-    ghost use Rattle.arc_block.specs.Contents.{held_in};
+    ghost use Rattle.arc_owners.specs.memory.SoleCounts.{count_owner};
+    ghost use Rattle.arc_block.specs.Contents.{held_alone};
     ghost use Rattle.arc_parts.specs.Window.{PartsView};
     ghost use Rattle.arc_parts.specs.SoleParts.{block_part};
     ghost use Rattle.arc_sort_writers.specs.SortParts.{IsBufferWithin};
@@ -55,10 +55,13 @@ impl<S: Slice, B: BufferMut<S::Item> + Drop, M: Drop, A: Allocator + Copy, H: Ma
     ghost Value = { PartsView S.Item M };
 
     ghost view = { λ p. block_part S.DROPS
-        (held_in B.list B.places S.DROPS (sole_in p.count) (sole_value p.count)) p.start p.end };
+        (held_alone B.list B.places S.DROPS (count_owner p.count.count)
+            p.count.memory.places.vec.items) p.start p.end };
 
     ghost invariant = { λ p. IsBufferWithin H.whole
-        (held_in B.list B.places S.DROPS (sole_in p.count) (sole_value p.count)) p.start p.end };
+        (held_alone B.list B.places S.DROPS (count_owner p.count.count)
+            p.count.memory.places.vec.items) p.start p.end
+        × (length p.count.memory.places.vec.items ≡ 1) };
 }
 
 impl<S: Slice, B: BufferMut<S::Item> + Drop, M: Drop, A: Allocator + Copy, H: Mark> Drop
@@ -72,7 +75,7 @@ impl<S: Slice, B: BufferMut<S::Item> + Drop, M: Drop, A: Allocator + Copy, H: Ma
             end: _,
             alloc: _,
         } = self;
-        drop(count);
+        count.let_go().show();
     }
 }
 
@@ -119,7 +122,7 @@ impl<S: Slice, B: BufferMut<S::Item> + Drop, M: Drop, A: Allocator + Copy, H: Ma
     pub fn as_slice(&self) -> &[S::Item]
         ensures { result.now ≡ self.now.items }
     {
-        match self.count.get() {
+        match self.count.given() {
             Content::Buffer(held) => &held.buffer.as_slice()[..self.end][self.start..],
             _ => unreachable!(),
         }
@@ -130,7 +133,7 @@ impl<S: Slice, B: BufferMut<S::Item> + Drop, M: Drop, A: Allocator + Copy, H: Ma
         ensures capacity { result ≡ capacity_of self.now.role }
         ensures enough { length self.now.items ≤ result }
     {
-        match self.count.get() {
+        match self.count.given() {
             Content::Buffer(held) => {
                 if S::DROPS && self.end != held.buffer.as_slice().len() {
                     return self.end - self.start;
@@ -167,7 +170,7 @@ impl<S: Slice, B: BufferMut<S::Item> + Drop, M: Drop, A: Allocator + Copy, H: Ma
             metadata,
             writable: true,
         };
-        match SoleBox::new(alloc, Content::Buffer(held)) {
+        match SoleCallers::of_given(alloc, Content::Buffer(held)) {
             Ok((count, new)) => {
                 *pass = new;
                 Ok(SoleBuffer {
@@ -198,7 +201,7 @@ impl<S: Slice, B: BufferMut<S::Item> + Drop, M: Drop, A: Allocator + Copy, H: Ma
         if additional <= self.capacity() - self.len() {
             return Room::Spare;
         }
-        match self.count.get() {
+        match self.count.given() {
             Content::Buffer(held) => {
                 if S::DROPS && self.end != held.buffer.as_slice().len() {
                     return Room::Refused(TryReserveError::Unsupported);
@@ -226,7 +229,7 @@ impl<S: Slice, B: BufferMut<S::Item> + Drop, M: Drop, A: Allocator + Copy, H: Ma
         ensures own { AsksForRoom B.list B.places B.grows B.refuses self.old additional
             (size_at self.new.place) result }
     {
-        match self.count.get_mut() {
+        match self.count.given_mut() {
             Content::Buffer(held) => held.buffer.try_reserve(additional),
             _ => unreachable!(),
         }
@@ -239,7 +242,7 @@ impl<S: Slice, B: BufferMut<S::Item> + Drop, M: Drop, A: Allocator + Copy, H: Ma
         ensures room { (length self.new.items ≡ length self.old.items)
             × (size_at self.old.place ≤ capacity_of self.new.role) }
     {
-        match self.count.get_mut() {
+        match self.count.given_mut() {
             Content::Buffer(held) => held.buffer.as_mut_slice().rotate_left(self.start),
             _ => unreachable!(),
         }

@@ -45,7 +45,7 @@ impl<T: Drop, C: Drop, A: Allocator + Copy, H: Mark> Model for SharedNative<T, C
     ghost use Rattle.arc_block.specs.Block.{IsLimited};
     ghost use Rattle.arc_sort_writers.specs.NativeWriters.{NativeWriter, native_writer_seen};
     ghost use Rattle.arc_memory.specs.SharedWriters.{writer_place};
-    ghost use Rattle.arc_block.specs.Natives.{IsLaidFor};
+    ghost use Rattle.arc_memory.specs.KeptPlaces.{IsRoomFor};
     ghost use Rattle.arc_sort_writers.specs.NativeWriters.{KeepsPlaces};
     ghost use Rattle.arc_block.specs.declared.block.TheConstants.{MAX_OWNERS};
 
@@ -55,7 +55,7 @@ impl<T: Drop, C: Drop, A: Allocator + Copy, H: Mark> Model for SharedNative<T, C
 
     ghost invariant = { λ w. IsLimited MAX_OWNERS H.whole (writer_owner w.writer)
         × KeepsPlaces (writer_value w.writer) (writer_range w.writer).memory
-        × IsLaidFor (writer_place w.writer) w.head.size (writer_value w.writer) };
+        × IsRoomFor (writer_place w.writer) w.head.size (writer_value w.writer) };
 }
 
 impl<T: Drop, C: Drop, A: Allocator + Copy, H: Mark> Drop for SharedNative<T, C, A, H> {
@@ -174,7 +174,7 @@ impl<T: Drop, C: Drop, A: Allocator + Copy, H: Mark> SharedNative<T, C, A, H> {
     /// The items, to be changed in their places: what is written there they are afterwards.
     #[inline(always)]
     pub fn as_mut_slice(&mut self) -> &mut [T]
-        ensures* writes_back { sem 𝓛 (lends_writer_items T.row A.row H.row H.Mark A.Allocator
+        ensures* writes_back { sem 𝓛 (lends_writer_items T.row C.row A.row H.row H.Mark A.Allocator
             self.entry result) }
         ensures value { result.now ≡ self.old.items }
     {

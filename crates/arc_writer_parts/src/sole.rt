@@ -47,7 +47,7 @@ pub struct SoleParts<
     A: Allocator + Copy = Global,
     H: Mark = Open,
 > {
-    on: SoleStorage<SoleNative<S, M, A, H>, SoleVector<S, B, M, A, H>, SoleBuffer<S, B, M, A, H>>,
+    on: SoleStorage<SoleNative<S, B, M, A, H>, SoleVector<S, B, M, A, H>, SoleBuffer<S, B, M, A, H>>,
 }
 
 impl<S: Slice, B: BufferMut<S::Item> + Drop, M: Drop, A: Allocator + Copy, H: Mark> Model
@@ -83,7 +83,7 @@ impl<S: Slice, B: BufferMut<S::Item> + Drop, M: Drop, A: Allocator + Copy, H: Ma
 > {
     /// Items in memory of ours, or nothing.
     #[inline(always)]
-    pub(crate) fn in_native(parts: SoleNative<S, M, A, H>) -> Self
+    pub(crate) fn in_native(parts: SoleNative<S, B, M, A, H>) -> Self
         ensures { result ≡ parts }
     {
         SoleParts {

@@ -15,7 +15,7 @@ ghost use Rattle.arc_block.specs.Layouts.{MayWrite};
 ghost use Rattle.arc_block.specs.Moves.{counted_move};
 ghost use Rattle.arc_block.specs.Unique.{AsksUnique, AsksOwn, IsOwnAnswer};
 
-use super::{Block, BlockKept, CallersBuffer, Content, Given, SoleCallers};
+use super::{Block, BlockKept, CallersBuffer, Content, Given};
 use crate::layout::{Layout, Move};
 use arc_buffer::buffer::Buffer;
 use arc_buffer::kinds::Slice;
@@ -175,10 +175,7 @@ impl<
             × Asks self.owner pass.old pass.new false) }
     {
         match self.try_into_callers_as(pass) {
-            Ok(SoleCallers { count, memory }) => {
-                count.end_as(pass);
-                Ok(memory.into_one())
-            }
+            Ok(sole) => Ok(sole.into_given_as(pass)),
             Err(block) => Err(block),
         }
     }

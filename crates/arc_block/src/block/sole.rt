@@ -6,7 +6,7 @@
 ghost use Rattle.std.specs.Prelude.{◌≡◌, ◌≤◌, true, false, [], ◌∷◌, length, is_ok, IfOk, IfErr};
 ghost use Rattle.arc_owners.specs.history.Histories.{Counted};
 ghost use Rattle.arc_owners.specs.count.Calls.{IsFirst, IsPassFor, IsFreshPass, Asks};
-ghost use Rattle.arc_owners.specs.count.Calls.{IsPassOfNone, EndsByItself};
+ghost use Rattle.arc_owners.specs.count.Calls.{IsPassOfNone, EndsByItself, Leaves};
 ghost use Rattle.arc_owners.specs.memory.SoleCounts.{count_owner};
 ghost use Rattle.arc_memory.specs.Sources.{IsPiece, IsPiece-set};
 ghost use Rattle.arc_block.specs.Block.{native, vector, held_as, IsLimited};
@@ -44,6 +44,85 @@ pub type SoleOf<S, B, M, A, const MAX: u64, H> = SoleCallers<
     MAX,
     H,
 >;
+
+impl<C: Drop, V: Drop, A: Allocator, const MAX: u64, H: Mark> SoleCallers<C, V, A, MAX, H> {
+    ghost use Rattle.std.specs.Borrow.{sem};
+    ghost use Rattle.arc_block.specs.SoleCallers.{LendsGiven};
+
+    /// The only owner of a new block with this in its memory, and a pass of it. Refused, it comes
+    /// back. `MAX` is at least 2.
+    ///
+    /// # Allocates
+    ///
+    /// Once.
+    pub fn of_given(alloc: A, given: C) -> Result<(Self, Pass<H>), C>
+        requires { 2 ≤ MAX }
+        ensures made { IfOk result (λ r. IsFirst MAX H.whole Counted (count_owner r.0.count)
+            × (r.0.memory.places.vec.items ≡ given ∷ [])) }
+        ensures pass { IfOk result (λ r. IsFreshPass (count_owner r.0.count) r.1) }
+        ensures refused { IfErr result (λ back. back ≡ given) }
+    {
+        match WriterMemory::of_one(alloc, given) {
+            Ok(memory) => {
+                let (count, pass) = SoleCount::<MAX, H>::new();
+                Ok((SoleCallers { count, memory }, pass))
+            }
+            Err(given) => Err(given),
+        }
+    }
+
+    /// What the caller gave, in the block's memory.
+    pub fn given(&self) -> &C
+        requires { length self.now.memory.places.vec.items ≡ 1 }
+        ensures { self.now.memory.places.vec.items ≡ result.now ∷ [] }
+    {
+        &self.memory.as_slice()[0]
+    }
+
+    /// The same, to be changed in its place.
+    pub fn given_mut(&mut self) -> &mut C
+        requires { length self.old.memory.places.vec.items ≡ 1 }
+        ensures* writes_back { sem 𝓛 (LendsGiven C.row V.row A.row MAX.row H.row H.Mark
+            A.Allocator self.entry result) }
+        ensures value { self.old.memory.places.vec.items ≡ result.now ∷ [] }
+    {
+        &mut self.memory.as_mut_part(0, 1)[0]
+    }
+
+    /// What the caller gave: this owner ends, the last one, without a step, and the block's memory
+    /// goes.
+    ///
+    /// # History
+    ///
+    /// Down.
+    pub fn into_given_as(self, pass: &mut Pass<H>) -> C
+        requires alone { length self.memory.places.vec.items ≡ 1 }
+        requires pass { IsPassFor (count_owner self.count) pass.old }
+        ensures entry { Leaves (count_owner self.count) pass.old pass.new true }
+        ensures given { self.memory.places.vec.items ≡ result ∷ [] }
+    {
+        let SoleCallers { count, memory } = self;
+        count.end_as(pass);
+        memory.into_one()
+    }
+
+    /// What a drop does: under `Open` the owner ends with a new pass, and the block's memory goes
+    /// with what lies there; under `Whole` both are forgotten. The pass is the one that the owner
+    /// ended with; under `Whole` it is of no block.
+    pub fn let_go(self) -> Pass<H>
+        ensures forgotten { H.whole ≡ true → IsPassOfNone result }
+        ensures ended { H.whole ≡ false → EndsByItself (count_owner self.count) result true }
+    {
+        let SoleCallers { count, memory } = self;
+        let (ended, pass) = count.let_go();
+        if ended {
+            drop(memory);
+        } else {
+            mem::forget(memory);
+        }
+        pass
+    }
+}
 
 /// The only owner of a new block that is to be a vector, with a pass of it, who has the vector.
 /// `MAX` is at least 2.

@@ -10,6 +10,7 @@ ghost use Rattle.arc_parts.specs.Writers.{capacity_of, idle_writer};
 
 use super::SoleBuffer;
 use crate::shared::SharedNative;
+use arc_block::block::Given;
 use arc_buffer::buffer::BufferMut;
 use arc_buffer::kinds::Slice;
 use arc_owners::mark::Mark;
@@ -48,15 +49,15 @@ impl<S: Slice, B: BufferMut<S::Item> + Drop, M: Drop, A: Allocator + Copy, H: Ma
         requires pass { IsPassAt self.now.place pass.old }
         ensures { AsksAlone self.now.place pass.old pass.new result }
     {
-        self.count.is_unique_as(pass)
+        self.count.count.is_unique_as(pass)
     }
 
     /// On a block they are of another one than one of several writers. Does nothing: its contract
     /// is the law.
-    pub fn apart_from(&self, writer: &SharedNative<S::Item, A, H>)
+    pub fn apart_from(&self, writer: &SharedNative<S::Item, Given<S, B, M, A>, A, H>)
         ensures { at_owner self.now.place (Unit {0}) (λ o. ¬ (writer.now.owner.block ≡ o.block)) }
     {
-        writer.apart_from(&self.count);
+        writer.apart_from_count(&self.count.count);
     }
 
     /// Their block is no vector, and so none that is a box.

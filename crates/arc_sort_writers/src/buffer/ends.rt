@@ -2,9 +2,9 @@
 ghost use Rattle.std.specs.Prelude.{◌≡◌, ◌↔◌, true, false, Some, None, ℕ, IfOk, IfErr};
 ghost use Rattle.std.specs.Prelude.{IfSome, IfNone, IsTrue};
 ghost use Rattle.arc_owners.specs.count.Calls.{Leaves, Learns, IsNewPass, IsPassOfNone, SeesAlone};
-ghost use Rattle.arc_owners.specs.memory.SoleBoxes.{sole_in, sole_value};
+ghost use Rattle.arc_owners.specs.memory.SoleCounts.{count_owner};
 ghost use Rattle.arc_block.specs.LayoutFacts.{layout_facts};
-ghost use Rattle.arc_block.specs.Contents.{held_in};
+ghost use Rattle.arc_block.specs.Contents.{held_alone};
 ghost use Rattle.arc_block.specs.Metadata.{IsMetadataAt};
 ghost use Rattle.arc_block.specs.Moves.{IsRefused, layout_move};
 ghost use Rattle.arc_block.specs.Place.{at_owner, metadata_at, IsOnBlock, size_at};
@@ -17,7 +17,7 @@ ghost use Rattle.arc_parts.specs.SoleParts.{block_part};
 ghost use Rattle.arc_sort_writers.specs.SortParts.{IsBufferWithin};
 
 use super::SoleBuffer;
-use arc_block::block::{Block, Content, MAX_OWNERS, SoleCount};
+use arc_block::block::{Block, Content, MAX_OWNERS, SoleOf};
 use arc_block::layout::Layout;
 use arc_buffer::buffer::{BorrowMetadata, Buffer, BufferMut};
 use arc_buffer::kinds::Slice;
@@ -36,14 +36,17 @@ impl<S: Slice, B: BufferMut<S::Item> + Drop, M: Drop, A: Allocator + Copy, H: Ma
     /// Items from start to end of a caller's buffer, whose only owner this is.
     pub fn over(
         alloc: A,
-        count: SoleCount<S::Item, B, M, A, MAX_OWNERS, H>,
+        count: SoleOf<S, B, M, A, MAX_OWNERS, H>,
         start: usize,
         end: usize,
     ) -> Self
-        requires { IsBufferWithin H.whole
-            (held_in B.list B.places S.DROPS (sole_in count) (sole_value count)) start end }
+        requires alone { length count.memory.places.vec.items ≡ 1 }
+        requires within { IsBufferWithin H.whole
+            (held_alone B.list B.places S.DROPS (count_owner count.count)
+            count.memory.places.vec.items) start end }
         ensures { result ≡ block_part S.DROPS
-            (held_in B.list B.places S.DROPS (sole_in count) (sole_value count)) start end }
+            (held_alone B.list B.places S.DROPS (count_owner count.count)
+            count.memory.places.vec.items) start end }
     {
         SoleBuffer {
             count,
@@ -56,12 +59,15 @@ impl<S: Slice, B: BufferMut<S::Item> + Drop, M: Drop, A: Allocator + Copy, H: Ma
     /// The count, which has the buffer, from where to before where the items are, and the
     /// allocator.
     #[inline(always)]
-    fn into_count(self) -> (SoleCount<S::Item, B, M, A, MAX_OWNERS, H>, usize, usize, A)
+    fn into_count(self) -> (SoleOf<S, B, M, A, MAX_OWNERS, H>, usize, usize, A)
         ensures within { IsBufferWithin H.whole
-            (held_in B.list B.places S.DROPS (sole_in result.0) (sole_value result.0))
+            (held_alone B.list B.places S.DROPS (count_owner result.0.count)
+            result.0.memory.places.vec.items)
             result.1 result.2 }
+        ensures alone { length result.0.memory.places.vec.items ≡ 1 }
         ensures parts { self ≡ block_part S.DROPS
-            (held_in B.list B.places S.DROPS (sole_in result.0) (sole_value result.0))
+            (held_alone B.list B.places S.DROPS (count_owner result.0.count)
+            result.0.memory.places.vec.items)
             result.1 result.2 }
     {
         let SoleBuffer {
@@ -78,7 +84,7 @@ impl<S: Slice, B: BufferMut<S::Item> + Drop, M: Drop, A: Allocator + Copy, H: Ma
         ensures { result ≡ as_reader self }
     {
         let (count, start, end, alloc) = self.into_count();
-        Parts::on_block(alloc, Block::of_sole_buffer(count), start, end)
+        Parts::on_block(alloc, Block::of_callers(count), start, end)
     }
 
     /// `try_freeze_as` of a sole writer's parts.
@@ -127,7 +133,7 @@ impl<S: Slice, B: BufferMut<S::Item> + Drop, M: Drop, A: Allocator + Copy, H: Ma
     fn is_whole(&self) -> bool
         ensures { IsTrue result ↔ IsBufferWhole self.now.items self.now.place }
     {
-        match self.count.get() {
+        match self.count.given() {
             Content::Buffer(held) => { self.start == 0 && self.end == held.buffer.as_slice().len() }
             _ => unreachable!(),
         }
@@ -147,7 +153,7 @@ impl<S: Slice, B: BufferMut<S::Item> + Drop, M: Drop, A: Allocator + Copy, H: Ma
             return Err(self);
         }
         let (count, _, _, _) = self.into_count();
-        let held = count.into_value_as(pass).into_buffer();
+        let held = count.into_given_as(pass).into_buffer();
         drop(held.metadata);
         Ok(held.buffer)
     }
@@ -157,7 +163,7 @@ impl<S: Slice, B: BufferMut<S::Item> + Drop, M: Drop, A: Allocator + Copy, H: Ma
         ensures some { IfSome result (λ m. metadata_at self.now.place ≡ Some m.now) }
         ensures none { IfNone result (metadata_at self.now.place ≡ None) }
     {
-        match self.count.get() {
+        match self.count.given() {
             Content::Buffer(held) => held.metadata.as_ref(),
             _ => unreachable!(),
         }
@@ -169,7 +175,7 @@ impl<S: Slice, B: BufferMut<S::Item> + Drop, M: Drop, A: Allocator + Copy, H: Ma
         B: BorrowMetadata,
         ensures { IsMetadataAt B.list B.metadata self.now.place self.now.items result.now }
     {
-        match self.count.get() {
+        match self.count.given() {
             Content::Buffer(held) => held.buffer.borrow_metadata(),
             _ => unreachable!(),
         }
@@ -191,7 +197,7 @@ impl<S: Slice, B: BufferMut<S::Item> + Drop, M: Drop, A: Allocator + Copy, H: Ma
             Leaves o pass.old pass.new true) }
     {
         let (count, _, _, _) = self.into_count();
-        drop(count.into_value_as(pass));
+        drop(count.into_given_as(pass));
     }
 
     /// What a drop does, with the pass that the owner ended with.
@@ -200,9 +206,7 @@ impl<S: Slice, B: BufferMut<S::Item> + Drop, M: Drop, A: Allocator + Copy, H: Ma
         ensures ended { H.whole ≡ false → EndsAt self.place result }
     {
         let (count, _, _, _) = self.into_count();
-        let (content, pass) = count.let_go();
-        drop(content);
-        pass
+        count.let_go()
     }
 
     /// Shows a pass the block's whole history so far, in which no other owner lives.
@@ -211,7 +215,7 @@ impl<S: Slice, B: BufferMut<S::Item> + Drop, M: Drop, A: Allocator + Copy, H: Ma
         ensures { at_owner self.now.place (pass.new ≡ pass.old) (λ o.
             SeesAlone o pass.old pass.new) }
     {
-        self.count.only(pass);
+        self.count.count.only(pass);
     }
 
     /// Afterwards the first pass has seen at least what the other had.
@@ -221,7 +225,7 @@ impl<S: Slice, B: BufferMut<S::Item> + Drop, M: Drop, A: Allocator + Copy, H: Ma
         ensures { at_owner self.now.place (pass.new ≡ pass.old) (λ o.
             Learns o.block pass.old other.now pass.new) }
     {
-        self.count.learn(pass, other);
+        self.count.count.learn(pass, other);
     }
 }
 
@@ -236,6 +240,6 @@ impl<S: Slice, B: BufferMut<S::Item> + Drop, M: Drop, A: Allocator + Copy, H: St
     pub fn pass(&self) -> Pass<H>
         ensures { at_owner self.now.place (IsPassOfNone result) (λ o. IsNewPass o result) }
     {
-        self.count.pass()
+        self.count.count.pass()
     }
 }

@@ -56,7 +56,7 @@ impl<S: Slice, B: BufferMut<S::Item> + Drop, M: Drop, A: Allocator + Copy, H: Ma
         ensures value { result.now ≡ self.old.items }
     {
         let (start, end) = (self.start, self.end);
-        self.count.get_mut().buffer_mut().as_mut_part(start, end)
+        self.count.given_mut().buffer_mut().as_mut_part(start, end)
     }
 
     /// `try_reserve_as` of a sole writer's parts.
@@ -141,7 +141,7 @@ impl<S: Slice, B: BufferMut<S::Item> + Drop, M: Drop, A: Allocator + Copy, H: Ma
         requires { length self.old.items + 1 ≤ capacity_of self.old.role }
         ensures { self.new ≡ with_more (item ∷ []) self.old }
     {
-        match self.count.get_mut() {
+        match self.count.given_mut() {
             Content::Buffer(held) => self.end = put_at(&mut held.buffer, self.end, item),
             _ => unreachable!(),
         }

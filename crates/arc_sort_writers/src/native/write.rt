@@ -29,8 +29,8 @@ impl<S: Slice, B: Buffer<S::Item> + Drop, M: Drop, A: Allocator + Copy, H: Mark>
     /// The items, to be changed in their places: what is written there they are afterwards.
     #[inline(always)]
     pub fn as_mut_slice(&mut self) -> &mut [S::Item]
-        ensures* writes_back { sem 𝓛 (lends_native_items S.row M.row A.row H.row S.Item.row
-            S.TryFromSliceError.row H.Mark S.Slice A.Allocator self.entry result) }
+        ensures* writes_back { sem 𝓛 (lends_native_items S.row B.row M.row A.row H.row S.Item.row
+            S.TryFromSliceError.row H.Mark S.Slice B.Buffer A.Allocator self.entry result) }
         ensures value { result.now ≡ self.old.items }
     {
         let end = end_in::<S, BlockKept<S, B, M, A>, A>(&self.memory, self.behind);

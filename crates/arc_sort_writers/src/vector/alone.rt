@@ -88,6 +88,6 @@ impl<S: Slice, B: Buffer<S::Item> + Drop, M: Drop, A: Allocator + Copy, H: Mark>
         ensures apart { at_owner self.old.place (Unit {0}) (λ o.
             at_owner other.now.place (Unit {0}) (λ p. ¬ (p.block ≡ o.block))) }
     {
-        self.count.apart_from_sole(&other.count);
+        self.count.count.apart_from_sole(&other.count.count);
     }
 }

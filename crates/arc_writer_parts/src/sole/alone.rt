@@ -9,6 +9,7 @@ ghost use Rattle.arc_parts.specs.Window.{IsBoxWhole};
 ghost use Rattle.arc_parts.specs.Writers.{capacity_of, idle_writer, with_full};
 
 use super::{SoleParts, SoleStorage};
+use arc_block::block::Given;
 use arc_buffer::buffer::BufferMut;
 use arc_buffer::kinds::Slice;
 use arc_owners::mark::Mark;
@@ -90,7 +91,7 @@ impl<S: Slice, B: BufferMut<S::Item> + Drop, M: Drop, A: Allocator + Copy, H: Ma
 
     /// On a block they are of another one than one of several writers. Does nothing: its contract
     /// is the law.
-    pub(crate) fn apart_from(&self, writer: &SharedNative<S::Item, A, H>)
+    pub(crate) fn apart_from(&self, writer: &SharedNative<S::Item, Given<S, B, M, A>, A, H>)
         ensures { at_owner self.now.place (Unit {0}) (λ o. ¬ (writer.now.owner.block ≡ o.block)) }
     {
         match &self.on {
