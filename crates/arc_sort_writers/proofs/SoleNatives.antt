@@ -13,7 +13,7 @@ use Rattle.arc_memory.specs.Sources.{IsPiece}
 use Rattle.arc_memory.specs.WriterMemories.{SameMemory}
 use Rattle.arc_buffer.specs.Slice.{sub}
 use Rattle.arc_buffer.proofs.Sub.{length-sub, sub-whole}
-use Rattle.arc_block.specs.Block.{native, memory_info}
+use Rattle.arc_block.specs.Block.{BlockView, native, memory_info}
 use Rattle.arc_block.specs.Natives.{native_over}
 use Rattle.arc_block.specs.Place.{Place, IsOnBlock, on_block, size_at}
 use Rattle.arc_block.specs.Table.{reader, sole_writer}

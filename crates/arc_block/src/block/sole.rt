@@ -89,6 +89,20 @@ impl<C: Drop, V: Drop, A: Allocator, const MAX: u64, H: Mark> SoleCallers<C, V, 
         &mut self.memory.as_mut_part(0, 1)[0]
     }
 
+    /// Ends this owner, the last one, without a step; the block's memory goes with what lies there.
+    ///
+    /// # History
+    ///
+    /// Down.
+    pub fn end_as(self, pass: &mut Pass<H>)
+        requires pass { IsPassFor (count_owner self.count) pass.old }
+        ensures entry { Leaves (count_owner self.count) pass.old pass.new true }
+    {
+        let SoleCallers { count, memory } = self;
+        count.end_as(pass);
+        drop(memory);
+    }
+
     /// What the caller gave: this owner ends, the last one, without a step, and the block's memory
     /// goes.
     ///

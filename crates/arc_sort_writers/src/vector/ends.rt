@@ -15,7 +15,7 @@ ghost use Rattle.arc_parts.specs.SoleParts.{vector_part};
 ghost use Rattle.arc_sort_writers.specs.SortParts.{IsVectorWithin};
 
 use super::{SoleVector, VectorFields};
-use arc_block::block::{Block, SoleCallers, end_sole};
+use arc_block::block::{Block, end_sole};
 use arc_block::layout::Layout;
 use arc_buffer::buffer::{BorrowMetadata, Buffer};
 use arc_buffer::kinds::Slice;
@@ -155,10 +155,8 @@ impl<S: Slice, B: Buffer<S::Item> + Drop, M: Drop, A: Allocator + Copy, H: Mark>
             Leaves o pass.old pass.new true) }
     {
         let (count, items, _, _, _) = self.into_memory();
-        let SoleCallers { count, memory } = count;
         count.end_as(pass);
         drop(items);
-        drop(memory);
     }
 
     /// What a drop does: under `Open` the owner ends with a new pass, and the block is given back
