@@ -76,7 +76,8 @@ module _ {T C A Z H : Type 0} {MAX : ℕ} {G : Ghosts H} (show : C → List T) (
     (r r' : FrozenReader T C (Kept T C A) Z MAX H G) (head head' : ℕ × ℕ) where
   -- another reader of the same items
   pub block_alike : value_of r'.owner ≡ value_of r.owner → place_in r'.owner ≡ place_in r.owner
-      → r'.seen ≡ r.seen → head' ≡ head → IsBlockOf show drops r head → IsBlockOf show drops r' head'
+      → r'.seen ≡ r.seen → head' ≡ head → IsBlockOf show drops r head
+      → IsBlockOf show drops r' head'
   block_alike value place seen same b = record {
     kept = subst (λ s. IsKeptFor show drops s (value_of r'.owner)) (sym seen)
         (subst (λ k. IsKeptFor show drops r.seen k) (sym value) b.kept);

@@ -36,9 +36,11 @@ module _ {T V A : Type 0} (range : FrozenPlaces T) (start end : ℕ) (memory : W
   }
 
   -- so it is seen as what was taken of the block that was seen
-  pub taken_over : {M : Type 0} (drops : Bool) (o : Owner) → IsTakenFrom drops range start end memory
+  pub taken_over : {M : Type 0} (drops : Bool) (o : Owner)
+      → IsTakenFrom drops range start end memory
       → ◌≡◌ {A = BlockView T M} (native_over drops o memory)
-      (native_taken drops (native_view drops o range.items range.start range.memory.whole) start end)
+      (native_taken drops (native_view drops o range.items range.start range.memory.whole) start
+      end)
   taken_over {M} false o taken =
       let make : List T → ℕ → ℕ → BlockView T M = λ xs f n. native_view false o xs f n in
       ap (λ xs. make xs memory.places.under.start memory.places.under.whole) taken.items

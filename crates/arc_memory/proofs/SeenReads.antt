@@ -6,7 +6,8 @@ use seplogic.Ra.Ura.{Ura}
 use base.Logic.{ent, sep, never, never_e, fst∗}
 use base.Fml.{Lft, Incl, Fml, ffalse, fsep, flt, flft, fshr_bor}
 use types.Logic.{Logic, sem}
-use types.Kit.{‵, ◌$◌, ◌∵◌, !, qed, by, keep, drop, fsplit, fjoin, flt_l, flt_i, use2, rewrite, done}
+use types.Kit.{‵, ◌$◌, ◌∵◌, !, qed, by, keep, drop, fsplit, fjoin, flt_l, flt_i, use2, rewrite}
+use types.Kit.{done}
 use denote.RattleType.{RattleType}
 use denote.RawPtr.{Ptr, block_ptr, null_ptr}
 use denote.Slice.{elements_shared}

@@ -143,8 +143,8 @@ impl<T, C, V: Drop, A: Allocator + Copy, const MAX: u64, H: Mark> FrozenReader<
     }
 
     /// The only owner, where no other owner lives, reader or writer: with the value come what was
-    /// read and that the lifetime has ended, for which all places come back. Else it is handed back.
-    /// Takes no memory.
+    /// read, and that the lifetime has ended, for which all places come back. Else it is handed
+    /// back. Takes no memory.
     ///
     /// # History
     ///

@@ -10,8 +10,8 @@ use arc_owners::owners::{Header, HeaderRoom};
 use std::alloc::Allocator;
 use std::mem::ManuallyDrop;
 
-/// The right to free one piece of memory, and the room for its header, which holds a V, and in which
-/// nothing lies. Neither copied nor dropped.
+/// The right to free one piece of memory, and the room for its header, which holds a V: nothing lies
+/// in it. Neither copied nor dropped.
 pub struct PieceWithRoom<T: Drop, V: Drop, A: Allocator> {
     pub piece: Piece<T, A>,
     pub room: HeaderRoom<Header<V>>,

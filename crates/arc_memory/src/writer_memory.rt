@@ -20,9 +20,9 @@ use std::mem;
 use std::mem::ManuallyDrop;
 use std_alloc::vec::Lodged;
 
-/// All places of one piece of memory, for one writer, the room for the piece's header, which holds a
-/// V, and the right to free it; or no places, and no memory. The first places may be empty: the writer's own
-/// begin behind them. Dropped, it drops each item and frees the memory.
+/// All places of one piece of memory, for one writer, the room for the piece's header, which holds
+/// a V, and the right to free it; or no places, and no memory. The first places may be empty: the
+/// writer's own begin behind them. Dropped, it drops each item and frees the memory.
 pub struct WriterMemory<T: Drop, V: Drop, A: Allocator> {
     pub before: Places<T>,
     pub places: WriterPlaces<T>,

@@ -239,7 +239,8 @@ module _ {T M : Type 0} (inner : StandsBy T M) (from to : ℕ) (p : PartsView T 
     free_shares has_static old kept =
         let long : length (sub p.items start end) ≡ end - start = length-sub p.items start end
         ordered inside in
-        let stays : part_place has_static (sub p.items start end) start p.place ≡ moved start p.place =
+        let stays : part_place has_static (sub p.items start end) start p.place
+        ≡ moved start p.place =
         ap (λ b. if b then nowhere else moved start p.place)
         (ap (λ n. has_static && (n == 0)) long ∙ kept) in
         let there : (window_seen {M = M} (Free again) (from + start) (from + end)).place

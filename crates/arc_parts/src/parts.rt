@@ -101,8 +101,8 @@ impl<S: Slice, B: Buffer<S::Item> + Drop, M: Drop, A: Allocator + Copy, H: Mark>
     A,
     H,
 > {
-    /// The part from `start` to before `end` of what is stood on. Of a block these are the numbers of
-    /// places, of others those of items.
+    /// The part from `start` to before `end` of what is stood on. Of a block these are the numbers
+    /// of places, of others those of items.
     #[inline(always)]
     fn over(on: PartsStorage<S, B, M, A, H>, start: usize, end: usize, alloc: A) -> Self
         requires { IsWithin on start end }

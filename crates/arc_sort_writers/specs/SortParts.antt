@@ -28,7 +28,8 @@ IsVectorWithin drops one_pass owner v start end = IsLimited MAX_OWNERS one_pass 
 module _ {T M V A : Type 0} where
   -- what is seen of a sole writer from start to end of the items in memory that is a native block's
   -- with this owner; or who stands on nothing
-  abbrev pub sole_native : Bool → Option Owner → WriterMemory T V A → (start end : ℕ) → PartsView T M
+  abbrev pub sole_native : Bool → Option Owner → WriterMemory T V A → (start end : ℕ)
+      → PartsView T M
   sole_native drops None memory start end = idle_writer
   sole_native drops (Some owner) memory start end = sole_native_part drops owner memory start end
 

@@ -356,7 +356,11 @@ impl<S: Slice, B: Buffer<S::Item> + Drop, M: Drop, A: Allocator + Copy, H: Mark>
     }
 
     /// All items of this memory, which becomes that of a new block. The pass becomes the block's.
-    fn on_new(alloc: A, memory: WriterMemory<S::Item, BlockKept<S, B, M, A>, A>, pass: &mut Pass<H>) -> Self
+    fn on_new(
+        alloc: A,
+        memory: WriterMemory<S::Item, BlockKept<S, B, M, A>, A>,
+        pass: &mut Pass<H>,
+    ) -> Self
         requires start { memory.places.under.start ≡ 0 }
         requires block { IsPiece memory.source }
         ensures { IsWriterOver Counted native S.DROPS H.whole memory.places.vec.items

@@ -186,7 +186,11 @@ impl<V: Drop, A: Allocator + Copy, const MAX: u64, H: Mark> CountedBox<V, A, MAX
 
     /// The same of a value that lies elsewhere, at this place, where it is lent for the lifetime of
     /// the same lease. It adds no entry and takes no memory.
-    pub fn show_beside<T, W>(&self, place: *const W, lent: &SharedBorrow<W>) -> (*const T, Shown<T, W>)
+    pub fn show_beside<T, W>(
+        &self,
+        place: *const W,
+        lent: &SharedBorrow<W>,
+    ) -> (*const T, Shown<T, W>)
     where
         W: Shows<T>,
         requires place { lent.now.at ≡ place }
