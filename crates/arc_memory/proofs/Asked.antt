@@ -18,7 +18,7 @@ use denote.Memory.{hidden_shr}
 use denote.RattleType.{RattleType, owns}
 use denote.Ref.{shr_vals, shr_Tells}
 use denote.Signature.{Slot, plain, types_at}
-use denote.Triple.Clauses.{Clauses, closing}
+use denote.Triple.Clauses.{Ended, Clauses, closing}
 use denote.Triple.Entry.{Vals, alive}
 use denote.Triple.Spec.{Meets}
 use denote.Triple.Walked.{Goes-dropped}
@@ -31,7 +31,8 @@ module _ {n : ℕ} (os : List (Outlives (suc n))) (R : RattleType) (one : Lfts (
     (c : Clauses 𝓤 (Reads os R one result)) where
   open 𝓛 use {H}
 
-  abbrev En = Reads os R one result
+  abbrev En : Ended
+  En = Reads os R one result
 
   -- what the `&` shows, the tokens, and what is asked
   pub reads_asked : (𝓜 : Model 𝓤 H) (𝓡 : Running 𝓤 H 𝓜) (k : Callee) (e : Fn)

@@ -1,7 +1,7 @@
 -- What is seen is read for as long as shares of the lifetime are borrowed, whatever it lies in.
 -- Assumes `Logic`.
 use Rattle.std.proofs.Common.{◌≡◌, ℕ, ◌+◌, ◌*◌, ◌^◌, ◌<◌, ◌≤◌, Bool, true, false, List, [], ◌∷◌}
-use Rattle.std.proofs.Common.{◌++◌, length, refl, sym, ap, subst, arith}
+use Rattle.std.proofs.Common.{◌++◌, length, refl, sym, ap, ◌∙◌, subst, arith}
 use seplogic.Ra.Ura.{Ura}
 use base.Logic.{ent, sep, never, never_e, fst∗}
 use base.Fml.{Lft, Incl, Fml, ffalse, fsep, flt, flft, fshr_bor}
@@ -20,6 +20,10 @@ use Rattle.arc_memory.specs.Memory.{place_at}
 use Rattle.arc_memory.specs.LentMemory.{LentMemory, in_memory, names_from, frozen}
 use Rattle.arc_memory.specs.SeenItems.{seen_owns}
 use Rattle.arc_memory.proofs.Frozen.{frozen_read}
+
+-- the first place
+pub at_front : (o s : ℕ) → o + 0 * s ≡ o
+at_front o s = omega arith
 
 module _ (T : RattleType) (start : ℕ) (xs : List T.Denot) (κ : Lft) where
   -- the items lie from this place on, to be read
@@ -54,12 +58,13 @@ module _ (T C : RattleType) (L : Laws T) (m : LentMemory) (start : ℕ) (xs : Li
   lent_there : start ≡ 0 → (p : Ptr) → ent 𝓤 (sem 𝓛 (slice_lent T p xs κ))
       (sem 𝓛 (fsep (flt ((start + length xs) * s) (2 ^ 63)) (There T start xs κ p)))
   lent_there is (block_ptr b o) =
-      let here : o ≡ o + start * s = sym (ap (λ (n : ℕ). o + n * s) is) in
+      let here : o ≡ o + start * s = sym (ap (λ (n : ℕ). o + n * s) is ∙ at_front o s) in
+      let all : start + length xs ≡ length xs = omega (arith, is) in
       qed 𝓛 (‵ (slice_lent T (block_ptr b o) xs κ) ∷ []) ∵ fsplit ! $ fsplit ! $ drop ! $
       fsplit ! $ flt_l ! (λ few. flt_l ! (λ bytes.
       rewrite ! 0 (λ (n : ℕ). ‵ (elements_shared T xs b n κ)) here refl $
       flt_i ! ((start + length xs) * s) (2 ^ 63)
-      (subst (λ (n : ℕ). (n + length xs) * s < 2 ^ 63) (sym is) bytes) $ fjoin ! $ done !))
+      (subst (λ (n : ℕ). n * s < 2 ^ 63) (sym all) bytes) $ fjoin ! $ done !))
   lent_there is null_ptr = qed 𝓛 (‵ (slice_lent T null_ptr xs κ) ∷ []) ∵ fsplit ! $ fsplit ! $
       keep ! (0 ∷ []) $ by ! (never_e 𝓤 _)
 

@@ -241,7 +241,7 @@ impl<S: Slice, B: Buffer<S::Item> + Drop, M: Drop, A: Allocator + Copy, H: Mark>
     }
 
     /// The same parts, of items of another kind. It adds nothing.
-    pub fn into_kind<K: Slice<Item = S::Item>>(self) -> SoleNative<K, M, A, H>
+    pub fn into_kind<K: Slice<Item = S::Item>>(self) -> SoleNative<K, B, M, A, H>
         requires { K.DROPS ≡ S.DROPS }
         ensures { result ≡ self }
     {

@@ -1,5 +1,5 @@
 -- An item that lies alone at the front is lent there.
-use Rattle.std.proofs.Common.{◌≡◌, ℕ, ◌+◌, ◌*◌, List, [], ◌∷◌, length, refl, sym, ap, arith}
+use Rattle.std.proofs.Common.{◌≡◌, ℕ, ◌+◌, ◌*◌, List, [], ◌∷◌, length, refl, sym, ap, ◌∙◌, arith}
 use base.Logic.{emp, id⊢}
 use base.Fml.{Fml, ftrue, fhide}
 use types.Kit.{‵, ◌⊛◌, ◌$◌, !, by, move, keep, drop, split, fsplit, fjoin, rewrite, use0, use1}
@@ -19,6 +19,7 @@ use Rattle.arc_owners.specs.contracts.memory.shared_borrow.SharedBorrow as Share
 use Rattle.arc_memory.specs.LentMemory.{LentMemory, frozen, frozen_owns, names_from}
 use Rattle.arc_memory.proofs.Asked.{reads_asked}
 use Rattle.arc_memory.proofs.LentHeld.{there_out}
+use Rattle.arc_memory.proofs.SeenReads.{at_front}
 use Rattle.arc_memory.specs.contracts.frozen_places.FrozenPlaces as FrozenPlaces
 use Rattle.arc_memory.specs.contracts.frozen_places.FrozenPlaces.alone as f
 use Rattle.arc_memory.proofs.frozen_places.FrozenPlaces.alone.Statement.{statement}
@@ -33,9 +34,6 @@ lone : {X : Type 0} (xs : List X) → length xs ≡ 1 → Lone xs
 lone [] long = absurd (omega (arith, long))
 lone (x ∷ []) long = record { item = x; is = refl }
 lone (x ∷ z ∷ zs) long = absurd (omega (arith, long))
-
-at_front : (o start s : ℕ) → start ≡ 0 → o + start * s ≡ o
-at_front o start s is = ap (λ n. o + n * s) is
 
 pub alone_spec : {M : Type 1} → statement M
 alone_spec 𝓤 𝓛 𝓜 𝓡 wired T L =
@@ -59,9 +57,9 @@ alone_spec 𝓤 𝓛 𝓜 𝓡 wired T L =
     (o + me.start * sz E))) only.is refl $
     fsplit ! $ fsplit ! $
     -- [the item; nothing; its name; the tokens]
-    keep ! (0 ∷ 3 ∷ []) $
+    move ! (1 ∷ 2 ∷ []) $ drop ! $ drop ! $
     rewrite ! 0 (λ (n : ℕ). ‵ (shared_of X x b n (m.lifetime ∷ [])))
-    (at_front o me.start (sz E) asked.0) refl $
+    (ap (λ (n : ℕ). o + n * sz E) asked.0 ∙ at_front o (sz E)) refl $
     use0 𝓛 (‵ ftrue) (id⊢ 𝓤 (emp 𝓤)) $ fjoin ! $
     rewrite ! 0 (λ (p : Ptr). ‵ (lent_at X p x (m.lifetime ∷ []))) (sym at_b) refl $
     let new : Row.Denot = record {
@@ -73,4 +71,4 @@ alone_spec 𝓤 𝓛 𝓜 𝓡 wired T L =
     one_made ! (refl, (tt, tt), refl, refl, (tt, (tt, tt))) (look_at ! 0 refl) (free_all ! refl) $
     marked X ! $ keep ! (1 ∷ 0 ∷ []) $
     by ! (spent 𝓛 En c y token new (tt, tt)
-    (told 𝓤 (refl, refl) (fact_i 𝓤 _ (emp 𝓤) only.is) 𝓛)))))))
+    (told 𝓤 (refl, refl) (fact_i 𝓤 _ (emp 𝓤) only.is) 𝓛))))))

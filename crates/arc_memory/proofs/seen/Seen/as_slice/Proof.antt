@@ -1,7 +1,7 @@
 -- `as_slice` shows a range of the items, whatever they lie in: whoever has shares of the lifetime
 -- for as long as a borrow lasts has a `&` to each of them for that long.
 use Rattle.std.proofs.Common.{◌≡◌, ℕ, ◌+◌, ◌-◌, ◌*◌, ◌^◌, ◌<◌, ◌≤◌, List, [], ◌∷◌, length, refl}
-use Rattle.std.proofs.Common.{sym, ap, ◌∙◌, subst, arith, w64, add_comm}
+use Rattle.std.proofs.Common.{◌++◌, sym, ap, ◌∙◌, subst, arith, w64, add_comm}
 use mir.Syntax.{a_type, named}
 use mir.Val.{Val, vptr, vint}
 use mir.MapTy.{inst_fn}

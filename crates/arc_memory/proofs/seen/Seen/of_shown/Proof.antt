@@ -64,7 +64,7 @@ of_shown_spec 𝓤 𝓛 𝓜 𝓡 wired T C LT LC =
     fsplit ! $ fsplit ! $ move ! (1 ∷ []) $ fsplit ! $
     flt_l ! (λ few.
     -- [its bytes; where it begins; the items; all of it again; the tokens]
-    keep ! (3 ∷ 4 ∷ []) $ flt_i ! 0 1 (omega arith) $ fjoin ! $
+    drop ! $ drop ! $ drop ! $ flt_i ! 0 1 (omega arith) $ fjoin ! $
     let new : Row.Denot = record {
       marker = record {};
       native = false;
