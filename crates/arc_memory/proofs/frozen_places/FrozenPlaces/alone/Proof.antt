@@ -2,9 +2,10 @@
 use Rattle.std.proofs.Common.{◌≡◌, ℕ, ◌+◌, ◌*◌, List, [], ◌∷◌, length, refl, sym, ap, ◌∙◌, arith}
 use base.Logic.{emp, id⊢}
 use base.Fml.{Fml, ftrue, fhide}
-use types.Kit.{‵, ◌⊛◌, ◌$◌, !, by, move, keep, drop, split, fsplit, fjoin, rewrite, use0, use1}
+use types.Kit.{‵, raw, ◌⊛◌, ◌$◌, !, by, move, keep, drop, split, fsplit, fjoin, rewrite, use0, use1}
 use types.ByLocal.{alloc_all, pass_all, free_all, look_at}
-use contract.Monad.{fact_i}
+use contract.Monad.{fact, fact_i}
+use contract.BorrowLft.{◌⊑◌}
 use denote.RattleType.{RattleType}
 use denote.RawPtr.{Ptr, block_ptr}
 use denote.Memory.{hidden_shr, shared_of}
@@ -46,7 +47,9 @@ alone_spec 𝓤 𝓛 𝓜 𝓡 wired T L =
     let me : Had-row.Denot = y.0.3.0.now in let b' = y.0.3.0.ref_ptr.0 in
     let o' = y.0.3.0.ref_ptr.1 in let m : LentMemory = me.memory in let xs = me.items in
     let Had : Fml = frozen_owns X m me.start xs in
-    move ! (2 ∷ []) $ heard ! ((me.start ≡ 0) × (length xs ≡ 1)) (λ asked.
+    let Asked : Type 0 = (me.start ≡ 0) × (length xs ≡ 1) in
+    move ! (2 ∷ []) $ use1 𝓛 (raw (fact 𝓤 (y.0.0.1.0 ⊑ T.lives)) ⊛ raw (fact 𝓤 Asked)) (id⊢ 𝓤 _) $
+    split ! $ drop ! $ heard ! Asked (λ asked.
     let only = lone xs asked.1 in let x : X.Denot = only.item in
     alloc_all ! (λ l. pass_all ! refl ((tt, tt), tt) $
     use1 𝓛 (‵ (hidden_shr (Token X) y.0.0.0 (me.marker, tt) b' o') ⊛ ‵ (fhide Had))

@@ -2,9 +2,10 @@
 use Rattle.std.proofs.Common.{◌≡◌, Bool, true, [], ◌∷◌, refl}
 use base.Logic.{emp, id⊢}
 use base.Fml.{Fml, fhide}
-use types.Kit.{‵, ◌⊛◌, ◌$◌, !, by, move, keep, drop, split, fsplit, flt_l, rewrite, use1}
+use types.Kit.{‵, raw, ◌⊛◌, ◌$◌, !, by, move, keep, drop, split, fsplit, flt_l, rewrite, use1}
 use types.ByLocal.{alloc_all, pass_all, free_all, look_at}
-use contract.Monad.{fact_i}
+use contract.Monad.{fact, fact_i}
+use contract.BorrowLft.{◌⊑◌}
 use denote.RattleType.{RattleType}
 use denote.Memory.{hidden_shr}
 use denote.Opens.{unhide}
@@ -33,7 +34,9 @@ frozen_spec 𝓤 𝓛 𝓜 𝓡 wired T C LT LC =
     let me : Had-row.Denot = y.0.3.0.now in let b = y.0.3.0.ref_ptr.0 in
     let o = y.0.3.0.ref_ptr.1 in
     let Had : Fml = seen_owns R S me.memory me.start me.native me.items in
-    move ! (2 ∷ []) $ heard ! (me.native ≡ true) (λ is.
+    move ! (2 ∷ []) $ use1 𝓛 (raw (fact 𝓤 (y.0.0.1.0 ⊑ T.lives)) ⊛ (raw
+    (fact 𝓤 (y.0.0.1.1.0 ⊑ C.lives)) ⊛ raw (fact 𝓤 (me.native ≡ true)))) (id⊢ 𝓤 _) $ split ! $
+    drop ! $ split ! $ drop ! $ heard ! (me.native ≡ true) (λ is.
     alloc_all ! (λ l. pass_all ! refl ((tt, tt), tt) $
     use1 𝓛 (‵ (hidden_shr (Token Marks) y.0.0.0 (me.marker, tt) b o) ⊛ ‵ (fhide Had))
     (id⊢ 𝓤 _) $ split ! $ drop ! $ unhide ! $
