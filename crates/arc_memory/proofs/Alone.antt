@@ -2,10 +2,10 @@
 use Rattle.std.proofs.Common.{◌≡◌, ℕ, ◌+◌, List, [], ◌∷◌, ◌++◌, length, refl, sym, ap, ◌∙◌, arith}
 use Rattle.std.proofs.Common.{length-append}
 
-module _ {T : Type 0} where
-  too-many : (n : ℕ) → n + 1 + 1 ≡ 1 → ⊥
-  too-many n many = omega (arith, many)
+too-many : (n : ℕ) → n + 1 + 1 ≡ 1 → ⊥
+too-many n many = omega (arith, many)
 
+module _ {T : Type 0} where
   lone : (ys : List T) (x : T) → length (ys ++ x ∷ []) ≡ 1 → ys ++ x ∷ [] ≡ x ∷ []
   lone [] x long = refl
   lone (y ∷ ys) x long =
