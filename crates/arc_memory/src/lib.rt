@@ -14,6 +14,7 @@
 pub use allocation::{Allocation, put_together, take_apart};
 pub use arc_owners::lifetime::{EndedLifetime, LifetimeToken};
 pub use base::Base;
+pub use cut_memory::CutMemory;
 pub use frozen_places::FrozenPlaces;
 pub use frozen_reader::FrozenReader;
 pub use head_size::HeadSize;
@@ -34,6 +35,7 @@ pub use writer_places::WriterPlaces;
 
 mod allocation;
 mod base;
+mod cut_memory;
 mod emptied;
 mod frozen_places;
 mod frozen_reader;
