@@ -14,7 +14,7 @@ use super::SoleNative;
 use crate::shared::SharedNative;
 use arc_block::block::{MAX_OWNERS, NativeCount};
 use arc_buffer::kinds::Slice;
-use arc_memory::WriterMemory;
+use arc_memory::{CutMemory, WriterMemory};
 use arc_owners::mark::Mark;
 use std::alloc::Allocator;
 use std::marker::PhantomData;
@@ -61,17 +61,12 @@ impl<S: Slice, M: Drop, A: Allocator + Copy, H: Mark> SoleNative<S, M, A, H> {
         let SoleNative {
             count,
             memory,
-            start,
-            behind: _,
-            beyond,
             alloc: _,
             marker: _,
         } = self;
         let Some(count) = count else { unreachable!() };
-        let capacity = memory.capacity() - beyond;
-        let mut writer = SharedNative::of_sole(count, memory, capacity);
-        writer.advance(start);
-        Ok(writer)
+        let capacity = memory.capacity();
+        Ok(SharedNative::of_sole(count, memory.into_own(), capacity))
     }
 
     /// All items of a block's memory, whose only owner this is, with the first `capacity` of the
@@ -90,13 +85,9 @@ impl<S: Slice, M: Drop, A: Allocator + Copy, H: Mark> SoleNative<S, M, A, H> {
         ensures { result
             ≡ as_unique (native_row (native_writer_over (count_owner count) memory capacity)) }
     {
-        let beyond = memory.capacity() - capacity;
         SoleNative {
             count: Some(count),
-            memory,
-            start: 0,
-            behind: 0,
-            beyond,
+            memory: CutMemory::of(memory, capacity),
             alloc,
             marker: PhantomData,
         }
