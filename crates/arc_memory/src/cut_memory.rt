@@ -56,6 +56,8 @@ impl<T: Drop, A: Allocator> CutMemory<T, A> {
         ensures items { result.places.vec.items ≡ memory.places.vec.items }
         ensures memory { IsCutOf memory capacity result }
         ensures own { KeepsOwn result }
+        ensures all { memory.places.under.start ≡ 0 → capacity ≡ memory.places.under.count
+            → KeepsAll result }
     {
         let (before, places, source) = memory.into_parts();
         let (places, behind) = places.without_spare(capacity);

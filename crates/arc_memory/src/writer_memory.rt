@@ -345,6 +345,12 @@ impl<T: Drop, A: Allocator> WriterMemory<T, A> {
         ensures before { result.0 ≡ self.before }
         ensures places { result.1 ≡ self.places }
         ensures source { result.2 ≡ self.source }
+        ensures front { (result.0.base ≡ result.1.under.base)
+            × (result.0.whole ≡ result.1.under.whole)
+            × (result.0.start ≡ 0) × (result.0.count ≡ result.1.under.start) }
+        ensures unused { length result.0.items ≡ 0 }
+        ensures own { result.1.under.start + result.1.under.count ≡ result.1.under.whole }
+        ensures from { IsFrom result.2 result.1.under.base result.1.under.whole }
     {
         let WriterMemory {
             before,

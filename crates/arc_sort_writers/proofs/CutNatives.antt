@@ -17,16 +17,18 @@ use Rattle.arc_buffer.specs.Slice.{sub}
 use Rattle.arc_buffer.proofs.Sub.{length-sub, sub-whole}
 use Rattle.arc_block.specs.Block.{native, full_places, memory_info}
 use Rattle.arc_block.specs.Natives.{NativeView, native_info, native_over}
-use Rattle.arc_block.specs.Place.{Place, nowhere, on_block, IsOnBlock}
-use Rattle.arc_block.specs.Table.{reader, sole_writer}
+use Rattle.arc_block.specs.Place.{Place, nowhere, on_block, IsOnBlock, size_at, offset_at}
+use Rattle.arc_block.specs.Table.{reader, sole_writer, one_writer_of_several}
 use Rattle.arc_parts.specs.declared.storage.Storage.TheVariants.{Native}
 use Rattle.arc_parts.specs.declared.room.Room.TheVariants.{Behind, Front, Growth}
 use Rattle.arc_parts.specs.Window.{PartsView, IsNativeOf, parts_of, window_seen}
 use Rattle.arc_parts.specs.Writers.{writer_capacity, capacity_of, with_room, with_more}
 use Rattle.arc_parts.specs.Writers.{with_items, after_advance, after_truncate, as_reader}
 use Rattle.arc_parts.specs.Writers.{idle_writer, writer_over, IsWholeWriter}
-use Rattle.arc_sort_writers.specs.SortParts.{sole_native_part}
-use Rattle.arc_sort_writers.specs.CutParts.{cut_native, IsCutNative, IsCutFor, IsPartCut}
+use Rattle.arc_sort_writers.specs.SortParts.{sole_native_part, CanGrowNative}
+use Rattle.arc_sort_writers.specs.NativeWriters.{native_row, native_writer_over}
+use Rattle.arc_parts.specs.Shared.{as_shared}
+use Rattle.arc_sort_writers.specs.CutParts.{cut_native, IsCutNative, IsCutFor, IsPartCut, HasCut}
 use Rattle.arc_sort_writers.proofs.MemoryParts.{slice_is_sub}
 
 module _ {T A : Type 0} where
@@ -127,7 +129,7 @@ module _ {T M A : Type 0} where
       ∙ length-append (xs m) ys in
       let more : full w ≡ full m + length ys = omega
       (arith, long, same.start, ap (λ p. length p.items) same.behind) in
-      let filling = ap (full_places drops) more ∙ filled drops m (length ys) within.2.all there in
+      let filling = ap (full_places drops) more ∙ filled drops m (length ys) within.0.all there in
       (λ i. record {
         items = items i;
         place = on_block (Some o) (same.start i)
@@ -225,7 +227,7 @@ module _ {T M A : Type 0} where
       → cut_native {M = M} drops owner w ≡ with_room Behind seen
   behind_cut true one_pass owner m w seen view copied within items at = absurd (false≢true (sym copied))
   behind_cut false one_pass None m w seen view copied within items at =
-      let idle : room w ≡ 0 = omega (arith, at.count, within.1) in
+      let idle : room w ≡ 0 = omega (arith, at.count, within.1.1) in
       (λ i. record { items = items i; place = nowhere; role = sole_writer (idle i) })
       ∙ ap (with_room Behind) view
   behind_cut false one_pass (Some o) m w seen view copied within items at =
@@ -245,7 +247,7 @@ module _ {T M A : Type 0} where
       → cut_native {M = M} drops owner w ≡ with_room Front seen
   front_cut true one_pass owner m w seen view copied within items at = absurd (false≢true (sym copied))
   front_cut false one_pass None m w seen view copied within items at =
-      let idle : room w ≡ 0 = omega (arith, at.count, within.1) in
+      let idle : room w ≡ 0 = omega (arith, at.count, within.1.1) in
       (λ i. record { items = items i; place = nowhere; role = sole_writer (idle i) })
       ∙ ap (with_room Front) view
   front_cut false one_pass (Some o) m w seen view copied within items at =
@@ -281,6 +283,33 @@ module _ {T M A : Type 0} where
       as-full true stays =
           let same : full w ≡ full m = omega
           (arith, ap (λ zs. length zs) items, begins, stays refl) in ap Some same
+
+  -- who has all places up to the end of the block leaves none behind them
+  pub none_left : (drops one_pass : Bool) (owner : Option Owner) (m : CutMemory T A)
+      (seen : PartsView T M) {places : ℕ} → cut_native {M = M} drops owner m ≡ seen
+      → CanGrowNative drops seen places → drops ≡ true → left m ≡ 0
+  none_left drops one_pass None m seen view grows owned =
+      absurd (subst (λ s. IsOnBlock s.place) (sym view) grows.stands)
+  none_left drops one_pass (Some o) m seen view grows owned =
+      let all : room m ≡ size m - first m = subst
+      (λ s. capacity_of s.role ≡ size_at s.place - offset_at s.place) (sym view)
+      (grows.behind owned) in
+      omega (arith, all, m.back.2, m.back.3, m.behind.inside.1)
+
+  -- the same as one of several writers
+  pub shared_cut : (drops : Bool) (o : Owner) (m : CutMemory T A) (w : WriterMemory T A)
+      (seen : PartsView T M) → cut_native {M = M} drops (Some o) m ≡ seen → drops ≡ false
+      → w.places.vec.items ≡ xs m → IsWholeOf m (first m) w
+      → native_row {M = M} (native_writer_over o w (room m)) ≡ as_shared seen
+  shared_cut true o m w seen view copied items all = absurd (false≢true (sym copied))
+  shared_cut false o m w seen view copied items all =
+      (λ i. record {
+        items = items i;
+        place = on_block (Some o) (all.start i)
+            (record { sort = native; size = all.whole i; full = None; metadata = None });
+        role = one_writer_of_several (room m);
+      })
+      ∙ ap as_shared view
 
   -- all of new memory
   pub new_cut : (drops : Bool) (o : Owner) (w : CutMemory T A) → first w ≡ 0 → left w ≡ 0
@@ -355,7 +384,7 @@ module _ {T M A : Type 0} where
       → parts_of (window_seen {M = M} (Native b) start end) ≡ as_reader seen
   frozen_cut drops one_pass o m w b start end seen view within own all is begins ends =
       (λ i. parts_of (window_seen {M = M} (Native (is i)) (begins i) (ends i)))
-      ∙ again drops own all within.2
+      ∙ again drops own all within.0
       ∙ ap as_reader view
     where
       again : (drops : Bool)
@@ -430,7 +459,7 @@ module _ {T M A : Type 0} where
 
       places : (o : Option Owner) → cut_native {M = M} drops o m ≡ seen
           → IsCutNative drops one_pass o m → size m ≤ n
-      places None view within = omega (arith, within.1)
+      places None view within = omega (arith, within.1.1)
       places (Some o) view within =
           let there = subst (λ s. IsOnBlock s.place → IsNativeOf n s.place) (sym view) whole.block
           tt in
@@ -487,28 +516,94 @@ module _ {T A : Type 0} where
 
       at : (o : Option Owner) → IsCutNative drops one_pass o m → IsCutNative drops one_pass o w
       at None within = (
-        nothing (xs w) (omega (arith, long, fits, none-there m within.1)),
-        same.whole ∙ within.1,
-        keeps within.2,
+        keeps within.0,
+        (
+          nothing (xs w) (omega (arith, long, fits, none-there m within.1.1)),
+          same.whole ∙ within.1.1,
+        ),
       )
-      at (Some o) within =
-          (within.0, subst (λ s. IsPiece s) (sym same.source) within.1, keeps within.2)
+      at (Some o) within = (
+        keeps within.0,
+        (within.1.0, subst (λ s. IsPiece s) (sym same.source) within.1.1),
+      )
 
   -- the same memory, of which other places are his
   pub within_at : (drops one_pass : Bool) (owner : Option Owner) (m w : CutMemory T A)
       (at many gone : ℕ) → IsCutNative drops one_pass owner m → IsCutAt m at many gone w
       → length (xs w) ≤ length (xs m) → IsCutFor drops w → IsCutNative drops one_pass owner w
   within_at drops one_pass None m w at many gone within cut fewer kept = (
-    nothing (xs w) (omega (arith, fewer, ap (λ zs. length zs) within.0)),
-    cut.whole ∙ within.1,
     kept,
+    (
+      nothing (xs w) (omega (arith, fewer, ap (λ zs. length zs) within.1.0)),
+      cut.whole ∙ within.1.1,
+    ),
   )
     where
       nothing : (zs : List T) → length zs ≡ 0 → zs ≡ []
       nothing [] is = refl
       nothing (z ∷ zs) is = absurd (omega (arith, is))
   within_at drops one_pass (Some o) m w at many gone within cut fewer kept =
-      (within.0, subst (λ s. IsPiece s) (sym cut.source) within.1, kept)
+      (kept, (within.1.0, subst (λ s. IsPiece s) (sym cut.source) within.1.1))
+
+  -- with the first so many of his items, where others are forgotten
+  pub within_short : (drops one_pass : Bool) (owner : Option Owner) (m w : CutMemory T A) (n : ℕ)
+      → IsCutNative drops one_pass owner m → drops ≡ false → xs w ≡ take n (xs m) → SameCut m w
+      → IsCutNative drops one_pass owner w
+  within_short drops one_pass owner m w n within copied items same = (
+    record {
+      all = λ owned. absurd (false≢true (sym copied ∙ owned));
+      own = λ again. record {
+        front = subst (λ p. length p.items ≡ 0) (sym same.before) (within.0.own again).front;
+        back = subst (λ p. length p.items ≡ 0) (sym same.behind) (within.0.own again).back;
+      };
+    },
+    at owner within,
+  )
+    where
+      none : (k : ℕ) → ◌≡◌ {A = List T} (take k []) []
+      none zero = refl
+      none (suc k) = refl
+
+      at : (o : Option Owner) → IsCutNative drops one_pass o m → HasCut one_pass o w
+      at None within =
+          (items ∙ ap (take n) within.1.0 ∙ none n, same.whole ∙ within.1.1)
+      at (Some o) within = (within.1.0, subst (λ s. IsPiece s) (sym same.source) within.1.1)
+
+  -- once other items were written over his
+  pub within_lent : (drops one_pass : Bool) (owner : Option Owner) (m : CutMemory T A)
+      (ws : List T) → IsCutNative drops one_pass owner m
+      → IsCutNative drops one_pass owner (with_cut_written m ws)
+  within_lent drops one_pass owner m ws within = (keeps within.0, at owner within)
+    where
+      written : List T
+      written = xs (with_cut_written m ws)
+
+      long : length written ≡ length (xs m)
+      long = sym (length_refill m.places.vec.len (xs m) ws m.places.vec.ok.0) ∙ m.places.vec.ok.0
+
+      keeps : IsCutFor drops m → IsCutFor drops (with_cut_written m ws)
+      keeps kept = record {
+        all = λ owned. record {
+          front = (kept.all owned).front;
+          back = λ less. (kept.all owned).back (omega (arith, less, long));
+        };
+        own = λ copied. record {
+          front = (kept.own copied).front;
+          back = (kept.own copied).back;
+        };
+      }
+
+      nothing : (zs : List T) → length zs ≡ 0 → zs ≡ []
+      nothing [] is = refl
+      nothing (z ∷ zs) is = absurd (omega (arith, is))
+
+      at : (o : Option Owner) → IsCutNative drops one_pass o m
+          → HasCut one_pass o (with_cut_written m ws)
+      at None within = (
+        nothing written (omega (arith, long, ap (λ zs. length zs) within.1.0)),
+        within.1.1,
+      )
+      at (Some o) within = within.1
 
   -- which items are kept, by what is known of the kind
   pub keeps_all : (drops : Bool) (m : CutMemory T A) → drops ≡ true → KeepsAll m → IsCutFor drops m

@@ -37,11 +37,13 @@ module _ {T A : Type 0} where
     pub own : drops ≡ false → KeepsOwn m
 
   -- who stands on a native block has its memory, and who stands on nothing has none
+  abbrev pub HasCut : Bool → Option Owner → CutMemory T A → Type 0
+  HasCut one_pass None m = (m.places.vec.items ≡ []) × (m.places.under.whole ≡ 0)
+  HasCut one_pass (Some o) m = IsLimited MAX_OWNERS one_pass o × IsPiece m.source
+
+  -- and it keeps the items that it is to keep
   abbrev pub IsCutNative : Bool → Bool → Option Owner → CutMemory T A → Type 0
-  IsCutNative drops one_pass None m =
-      (m.places.vec.items ≡ []) × (m.places.under.whole ≡ 0) × IsCutFor drops m
-  IsCutNative drops one_pass (Some o) m =
-      IsLimited MAX_OWNERS one_pass o × IsPiece m.source × IsCutFor drops m
+  IsCutNative drops one_pass owner m = IsCutFor drops m × HasCut one_pass owner m
 
   -- The places between these of all that hold items are the writer's own, and where none lie behind
   -- them also those up to the end. Items that are dropped one by one stay behind and before them.

@@ -125,6 +125,31 @@ fn part_of<S: Slice, A: Allocator>(
     part
 }
 
+/// Makes it memory of so many places, with the items that it keeps in the same places. None lie
+/// behind the writer's, who has all places there then.
+fn grown<S: Slice, A: Allocator>(
+    memory: &mut CutMemory<S::Item, A>,
+    alloc: A,
+    places: usize,
+) -> Result<(), AllocError>
+    requires kept { IsCutFor S.DROPS memory.old }
+    requires last { S.DROPS ≡ true → length memory.old.behind.items ≡ 0 }
+    requires places { memory.old.places.under.start + length memory.old.places.vec.items ≤ places }
+    ensures kept { IsCutFor S.DROPS memory.new }
+    ensures items { memory.new.places.vec.items ≡ memory.old.places.vec.items }
+    ensures start { memory.new.places.under.start ≡ memory.old.places.under.start }
+    ensures left { S.DROPS ≡ true → length memory.new.behind.items ≡ 0 }
+    ensures grown { OnOk result ((memory.new.places.under.whole ≡ places)
+        × (memory.new.places.under.count ≡ places - memory.old.places.under.start)
+        × IsPiece memory.new.source) }
+    ensures refused { OnErr result (memory.new ≡ memory.old) }
+{
+    if S::DROPS {
+        return memory.grow_all(alloc, places);
+    }
+    memory.grow_own(alloc, places)
+}
+
 impl<S: Slice, M: Drop, A: Allocator + Copy, H: Mark> SoleNative<S, M, A, H> {
     /// No items and no places, on nothing.
     pub fn on_nothing(alloc: A) -> Self
@@ -494,10 +519,10 @@ impl<S: Slice, M: Drop, A: Allocator + Copy, H: Mark> SoleNative<S, M, A, H> {
             × (capacity_of self.new.role ≡ places - offset_at self.old.place)) }
         ensures refused { OnErr result (self.new ≡ self.old) }
     {
-        if S::DROPS {
-            return self.memory.grow_all(self.alloc, places);
+        match grown::<S, A>(&mut self.memory, self.alloc, places) {
+            Ok(()) => Ok(()),
+            Err(e) => Err(e),
         }
-        self.memory.grow_own(self.alloc, places)
     }
 
     /// Has all places up to the end of the block.

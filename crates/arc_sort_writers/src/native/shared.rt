@@ -64,9 +64,10 @@ impl<S: Slice, M: Drop, A: Allocator + Copy, H: Mark> SoleNative<S, M, A, H> {
             alloc: _,
             marker: _,
         } = self;
-        let Some(count) = count else { unreachable!() };
         let capacity = memory.capacity();
-        Ok(SharedNative::of_sole(count, memory.into_own(), capacity))
+        let memory = memory.into_own();
+        let Some(count) = count else { unreachable!() };
+        Ok(SharedNative::of_sole(count, memory, capacity))
     }
 
     /// All items of a block's memory, whose only owner this is, with the first `capacity` of the
