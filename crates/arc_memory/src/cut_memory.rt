@@ -1,6 +1,6 @@
 //! The memory of a native block while its only owner writes, parted at the ends of his places.
 ghost use Rattle.std.specs.Prelude.{◌≡◌, ◌+◌, ◌-◌, ◌<◌, ◌≤◌, ◌∷◌, [], ◌++◌, length, take, drop};
-ghost use Rattle.std.specs.Prelude.{OnOk, OnErr, ◌⊎◌};
+ghost use Rattle.std.specs.Prelude.{OnOk, OnErr};
 ghost use Rattle.arc_memory.specs.Sources.{IsFrom, IsFrom-set};
 ghost use Rattle.arc_memory.specs.Allocations.{IsPart};
 
@@ -112,7 +112,7 @@ impl<T: Drop, A: Allocator> CutMemory<T, A> {
             left: _,
             source,
         } = self;
-        let own = places.into_places().join(behind);
+        let own = join_kept(places.into_places(), behind);
         let (before, all) = before.join(own).split(0);
         WriterMemory {
             before,
@@ -177,11 +177,13 @@ impl<T: Drop, A: Allocator> CutMemory<T, A> {
     {
         match &self.source {
             Source::Nothing => 0,
-            Source::Piece(PieceWithRoom {
-                piece,
-                room: _,
-                head: _,
-            }) => piece.count(),
+            Source::Piece(
+                PieceWithRoom {
+                    piece,
+                    room: _,
+                    head: _,
+                },
+            ) => piece.count(),
         }
     }
 
@@ -220,8 +222,7 @@ impl<T: Drop, A: Allocator> CutMemory<T, A> {
         replace_with(&mut self.before, front, joined);
     }
 
-    /// The same, with the items in them.
-    #[inline(always)]
+    /// Leaves the first `count` places to those before the writer's, with the items in them.
     pub fn keep_front(&mut self, count: usize)
         requires count { count ≤ length self.old.places.vec.items }
         requires all { KeepsAll self.old }
@@ -230,8 +231,34 @@ impl<T: Drop, A: Allocator> CutMemory<T, A> {
             (self.old.places.under.count - count) (length self.old.behind.items) self.new }
         ensures all { KeepsAll self.new }
     {
-        let front = replace_with(&mut self.places, count, WriterPlaces::without_front);
-        replace_with(&mut self.before, front, joined);
+        replace_with(self, count, Self::with_front_kept);
+    }
+
+    /// The same memory, without the first places as the writer's.
+    fn with_front_kept(self, count: usize) -> (Self, ())
+        requires count { count ≤ length self.places.vec.items }
+        requires all { KeepsAll self }
+        ensures items { result.0.places.vec.items ≡ drop count self.places.vec.items }
+        ensures memory { IsCutAt self (self.places.under.start + count)
+            (self.places.under.count - count) (length self.behind.items) result.0 }
+        ensures all { KeepsAll result.0 }
+    {
+        let CutMemory {
+            places,
+            before,
+            behind,
+            left,
+            source,
+        } = self;
+        let (places, front) = places.without_front(count);
+        let memory = CutMemory {
+            places,
+            before: before.join(front),
+            behind,
+            left,
+            source,
+        };
+        (memory, ())
     }
 
     /// Leaves the first `len` items, with no other place. Those behind them stay there.
@@ -243,9 +270,35 @@ impl<T: Drop, A: Allocator> CutMemory<T, A> {
             (length self.old.places.vec.items - len + length self.old.behind.items) self.new }
         ensures all { KeepsAll self.new }
     {
-        self.left += self.places.len() - len;
-        let back = replace_with(&mut self.places, len, WriterPlaces::without_back);
-        replace_with(&mut self.behind, back, joined_before);
+        replace_with(self, len, Self::with_back_kept);
+    }
+
+    /// The same memory, of which the first places alone are the writer's, which are full.
+    fn with_back_kept(self, len: usize) -> (Self, ())
+        requires len { len ≤ length self.places.vec.items }
+        requires all { KeepsAll self }
+        ensures items { result.0.places.vec.items ≡ take len self.places.vec.items }
+        ensures memory { IsCutAt self self.places.under.start len
+            (length self.places.vec.items - len + length self.behind.items) result.0 }
+        ensures all { KeepsAll result.0 }
+    {
+        let CutMemory {
+            places,
+            before,
+            behind,
+            left,
+            source,
+        } = self;
+        let left = places.len() - len + left;
+        let (places, back) = places.without_back(len);
+        let memory = CutMemory {
+            places,
+            before,
+            behind: join_kept(back, behind),
+            left,
+            source,
+        };
+        (memory, ())
     }
 
     /// Has all places up to the end of the memory.
@@ -406,26 +459,26 @@ impl<T: Copy + Drop, A: Allocator> CutMemory<T, A> {
     }
 }
 
-/// Places with others behind them, as one range.
+/// Places with others behind them, as one range, for who takes what lies behind out at once.
 #[inline(always)]
 fn joined<T>(front: Places<T>, back: Places<T>) -> (Places<T>, ())
     requires next { IsPart front back × (back.start ≡ front.start + front.count) }
-    requires full { (length front.items ≡ front.count) ⊎ (back.items ≡ []) }
+    requires empty { back.items ≡ [] }
     ensures allocation { IsPart front result.0 × (result.0.start ≡ front.start) }
     ensures places { (result.0.count ≡ front.count + back.count)
-        × (result.0.items ≡ front.items ++ back.items) }
+        × (length result.0.items ≡ length front.items) }
 {
     (front.join(back), ())
 }
 
-/// Places with others before them, as one range.
+/// Both as one range: where the first aren't full, there are no others.
 #[inline(always)]
-fn joined_before<T>(back: Places<T>, front: Places<T>) -> (Places<T>, ())
+fn join_kept<T>(front: Places<T>, back: Places<T>) -> Places<T>
     requires next { IsPart front back × (back.start ≡ front.start + front.count) }
-    requires full { (length front.items ≡ front.count) ⊎ (back.items ≡ []) }
-    ensures allocation { IsPart front result.0 × (result.0.start ≡ front.start) }
-    ensures places { (result.0.count ≡ front.count + back.count)
-        × (result.0.items ≡ front.items ++ back.items) }
+    requires full { length front.items < front.count → back.count ≡ 0 }
+    ensures allocation { IsPart front result × (result.start ≡ front.start) }
+    ensures places { (result.count ≡ front.count + back.count)
+        × (result.items ≡ front.items ++ back.items) }
 {
-    (front.join(back), ())
+    front.join(back)
 }

@@ -207,7 +207,10 @@ impl<T> WriterPlaces<T> {
         let (base, start) = (self.base(), self.start());
         let (len, capacity) = (self.len(), self.capacity());
         let (front, own) = self.into_places().split(at);
-        (unsafe { Self::of(own, base, start + at, len - at, capacity - at) }, front)
+        (
+            unsafe { Self::of(own, base, start + at, len - at, capacity - at) },
+            front,
+        )
     }
 
     /// The same, once the items of the first places are forgotten: it is for items that need no

@@ -85,9 +85,7 @@ impl<S: Slice, M: Drop, A: Allocator + Copy, H: Mark> Drop for SoleNative<S, M, 
 /// All of a writer's memory, with the items that are to be dropped with it: where they are dropped
 /// one by one these are all that lie there, and else his own.
 #[inline(always)]
-fn whole_of<S: Slice, A: Allocator>(
-    memory: CutMemory<S::Item, A>,
-) -> WriterMemory<S::Item, A>
+fn whole_of<S: Slice, A: Allocator>(memory: CutMemory<S::Item, A>) -> WriterMemory<S::Item, A>
     requires { IsCutFor S.DROPS memory }
     ensures own { S.DROPS ≡ false → IsWholeOf memory memory.places.under.start result
         × (result.places.vec.items ≡ memory.places.vec.items) }

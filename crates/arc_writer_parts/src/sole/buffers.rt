@@ -77,7 +77,9 @@ impl<S: Slice, B: BufferMut<S::Item> + Drop, M: Drop, A: Allocator + Copy, H: Ma
         let SoleParts { on } = self;
         match on {
             SoleStorage::Native(parts) => Err(Self::in_native(parts.not_buffer())),
-            SoleStorage::Other(SoleOther::Vector(parts)) => Err(Self::in_vector(parts.not_buffer())),
+            SoleStorage::Other(SoleOther::Vector(parts)) => Err(Self::in_vector(
+                parts.not_buffer(),
+            )),
             SoleStorage::Other(SoleOther::Buffer(parts)) => match parts.try_into_buffer_as(pass) {
                 Ok(buffer) => Ok(buffer),
                 Err(back) => Err(Self::in_buffer(back)),

@@ -183,7 +183,9 @@ impl<S: Slice, B: BufferMut<S::Item> + Drop, M: Drop, A: Allocator + Copy, H: Ma
                 Err(back) => Err(Self::in_native(back)),
             },
             SoleStorage::Other(SoleOther::Vector(parts)) => Err(Self::in_vector(parts.not_array())),
-            SoleStorage::Other(SoleOther::Buffer(parts)) => Err(Self::in_buffer(parts.not_memory())),
+            SoleStorage::Other(SoleOther::Buffer(parts)) => Err(Self::in_buffer(
+                parts.not_memory(),
+            )),
         }
     }
 

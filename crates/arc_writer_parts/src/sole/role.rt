@@ -146,7 +146,9 @@ impl<S: Slice, B: BufferMut<S::Item> + Drop, M: Drop, A: Allocator + Copy, H: Ma
                 Ok(items) => Ok(items),
                 Err(back) => Err(Self::in_vector(back)),
             },
-            SoleStorage::Other(SoleOther::Buffer(parts)) => Err(Self::in_buffer(parts.not_memory())),
+            SoleStorage::Other(SoleOther::Buffer(parts)) => Err(Self::in_buffer(
+                parts.not_memory(),
+            )),
         }
     }
 
@@ -166,7 +168,9 @@ impl<S: Slice, B: BufferMut<S::Item> + Drop, M: Drop, A: Allocator + Copy, H: Ma
                 Ok(items) => Ok(items),
                 Err(back) => Err(Self::in_vector(back)),
             },
-            SoleStorage::Other(SoleOther::Buffer(parts)) => Err(Self::in_buffer(parts.not_memory())),
+            SoleStorage::Other(SoleOther::Buffer(parts)) => Err(Self::in_buffer(
+                parts.not_memory(),
+            )),
         }
     }
 
@@ -311,9 +315,13 @@ where
         pass: &mut Pass<H>,
     ) -> Result<(), TryReserveError> {
         match &mut self.on {
-            SoleStorage::Other(SoleOther::Buffer(parts)) => parts.try_extend_from_slice_as(items, pass),
+            SoleStorage::Other(SoleOther::Buffer(parts)) => parts.try_extend_from_slice_as(
+                items, pass,
+            ),
             SoleStorage::Native(parts) => parts.try_extend_from_slice_as(items, pass),
-            SoleStorage::Other(SoleOther::Vector(parts)) => parts.try_extend_from_slice_as(items, pass),
+            SoleStorage::Other(SoleOther::Vector(parts)) => parts.try_extend_from_slice_as(
+                items, pass,
+            ),
         }
     }
 

@@ -31,8 +31,11 @@ invariant_of-self-then-DROPS g c =
     within_at g.S.Slice.DROPS g.H.Mark.whole (option_map count_owner c.self.inside.count) m w
     (m.places.under.start + c.args.count) (m.places.under.count - c.args.count)
     (length m.behind.items) c.self.invariant c.keep_front.ensures.memory
-    (omega (arith, ap (λ zs. length zs) c.keep_front.ensures.items,
-    length-drop c.args.count m.places.vec.items))
+    (omega (
+      arith,
+      ap (λ zs. length zs) c.keep_front.ensures.items,
+      length-drop c.args.count m.places.vec.items,
+    ))
     (keeps_all g.S.Slice.DROPS w (sym c.DROPS.ensures ∙ c.if-DROPS.true) c.keep_front.ensures.all)
 
 pub invariant_of-self : goal.invariant_of-self
@@ -41,7 +44,10 @@ invariant_of-self g c =
     within_at g.S.Slice.DROPS g.H.Mark.whole (option_map count_owner c.self.inside.count) m w
     (m.places.under.start + c.args.count) (m.places.under.count - c.args.count) 0
     c.self.invariant c.forget_front.ensures.memory
-    (omega (arith, ap (λ zs. length zs) c.forget_front.ensures.items,
-    length-drop c.args.count m.places.vec.items))
+    (omega (
+      arith,
+      ap (λ zs. length zs) c.forget_front.ensures.items,
+      length-drop c.args.count m.places.vec.items,
+    ))
     (keeps_own g.S.Slice.DROPS w (sym c.DROPS.ensures ∙ c.if-DROPS.false)
     c.forget_front.ensures.own)

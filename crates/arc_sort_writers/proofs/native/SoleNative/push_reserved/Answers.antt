@@ -12,9 +12,12 @@ returns g c =
     c.self.invariant c.push_reserved.ensures.items c.push_reserved.ensures.memory c.requires
 
 pub push_reserved-requires : goal.push_reserved-requires
-push_reserved-requires g c = omega (arith, fits_cut g.S.Slice.DROPS
-    (option_map count_owner c.self.inside.count) c.self.inside.memory c.args.self.now 1
-    c.self.view_is c.requires)
+push_reserved-requires g c = omega (
+  arith,
+  fits_cut g.S.Slice.DROPS
+      (option_map count_owner c.self.inside.count) c.self.inside.memory c.args.self.now 1
+      c.self.view_is c.requires,
+)
 
 pub invariant_of-self : goal.invariant_of-self
 invariant_of-self g c =

@@ -28,8 +28,11 @@ invariant_of-self-then-DROPS g c =
     m.places.under.start c.args.len
     (length m.places.vec.items - c.args.len + length m.behind.items) c.self.invariant
     c.keep_back.ensures.memory
-    (omega (arith, ap (λ zs. length zs) c.keep_back.ensures.items,
-    length-take-le c.args.len m.places.vec.items short))
+    (omega (
+      arith,
+      ap (λ zs. length zs) c.keep_back.ensures.items,
+      length-take-le c.args.len m.places.vec.items short,
+    ))
     (keeps_all g.S.Slice.DROPS w (sym c.DROPS.ensures ∙ c.if-DROPS.true) c.keep_back.ensures.all)
 
 pub invariant_of-self : goal.invariant_of-self
