@@ -1,5 +1,5 @@
 -- Places are full, or none are behind them.
-use Rattle.std.proofs.Common.{◌≡◌, ℕ, ◌<◌, ◌≤◌, ◌⊎◌, List, [], ◌∷◌, length, refl, arith}
+use Rattle.std.proofs.Common.{◌≡◌, ℕ, ◌<◌, ◌≤◌, ◌⊎◌, List, [], ◌∷◌, length, refl, arith, inl, inr}
 use Rattle.std.proofs.Common.{nat_lt, Bool, true, false}
 use Rattle.std.proofs.lemmas.Bool.{ltb-true, ltb-false}
 use Rattle.arc_memory.proofs.cut_memory.join_kept.Goals as goal
