@@ -11,7 +11,7 @@ use Rattle.arc_owners.specs.count.Calls.{Owner}
 use Rattle.arc_memory.specs.declared.cut_memory.CutMemory.{CutMemory}
 use Rattle.arc_memory.specs.declared.writer_memory.WriterMemory.{WriterMemory}
 use Rattle.arc_memory.specs.Sources.{IsPiece}
-use Rattle.arc_memory.specs.CutMemories.{KeepsAll, KeepsOwn, SameCut, IsCutAt, IsWholeOf}
+use Rattle.arc_memory.specs.CutMemories.{KeepsAll, KeepsOwn, SameCut, IsCutAt, IsCutOf, IsWholeOf}
 use Rattle.arc_memory.specs.CutMemories.{with_cut_written}
 use Rattle.arc_buffer.specs.Slice.{sub}
 use Rattle.arc_buffer.proofs.Sub.{length-sub, sub-whole}
@@ -618,3 +618,110 @@ module _ {T A : Type 0} where
     all = λ owned. absurd (false≢true (sym copied ∙ owned));
     own = λ same. kept;
   }
+
+-- The part from start to end of all that hold items, as it is cut: m is the memory, c that with all
+-- places as the writer's, f without those before the part, and w the part.
+module _ {T A : Type 0} (m : WriterMemory T A) (start end : ℕ) where
+  abbrev part : List T → List T
+  part ys = take (end - start) (drop start ys)
+
+  is-part : (c f w : CutMemory T A) → start ≤ end → xs c ≡ m.places.vec.items
+      → xs f ≡ drop start (xs c) → xs w ≡ take (end - start) (xs f)
+      → xs w ≡ sub m.places.vec.items start end
+  is-part c f w ordered all behind short =
+      short ∙ ap (take (end - start)) behind ∙ ap part all
+      ∙ slice_is_sub m.places.vec.items start end ordered
+
+  pub part_forgotten : (c f w : CutMemory T A) (capacity : ℕ) → start ≤ end
+      → end ≤ length m.places.vec.items → capacity ≡ m.places.under.count
+      → xs c ≡ m.places.vec.items → IsCutOf m capacity c
+      → xs f ≡ drop start (xs c) → IsCutAt c (first c + start) (room c - start) 0 f
+      → KeepsOwn f → xs w ≡ take (end - start) (xs f) → SameCut f w
+      → IsPartCut false m start end w
+  part_forgotten c f w capacity ordered inside full all cut behind at own short same = record {
+    source = same.source ∙ at.source ∙ cut.source;
+    items = is-part c f w ordered all behind short;
+    start = omega (arith, same.start, at.start, cut.start);
+    whole = same.whole ∙ at.whole ∙ cut.whole;
+    own = λ copied. omega (arith, same.count, at.count, cut.count, full, m.own);
+    full = λ owned. absurd (false≢true owned);
+    last = λ owned. absurd (false≢true owned);
+    inner = λ owned. absurd (false≢true owned);
+    kept = record {
+      all = λ owned. absurd (false≢true owned);
+      own = λ copied. record {
+        front = subst (λ p. length p.items ≡ 0) (sym same.before) own.front;
+        back = subst (λ p. length p.items ≡ 0) (sym same.behind) own.back;
+      };
+    };
+  }
+
+  pub part_kept : (c f : CutMemory T A) (capacity : ℕ) → start ≤ end
+      → end ≤ length m.places.vec.items → end ≡ length m.places.vec.items
+      → capacity ≡ m.places.under.count
+      → xs c ≡ m.places.vec.items → IsCutOf m capacity c → KeepsOwn c
+      → xs f ≡ drop start (xs c)
+      → IsCutAt c (first c + start) (room c - start) (left c) f → KeepsAll f
+      → IsPartCut true m start end f
+  part_kept c f capacity ordered inside last full all cut own behind at kept =
+      let long : length (xs f) ≡ length m.places.vec.items - start = ap (λ ys. length ys) behind
+      ∙ length-drop start (xs c) ∙ ap (λ ys. length ys - start) all in
+      let whole : take (end - start) (xs f) ≡ xs f =
+      take_all (end - start) (xs f) (omega (arith, long, last)) in
+      record {
+        source = at.source ∙ cut.source;
+        items = is-part c f f ordered all behind (sym whole);
+        start = omega (arith, at.start, cut.start);
+        whole = at.whole ∙ cut.whole;
+        own = λ copied. absurd (false≢true (sym copied));
+        full = λ owned. omega
+            (arith, long, at.start, cut.start, at.left, own.back, ordered, inside);
+        last = λ owned ends. omega (arith, at.count, cut.count, full, m.own);
+        inner = λ owned short. absurd (omega (arith, short, last));
+        kept = record {
+          all = λ owned. kept;
+          own = λ copied. absurd (false≢true (sym copied));
+        };
+      }
+
+  pub part_kept_short : (c f w : CutMemory T A) (capacity : ℕ) → start ≤ end
+      → end ≤ length m.places.vec.items → end < length m.places.vec.items
+      → capacity ≡ m.places.under.count
+      → xs c ≡ m.places.vec.items → IsCutOf m capacity c → KeepsOwn c
+      → xs f ≡ drop start (xs c)
+      → IsCutAt c (first c + start) (room c - start) (left c) f
+      → xs w ≡ take (end - start) (xs f)
+      → IsCutAt f (first f) (end - start) (length (xs f) - (end - start) + left f) w → KeepsAll w
+      → IsPartCut true m start end w
+  part_kept_short c f w capacity ordered inside short full all cut own behind at front cutting kept
+      =
+      let long : length (xs f) ≡ length m.places.vec.items - start = ap (λ ys. length ys) behind
+      ∙ length-drop start (xs c) ∙ ap (λ ys. length ys - start) all in
+      let some : length (xs w) ≡ end - start = ap (λ ys. length ys) front
+      ∙ length-take-le (end - start) (xs f) (omega (arith, long, ordered, inside)) in
+      record {
+        source = cutting.source ∙ at.source ∙ cut.source;
+        items = is-part c f w ordered all behind front;
+        start = omega (arith, cutting.start, at.start, cut.start);
+        whole = cutting.whole ∙ at.whole ∙ cut.whole;
+        own = λ copied. absurd (false≢true (sym copied));
+        full = λ owned. omega (
+          arith,
+          long,
+          some,
+          cutting.start,
+          at.start,
+          cut.start,
+          cutting.left,
+          at.left,
+          own.back,
+          ordered,
+          inside,
+        );
+        last = λ owned ends. absurd (omega (arith, short, ends));
+        inner = λ owned less. cutting.count;
+        kept = record {
+          all = λ owned. kept;
+          own = λ copied. absurd (false≢true (sym copied));
+        };
+      }

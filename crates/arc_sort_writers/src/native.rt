@@ -109,16 +109,44 @@ fn part_of<S: Slice, A: Allocator>(
     requires first { S.DROPS ≡ true → memory.places.under.start ≡ 0 }
     ensures { IsPartCut S.DROPS memory start end result }
 {
+    if S::DROPS {
+        return kept_part(memory, start, end);
+    }
+    forgotten_part(memory, start, end)
+}
+
+/// `part_of` of items that aren't dropped one by one.
+fn forgotten_part<T: Drop, A: Allocator>(
+    memory: WriterMemory<T, A>,
+    start: usize,
+    end: usize,
+) -> CutMemory<T, A>
+    requires range { (start ≤ end) × (end ≤ length memory.places.vec.items) }
+    ensures { IsPartCut false memory start end result }
+{
+    let capacity = memory.capacity();
+    let mut part = CutMemory::of(memory, capacity);
+    part.forget_front(start);
+    part.truncate(end - start);
+    part
+}
+
+/// `part_of` of items that are dropped one by one.
+fn kept_part<T: Drop, A: Allocator>(
+    memory: WriterMemory<T, A>,
+    start: usize,
+    end: usize,
+) -> CutMemory<T, A>
+    requires range { (start ≤ end) × (end ≤ length memory.places.vec.items) }
+    requires first { memory.places.under.start ≡ 0 }
+    ensures { IsPartCut true memory start end result }
+{
     let (len, capacity) = (memory.len(), memory.capacity());
     let mut part = CutMemory::of(memory, capacity);
-    if !S::DROPS {
-        part.forget_front(start);
-        part.truncate(end - start);
-        return part;
-    }
     part.keep_front(start);
     if end < len {
         part.keep_back(end - start);
+        return part;
     }
     part
 }
