@@ -22,7 +22,7 @@ use Rattle.arc_block.specs.Table.{reader, sole_writer, one_writer_of_several}
 use Rattle.arc_parts.specs.declared.storage.Storage.TheVariants.{Native}
 use Rattle.arc_parts.specs.declared.room.Room.TheVariants.{Behind, Front, Growth}
 use Rattle.arc_parts.specs.Window.{PartsView, IsNativeOf, parts_of, window_seen}
-use Rattle.arc_parts.specs.Writers.{writer_capacity, capacity_of, with_room, with_more}
+use Rattle.arc_parts.specs.Writers.{writer_capacity, capacity_of, with_room, with_more, with_full}
 use Rattle.arc_parts.specs.Writers.{with_items, after_advance, after_truncate, as_reader}
 use Rattle.arc_parts.specs.Writers.{idle_writer, writer_over, IsWholeWriter}
 use Rattle.arc_sort_writers.specs.SortParts.{sole_native_part, CanGrowNative}
@@ -310,6 +310,16 @@ module _ {T M A : Type 0} where
         role = one_writer_of_several (room m);
       })
       ∙ ap as_shared view
+
+  -- where items aren't dropped one by one, full places aren't counted
+  pub uncounted_cut : (drops : Bool) (owner : Option Owner) (m : CutMemory T A)
+      (seen : PartsView T M) → cut_native {M = M} drops owner m ≡ seen → drops ≡ false
+      → (len more : ℕ) → with_full len more seen.place ≡ seen.place
+  uncounted_cut drops None m seen view copied len more =
+      subst (λ (s : PartsView T M). with_full len more s.place ≡ s.place) view refl
+  uncounted_cut true (Some o) m seen view copied len more = absurd (false≢true (sym copied))
+  uncounted_cut false (Some o) m seen view copied len more =
+      subst (λ (s : PartsView T M). with_full len more s.place ≡ s.place) view refl
 
   -- all of new memory
   pub new_cut : (drops : Bool) (o : Owner) (w : CutMemory T A) → first w ≡ 0 → left w ≡ 0
@@ -622,14 +632,11 @@ module _ {T A : Type 0} where
 -- The part from start to end of all that hold items, as it is cut: m is the memory, c that with all
 -- places as the writer's, f without those before the part, and w the part.
 module _ {T A : Type 0} (m : WriterMemory T A) (start end : ℕ) where
-  abbrev part : List T → List T
-  part ys = take (end - start) (drop start ys)
-
   is-part : (c f w : CutMemory T A) → start ≤ end → xs c ≡ m.places.vec.items
       → xs f ≡ drop start (xs c) → xs w ≡ take (end - start) (xs f)
       → xs w ≡ sub m.places.vec.items start end
   is-part c f w ordered all behind short =
-      short ∙ ap (take (end - start)) behind ∙ ap part all
+      short ∙ ap (take (end - start)) behind ∙ ap (λ ys. take (end - start) (drop start ys)) all
       ∙ slice_is_sub m.places.vec.items start end ordered
 
   pub part_forgotten : (c f w : CutMemory T A) (capacity : ℕ) → start ≤ end

@@ -27,7 +27,7 @@ impl<S: Slice, M: Drop, A: Allocator + Copy, H: Mark> SoleNative<S, M, A, H> {
 
     /// Full places aren't counted: none are more when items are pushed. Does nothing: its contract
     /// is the law.
-    #[tactic(auto, using(crate::proofs::SoleNatives::uncounted_native))]
+    #[tactic(auto, using(crate::proofs::CutNatives::uncounted_cut))]
     pub fn known_uncounted(&self)
         requires { S.DROPS ≡ false }
         ensures { (len more : ℕ) → with_full len more self.now.place ≡ self.now.place }
