@@ -100,7 +100,7 @@ impl<T: Drop, A: Allocator> CutMemory<T, A> {
     pub fn into_all(self) -> WriterMemory<T, A>
         requires { KeepsAll self }
         ensures items { result.places.vec.items
-            ≡ self.before.items ++ self.places.vec.items ++ self.behind.items }
+            ≡ self.before.items ++ (self.places.vec.items ++ self.behind.items) }
         ensures memory { IsWholeOf self 0 result }
     {
         let (base, start, count) = (self.places.base(), self.places.start(), self.count());

@@ -63,7 +63,9 @@ module _ {T A : Type 0} where
       → full_places drops (full m + n)
       ≡ option_map (λ k. k + (n - (k - (first m + length (xs m))))) (full_places drops (full m))
   filled false m n kept fits = refl
-  filled true m zero kept fits = ap Some (omega arith)
+  filled true m zero kept fits =
+      let same : full m + 0 ≡ full m + (0 - (full m - (first m + length (xs m)))) = omega arith in
+      ap Some same
   filled true m (suc n) kept fits =
       let none : m.behind.count ≡ 0 = (kept refl).back (omega (arith, fits)) in
       let same : full m + suc n ≡ full m + (suc n - (full m - (first m + length (xs m)))) =
@@ -227,7 +229,7 @@ module _ {T M A : Type 0} where
       → cut_native {M = M} drops owner w ≡ with_room Behind seen
   behind_cut true one_pass owner m w seen view copied within items at = absurd (false≢true (sym copied))
   behind_cut false one_pass None m w seen view copied within items at =
-      let idle : room w ≡ 0 = omega (arith, at.count, within.1.1) in
+      let idle : room w ≡ 0 - 0 = omega (arith, at.count, within.1.1) in
       (λ i. record { items = items i; place = nowhere; role = sole_writer (idle i) })
       ∙ ap (with_room Behind) view
   behind_cut false one_pass (Some o) m w seen view copied within items at =
@@ -389,7 +391,7 @@ module _ {T M A : Type 0} where
       → cut_native {M = M} drops (Some o) m ≡ seen → IsCutNative drops one_pass (Some o) m
       → (drops ≡ false → IsWholeOf m (first m) w × (w.places.vec.items ≡ xs m))
       → (drops ≡ true → IsWholeOf m 0 w
-      × (w.places.vec.items ≡ m.before.items ++ xs m ++ m.behind.items))
+      × (w.places.vec.items ≡ m.before.items ++ (xs m ++ m.behind.items)))
       → b ≡ native_over drops o w → start ≡ first m → end ≡ first m + length (xs m)
       → parts_of (window_seen {M = M} (Native b) start end) ≡ as_reader seen
   frozen_cut drops one_pass o m w b start end seen view within own all is begins ends =
@@ -400,7 +402,7 @@ module _ {T M A : Type 0} where
       again : (drops : Bool)
           → (drops ≡ false → IsWholeOf m (first m) w × (w.places.vec.items ≡ xs m))
           → (drops ≡ true → IsWholeOf m 0 w
-          × (w.places.vec.items ≡ m.before.items ++ xs m ++ m.behind.items))
+          × (w.places.vec.items ≡ m.before.items ++ (xs m ++ m.behind.items)))
           → IsCutFor drops m
           → parts_of (window_seen {M = M} (Native (native_over drops o w)) (first m)
           (first m + length (xs m))) ≡ as_reader (cut_native {M = M} drops (Some o) m)
@@ -459,7 +461,7 @@ module _ {T M A : Type 0} where
       → cut_native {M = M} drops owner m ≡ seen → IsCutNative drops one_pass owner m
       → (drops ≡ false → IsWholeOf m (first m) w × (w.places.vec.items ≡ xs m))
       → (drops ≡ true → IsWholeOf m 0 w
-      × (w.places.vec.items ≡ m.before.items ++ xs m ++ m.behind.items))
+      × (w.places.vec.items ≡ m.before.items ++ (xs m ++ m.behind.items)))
       → IsWholeWriter n seen → w.places.vec.items ≡ seen.items
   whole_cut drops one_pass owner m w n seen view within own all whole =
       items drops own all ∙ ap (λ s. s.items) view
@@ -485,7 +487,7 @@ module _ {T M A : Type 0} where
       items : (drops : Bool)
           → (drops ≡ false → IsWholeOf m (first m) w × (w.places.vec.items ≡ xs m))
           → (drops ≡ true → IsWholeOf m 0 w
-          × (w.places.vec.items ≡ m.before.items ++ xs m ++ m.behind.items))
+          × (w.places.vec.items ≡ m.before.items ++ (xs m ++ m.behind.items)))
           → w.places.vec.items ≡ xs m
       items false own all = (own refl).1
       items true own all =
@@ -494,7 +496,7 @@ module _ {T M A : Type 0} where
           (arith, few, long, fits, m.front.3, m.back.2, m.back.3, m.before.inside.1)) in
           let back = none m.behind.items (omega
           (arith, few, long, fits, m.back.2, m.back.3, m.behind.inside.1)) in
-          (all refl).1 ∙ (λ i. front i ++ xs m ++ back i) ∙ append-nil (xs m)
+          (all refl).1 ∙ (λ i. front i ++ (xs m ++ back i)) ∙ append-nil (xs m)
 
 -- how it stays within the memory
 module _ {T A : Type 0} where

@@ -90,7 +90,7 @@ fn whole_of<S: Slice, A: Allocator>(memory: CutMemory<S::Item, A>) -> WriterMemo
     ensures own { S.DROPS ≡ false → IsWholeOf memory memory.places.under.start result
         × (result.places.vec.items ≡ memory.places.vec.items) }
     ensures all { S.DROPS ≡ true → IsWholeOf memory 0 result × (result.places.vec.items
-        ≡ memory.before.items ++ memory.places.vec.items ++ memory.behind.items) }
+        ≡ memory.before.items ++ (memory.places.vec.items ++ memory.behind.items)) }
 {
     if S::DROPS {
         return memory.into_all();
