@@ -459,7 +459,7 @@ impl<T: Copy + Drop, A: Allocator> CutMemory<T, A> {
     }
 }
 
-/// Places with others behind them, as one range, for who takes what lies behind out at once.
+/// Places with empty ones behind them, as one range.
 #[inline(always)]
 fn joined<T>(front: Places<T>, back: Places<T>) -> (Places<T>, ())
     requires next { IsPart front back × (back.start ≡ front.start + front.count) }
