@@ -617,6 +617,10 @@ module _ {T A : Type 0} where
       )
       at (Some o) within = within.1
 
+  -- memory with no other items keeps those of any kind
+  pub keeps_both : (drops : Bool) (m : CutMemory T A) → KeepsAll m → KeepsOwn m → IsCutFor drops m
+  keeps_both drops m all own = record { all = λ owned. all; own = λ copied. own }
+
   -- which items are kept, by what is known of the kind
   pub keeps_all : (drops : Bool) (m : CutMemory T A) → drops ≡ true → KeepsAll m → IsCutFor drops m
   keeps_all drops m owned kept = record {
