@@ -345,7 +345,7 @@ module _ {T M A : Type 0} where
       (w : CutMemory T A) → start ≤ end → end ≤ length m.places.vec.items
       → IsPartCut drops m start end w
       → cut_native {M = M} drops (Some o) w ≡ sole_native_part {M = M} drops o m start end
-  part_cut false o m start end w ordered inside part i = record {
+  part_cut false o m start end w ordered inside part = λ i. record {
     items = part.items i;
     place = on_block (Some o) (part.start i)
         (record { sort = native; size = part.whole i; full = None; metadata = None });
