@@ -1,8 +1,8 @@
 //! What goes to other threads: a type that may not go there is refused when its caller is proved.
 use arc_block::static_slice::StaticSlice;
 use arc_memory::{
-    Allocation, EndedLifetime, FrozenPlaces, KeptPlaces, LentPlaces, LifetimeToken, OpenPlaces,
-    Places, PlacesInheritance, WriterMemory,
+    Allocation, CutMemory, EndedLifetime, FrozenPlaces, KeptPlaces, LentPlaces, LifetimeToken,
+    OpenPlaces, Places, PlacesInheritance, WriterMemory,
 };
 use arc_owners::mark::Open;
 use arc_owners::owners::CountedBox;
@@ -22,6 +22,7 @@ pub fn parts_go_to_other_threads() {
     sent::<PlacesInheritance<u64>>();
     sent::<EndedLifetime>();
     sent::<WriterMemory<u64, Global>>();
+    sent::<CutMemory<u64, Global>>();
     sent::<StaticSlice<u8>>();
 }
 

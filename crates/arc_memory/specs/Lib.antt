@@ -4,6 +4,7 @@ pub mod LentMemory
 pub mod Allocations
 pub mod WriterMemories
 pub mod WriterPlaces
+pub mod CutMemories
 pub mod LeaseNotes
 pub mod WriterParts
 pub mod LentRanges

@@ -8,12 +8,14 @@
 //! (`FrozenReader`), and leaves in the counted box what is kept for its end (`Kept`). Memory of our
 //! own is one piece (`Piece`): in front the room for a header, in which that box lies, and behind
 //! it the places. It is one writer's (`WriterMemory`), who lends its places and has them back, and
-//! moves no item for it.
+//! moves no item for it. While he writes, his own places lie apart from those before and behind them
+//! (`CutMemory`), so that no call on his items looks at these.
 #![tactic(auto)]
 
 pub use allocation::{Allocation, put_together, take_apart};
 pub use arc_owners::lifetime::{EndedLifetime, LifetimeToken};
 pub use base::Base;
+pub use cut_memory::CutMemory;
 pub use frozen_places::FrozenPlaces;
 pub use frozen_reader::FrozenReader;
 pub use head_size::HeadSize;
@@ -34,6 +36,7 @@ pub use writer_places::WriterPlaces;
 
 mod allocation;
 mod base;
+mod cut_memory;
 mod emptied;
 mod frozen_places;
 mod frozen_reader;

@@ -77,7 +77,7 @@ impl<T: Drop, A: Allocator> WriterMemory<T, A> {
     }
 
     /// The same, of which the writer's places begin at this one.
-    fn beginning_at(alloc: A, start: usize, count: usize) -> Result<Self, AllocError>
+    pub(crate) fn beginning_at(alloc: A, start: usize, count: usize) -> Result<Self, AllocError>
         requires { start ≤ count }
         ensures items { IfOk result (λ m. m.places.vec.items ≡ []) }
         ensures memory { IfOk result (λ m. (m.places.under.whole ≡ count)
@@ -324,7 +324,7 @@ impl<T: Drop, A: Allocator> WriterMemory<T, A> {
 
     /// Moves all items of other memory to the first of these places, which are empty, and frees
     /// that.
-    fn take_items(&mut self, other: Self)
+    pub(crate) fn take_items(&mut self, other: Self)
         requires empty { self.old.places.vec.items ≡ [] }
         requires room { length other.places.vec.items ≤ self.old.places.under.count }
         ensures items { self.new.places.vec.items ≡ other.places.vec.items }
@@ -337,6 +337,27 @@ impl<T: Drop, A: Allocator> WriterMemory<T, A> {
         } = other;
         self.places.take_items(&mut places);
         source.free(before.join(places.into_places()));
+    }
+
+    /// The empty places before the writer's, his own, and where they come from.
+    #[inline(always)]
+    pub(crate) fn into_parts(self) -> (Places<T>, WriterPlaces<T>, Source<T, A>)
+        ensures before { result.0 ≡ self.before }
+        ensures places { result.1 ≡ self.places }
+        ensures source { result.2 ≡ self.source }
+        ensures front { (result.0.base ≡ result.1.under.base)
+            × (result.0.whole ≡ result.1.under.whole)
+            × (result.0.start ≡ 0) × (result.0.count ≡ result.1.under.start) }
+        ensures unused { length result.0.items ≡ 0 }
+        ensures own { result.1.under.start + result.1.under.count ≡ result.1.under.whole }
+        ensures from { IsFrom result.2 result.1.under.base result.1.under.whole }
+    {
+        let WriterMemory {
+            before,
+            places,
+            source,
+        } = self;
+        (before, places, source)
     }
 
     /// All places of a piece, lent for a lifetime: the part of those that are the writer's, with

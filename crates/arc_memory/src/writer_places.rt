@@ -28,7 +28,7 @@ pub struct WriterPlaces<T> {
 
 impl<T> WriterPlaces<T> {
     ghost use Rattle.std.specs.Borrow.{sem};
-    ghost use Rattle.arc_memory.specs.WriterPlaces.{HasPlaces, SamePlaces};
+    ghost use Rattle.arc_memory.specs.WriterPlaces.{HasPlaces, SamePlaces, IsRangeOf, IsPartOf};
     ghost use Rattle.arc_memory.specs.LendsPlaces.{LendsPlaces, LendsPlacesFrom};
 
     /// These places, for a writer.
@@ -193,6 +193,68 @@ impl<T> WriterPlaces<T> {
             unsafe { Self::of(places, base, start, len - index, capacity) },
             (),
         )
+    }
+
+    /// These places without the first `at`, which come apart with the items that lie there.
+    #[inline(always)]
+    pub(crate) fn without_front(self, at: usize) -> (Self, Places<T>)
+        requires { at ≤ length self.vec.items }
+        ensures items { (result.0.vec.items ≡ drop at self.vec.items)
+            × (result.1.items ≡ take at self.vec.items) }
+        ensures back { IsRangeOf self (self.under.start + at) (self.under.count - at) result.0 }
+        ensures front { IsPartOf self self.under.start at result.1 }
+    {
+        let (base, start) = (self.base(), self.start());
+        let (len, capacity) = (self.len(), self.capacity());
+        let (front, own) = self.into_places().split(at);
+        (
+            unsafe { Self::of(own, base, start + at, len - at, capacity - at) },
+            front,
+        )
+    }
+
+    /// The same, once the items of the first places are forgotten: it is for items that need no
+    /// drop.
+    #[inline(always)]
+    pub(crate) fn with_front_forgotten(self, at: usize) -> (Self, Places<T>)
+        requires { at ≤ length self.vec.items }
+        ensures items { (result.0.vec.items ≡ drop at self.vec.items) × (result.1.items ≡ []) }
+        ensures back { IsRangeOf self (self.under.start + at) (self.under.count - at) result.0 }
+        ensures front { IsPartOf self self.under.start at result.1 }
+    {
+        let first = self.vec.as_ptr().cast_mut();
+        let (own, front) = self.without_front(at);
+        let (slots, under) = unsafe { front.into_slots(first, at) };
+        (own, under.of_slots(slots, 0))
+    }
+
+    /// The first `len` places, which are full, and the others with the items that lie there.
+    #[inline(always)]
+    pub(crate) fn without_back(self, len: usize) -> (Self, Places<T>)
+        requires { len ≤ length self.vec.items }
+        ensures items { (result.0.vec.items ≡ take len self.vec.items)
+            × (result.1.items ≡ drop len self.vec.items) }
+        ensures front { IsRangeOf self self.under.start len result.0 }
+        ensures back { IsPartOf self (self.under.start + len) (self.under.count - len) result.1 }
+    {
+        let (base, start) = (self.base(), self.start());
+        let (own, back) = self.into_places().split(len);
+        (unsafe { Self::of(own, base, start, len, len) }, back)
+    }
+
+    /// The first `capacity` places, with all items, and the others, which hold none.
+    #[inline(always)]
+    pub(crate) fn without_spare(self, capacity: usize) -> (Self, Places<T>)
+        requires { (length self.vec.items ≤ capacity) × (capacity ≤ self.under.count) }
+        ensures items { (result.0.vec.items ≡ self.vec.items) × (result.1.items ≡ []) }
+        ensures front { IsRangeOf self self.under.start capacity result.0 }
+        ensures back { IsPartOf self (self.under.start + capacity) (self.under.count - capacity)
+            result.1 }
+    {
+        let (base, start) = (self.base(), self.start());
+        let len = self.len();
+        let (own, back) = self.into_places().split(capacity);
+        (unsafe { Self::of(own, base, start, len, capacity) }, back)
     }
 
     /// The places of both as one range: the other's, which are empty, end where these begin. The

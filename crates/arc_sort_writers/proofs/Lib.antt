@@ -2,6 +2,7 @@ pub mod MemoryParts
 pub mod Writers
 pub mod Lent
 pub mod SoleNatives
+pub mod CutNatives
 pub mod SoleBuffers
 pub mod Growth
 pub mod Soles

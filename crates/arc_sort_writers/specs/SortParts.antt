@@ -1,10 +1,9 @@
 -- What is seen of a sole writer's parts, by the sort of their block.
-use Rattle.std.specs.Prelude.{◌≡◌, ℕ, ◌+◌, ◌-◌, ◌≤◌, Bool, true, false, List, [], length}
-use Rattle.std.specs.Prelude.{Option, Some, None}
+use Rattle.std.specs.Prelude.{◌≡◌, ℕ, ◌+◌, ◌-◌, ◌≤◌, Bool, true, false, List, length}
+use Rattle.std.specs.Prelude.{Some}
 use Rattle.std.specs.declared.vec.Vec.{Vec}
 use Rattle.std.specs.Vec.{vec_capacity}
 use Rattle.arc_owners.specs.count.Calls.{Owner}
-use Rattle.arc_memory.specs.Sources.{IsPiece}
 use Rattle.arc_memory.specs.declared.writer_memory.WriterMemory.{WriterMemory}
 use Rattle.arc_buffer.specs.Slice.{sub}
 use Rattle.arc_block.specs.declared.block.TheConstants.{MAX_OWNERS}
@@ -12,7 +11,7 @@ use Rattle.arc_block.specs.Block.{Sort, native, vector, buffer, BlockView, IsLim
 use Rattle.arc_block.specs.Place.{on_block, IsOnBlock, size_at, offset_at}
 use Rattle.arc_block.specs.Table.{sole_writer}
 use Rattle.arc_parts.specs.Window.{PartsView}
-use Rattle.arc_parts.specs.Writers.{writer_capacity, idle_writer, capacity_of}
+use Rattle.arc_parts.specs.Writers.{writer_capacity, capacity_of}
 
 -- the part from start to end of a block, as its only owner's
 abbrev pub block_part : {T M : Type 0} → Bool → BlockView T M → (start end : ℕ) → PartsView T M
@@ -61,33 +60,6 @@ module _ {T M A : Type 0} where
       let first = memory.places.under.start in let items = memory.places.vec.items in
       memory_part native drops owner memory.places.under.whole (first + length items)
       (first + start) items start end
-
-  -- what is seen of a sole writer from start to end of the items in memory that is a native block's
-  -- with this owner; or who stands on nothing
-  abbrev pub sole_native : Bool → Option Owner → WriterMemory T A → (start end : ℕ) → PartsView T M
-  sole_native drops None memory start end = idle_writer
-  sole_native drops (Some owner) memory start end = sole_native_part drops owner memory start end
-
-module _ {T A : Type 0} where
-  -- The part from start on, behind which so many items lie, is one of a native block's items. None
-  -- lie behind items that aren't dropped one by one; others begin at the block's first place. On
-  -- nothing there are no items and no memory.
-  abbrev pub IsNativeWithin : Bool → Bool → Option Owner → WriterMemory T A → (start behind : ℕ)
-      → Type 0
-  IsNativeWithin drops one_pass None memory start behind =
-      (start ≡ 0) × (behind ≡ 0) × (memory.places.vec.items ≡ [])
-      × (memory.places.under.whole ≡ 0)
-  IsNativeWithin drops one_pass (Some owner) memory start behind =
-      IsLimited MAX_OWNERS one_pass owner × (start + behind ≤ length memory.places.vec.items)
-      × (drops ≡ false → behind ≡ 0) × (drops ≡ true → memory.places.under.start ≡ 0)
-      × IsPiece memory.source
-
-  -- So many of a native block's last places are left to nobody, where no items lie: none where
-  -- items are dropped one by one, and none on nothing.
-  abbrev pub CanLeave : Bool → Option Owner → WriterMemory T A → (beyond : ℕ) → Type 0
-  CanLeave drops None memory beyond = beyond ≡ 0
-  CanLeave drops (Some owner) memory beyond = (drops ≡ true → beyond ≡ 0)
-      × (length memory.places.vec.items + beyond ≤ memory.places.under.count)
 
 -- a writer on a block, whose places go up to the end of the block, which isn't to have fewer
 pub record CanGrow {T M : Type 0} (w : PartsView T M) (places : ℕ) : Type 0 where

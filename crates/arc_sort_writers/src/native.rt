@@ -1,6 +1,6 @@
 //! Parts of a window that writes as the only owner of a native block, or on nothing.
 ghost use Rattle.arc_owners.specs.history.Histories.{Counted};
-ghost use Rattle.std.specs.Prelude.{◌≡◌, ◌≤◌, ◌<◌, ◌+◌, ◌-◌, ◌^◌, [], length, replicate};
+ghost use Rattle.std.specs.Prelude.{◌≡◌, ◌≤◌, ◌<◌, ◌+◌, ◌-◌, ◌^◌, ◌++◌, [], length, replicate};
 ghost use Rattle.std.specs.Prelude.{true, false, IfOk, IfErr, OnOk, OnErr, IsTrue, ◌↔◌};
 ghost use Rattle.std.specs.Mem.{type_size};
 ghost use Rattle.arc_owners.specs.count.Calls.{IsPassOfNone};
@@ -15,13 +15,15 @@ ghost use Rattle.arc_parts.specs.Steps.{IsPassAt, EndsShownAt};
 ghost use Rattle.arc_block.specs.Table.{sole_writer};
 ghost use Rattle.arc_parts.specs.Writers.{capacity_of, room_for, with_room, IsNewWriter};
 ghost use Rattle.arc_parts.specs.Writers.{IsWriterOver, MakesWriter, MakesRoom, IsWriterPlace};
+ghost use Rattle.arc_memory.specs.CutMemories.{IsWholeOf};
 ghost use Rattle.arc_sort_writers.specs.SortParts.{sole_native_part, CanGrowNative};
+ghost use Rattle.arc_sort_writers.specs.CutParts.{IsPartCut, IsCutFor};
 ghost use Rattle.arc_parts.specs.Window.{IsOfBuffer};
 ghost use Rattle.arc_parts.specs.Shared.{is_vector_at};
 
 use arc_block::block::{MAX_OWNERS, NativeCount};
 use arc_buffer::kinds::{Slice, Zeroable};
-use arc_memory::WriterMemory;
+use arc_memory::{CutMemory, WriterMemory};
 use arc_owners::error::{AllocError, TryReserveError};
 use arc_owners::mark::{Mark, Open};
 use arc_owners::owners::Pass;
@@ -38,35 +40,27 @@ use std::marker::{Model, PhantomData};
 pub struct SoleNative<S: Slice, M: Drop = (), A: Allocator + Copy = Global, H: Mark = Open> {
     // None where they stand on nothing: then there are no places.
     count: Option<NativeCount<MAX_OWNERS, H>>,
-    memory: WriterMemory<S::Item, A>,
-    start: usize,
-    // How many items lie behind these in the memory: those that were cut off, where they are
-    // dropped one by one, and else none. So a push has no end to move.
-    behind: usize,
-    // How many of the block's last places aren't his: who was one of several writers keeps the
-    // places that he had, until he wants room.
-    beyond: usize,
+    // His places alone hold the items. Behind them lie those that were cut off, where items are
+    // dropped one by one. Else these may be places that aren't his: who was one of several writers
+    // keeps the places that he had, until he wants room.
+    memory: CutMemory<S::Item, A>,
     alloc: A,
     // Metadata of a native block, which has none.
     marker: PhantomData<M>,
 }
 
 impl<S: Slice, M: Drop, A: Allocator + Copy, H: Mark> Model for SoleNative<S, M, A, H> {
-    ghost use Rattle.std.specs.Prelude.{◌-◌, length};
     ghost use Rattle.std.specs.Option.{option_map};
     ghost use Rattle.arc_owners.specs.memory.SoleCounts.{count_owner};
     ghost use Rattle.arc_parts.specs.Window.{PartsView};
-    ghost use Rattle.arc_sort_writers.specs.SortParts.{sole_native, IsNativeWithin, CanLeave};
-    ghost use Rattle.arc_parts.specs.Writers.{with_fewer};
+    ghost use Rattle.arc_sort_writers.specs.CutParts.{cut_native, IsCutNative};
 
     ghost Value = { PartsView S.Item M };
 
-    ghost view = { λ p. with_fewer p.beyond (sole_native S.DROPS (option_map count_owner p.count)
-        p.memory p.start (length p.memory.places.vec.items - p.behind)) };
+    ghost view = { λ p. cut_native S.DROPS (option_map count_owner p.count) p.memory };
 
     ghost invariant = { λ p.
-        IsNativeWithin S.DROPS H.whole (option_map count_owner p.count) p.memory p.start p.behind
-        × CanLeave S.DROPS (option_map count_owner p.count) p.memory p.beyond };
+        IsCutNative S.DROPS H.whole (option_map count_owner p.count) p.memory };
 }
 
 impl<S: Slice, M: Drop, A: Allocator + Copy, H: Mark> Drop for SoleNative<S, M, A, H> {
@@ -76,12 +70,10 @@ impl<S: Slice, M: Drop, A: Allocator + Copy, H: Mark> Drop for SoleNative<S, M, 
         let SoleNative {
             count,
             memory,
-            start: _,
-            behind: _,
-            beyond: _,
             alloc,
             marker: _,
         } = self;
+        let memory = whole_of::<S, A>(memory);
         match count {
             Some(count) => end_native(count, memory).show(),
             None => drop(memory),
@@ -90,31 +82,109 @@ impl<S: Slice, M: Drop, A: Allocator + Copy, H: Mark> Drop for SoleNative<S, M, 
     }
 }
 
-/// Where a window's items end among those of its memory, where so many lie behind them.
+/// All of a writer's memory, with the items that are to be dropped with it: where they are dropped
+/// one by one these are all that lie there, and else his own.
 #[inline(always)]
-fn end_in<S: Slice, A: Allocator>(memory: &WriterMemory<S::Item, A>, behind: usize) -> usize
-    requires inside { behind ≤ length memory.now.places.vec.items }
-    requires none { S.DROPS ≡ false → behind ≡ 0 }
-    ensures { result ≡ length memory.now.places.vec.items - behind }
+fn whole_of<S: Slice, A: Allocator>(memory: CutMemory<S::Item, A>) -> WriterMemory<S::Item, A>
+    requires { IsCutFor S.DROPS memory }
+    ensures own { S.DROPS ≡ false → IsWholeOf memory memory.places.under.start result
+        × (result.places.vec.items ≡ memory.places.vec.items) }
+    ensures all { S.DROPS ≡ true → IsWholeOf memory 0 result × (result.places.vec.items
+        ≡ memory.before.items ++ (memory.places.vec.items ++ memory.behind.items)) }
 {
     if S::DROPS {
-        memory.len() - behind
-    } else {
-        memory.len()
+        return memory.into_all();
     }
+    memory.into_own()
+}
+
+/// The places from `start` to `end` of all that hold items as the writer's own. Items behind them
+/// are forgotten, as are those before, unless they are dropped one by one.
+fn part_of<S: Slice, A: Allocator>(
+    memory: WriterMemory<S::Item, A>,
+    start: usize,
+    end: usize,
+) -> CutMemory<S::Item, A>
+    requires range { (start ≤ end) × (end ≤ length memory.places.vec.items) }
+    requires first { S.DROPS ≡ true → memory.places.under.start ≡ 0 }
+    ensures { IsPartCut S.DROPS memory start end result }
+{
+    if S::DROPS {
+        return kept_part(memory, start, end);
+    }
+    forgotten_part(memory, start, end)
+}
+
+/// `part_of` of items that aren't dropped one by one.
+fn forgotten_part<T: Drop, A: Allocator>(
+    memory: WriterMemory<T, A>,
+    start: usize,
+    end: usize,
+) -> CutMemory<T, A>
+    requires range { (start ≤ end) × (end ≤ length memory.places.vec.items) }
+    ensures { IsPartCut false memory start end result }
+{
+    let capacity = memory.capacity();
+    let mut part = CutMemory::of(memory, capacity);
+    part.forget_front(start);
+    part.truncate(end - start);
+    part
+}
+
+/// `part_of` of items that are dropped one by one.
+fn kept_part<T: Drop, A: Allocator>(
+    memory: WriterMemory<T, A>,
+    start: usize,
+    end: usize,
+) -> CutMemory<T, A>
+    requires range { (start ≤ end) × (end ≤ length memory.places.vec.items) }
+    requires first { memory.places.under.start ≡ 0 }
+    ensures { IsPartCut true memory start end result }
+{
+    let (len, capacity) = (memory.len(), memory.capacity());
+    let mut part = CutMemory::of(memory, capacity);
+    part.keep_front(start);
+    if end < len {
+        part.keep_back(end - start);
+        return part;
+    }
+    part
+}
+
+/// Makes it memory of so many places, with the items that it keeps in the same places. None lie
+/// behind the writer's, who has all places there then.
+fn grown<S: Slice, A: Allocator>(
+    memory: &mut CutMemory<S::Item, A>,
+    alloc: A,
+    places: usize,
+) -> Result<(), AllocError>
+    requires kept { IsCutFor S.DROPS memory.old }
+    requires last { S.DROPS ≡ true → length memory.old.behind.items ≡ 0 }
+    requires places { memory.old.places.under.start + length memory.old.places.vec.items ≤ places }
+    ensures kept { IsCutFor S.DROPS memory.new }
+    ensures items { memory.new.places.vec.items ≡ memory.old.places.vec.items }
+    ensures start { memory.new.places.under.start ≡ memory.old.places.under.start }
+    ensures left { S.DROPS ≡ true → length memory.new.behind.items ≡ 0 }
+    ensures grown { OnOk result ((memory.new.places.under.whole ≡ places)
+        × (memory.new.places.under.count ≡ places - memory.old.places.under.start)
+        × IsPiece memory.new.source) }
+    ensures refused { OnErr result (memory.new ≡ memory.old) }
+{
+    if S::DROPS {
+        return memory.grow_all(alloc, places);
+    }
+    memory.grow_own(alloc, places)
 }
 
 impl<S: Slice, M: Drop, A: Allocator + Copy, H: Mark> SoleNative<S, M, A, H> {
     /// No items and no places, on nothing.
+    #[tactic(auto, using(crate::proofs::CutNatives::idle_cut, crate::proofs::CutNatives::keeps_both))]
     pub fn on_nothing(alloc: A) -> Self
         ensures { result ≡ record { items = []; place = nowhere; role = sole_writer 0 } }
     {
         SoleNative {
             count: None,
-            memory: WriterMemory::nothing(),
-            start: 0,
-            behind: 0,
-            beyond: 0,
+            memory: CutMemory::nothing(),
             alloc,
             marker: PhantomData,
         }
@@ -155,7 +225,7 @@ impl<S: Slice, M: Drop, A: Allocator + Copy, H: Mark> SoleNative<S, M, A, H> {
     pub fn len(&self) -> usize
         ensures { result ≡ length self.now.items }
     {
-        end_in::<S, A>(&self.memory, self.behind) - self.start
+        self.memory.len()
     }
 
     /// The items.
@@ -163,8 +233,7 @@ impl<S: Slice, M: Drop, A: Allocator + Copy, H: Mark> SoleNative<S, M, A, H> {
     pub fn as_slice(&self) -> &[S::Item]
         ensures { result.now ≡ self.now.items }
     {
-        let end = end_in::<S, A>(&self.memory, self.behind);
-        &self.memory.as_slice()[self.start..end]
+        self.memory.as_slice()
     }
 
     /// How many places there are for items, from the first of them on.
@@ -173,7 +242,7 @@ impl<S: Slice, M: Drop, A: Allocator + Copy, H: Mark> SoleNative<S, M, A, H> {
         ensures capacity { result ≡ capacity_of self.now.role }
         ensures enough { length self.now.items ≤ result }
     {
-        self.len() + self.spare()
+        self.memory.capacity()
     }
 
     /// How many places there are behind the items.
@@ -183,10 +252,7 @@ impl<S: Slice, M: Drop, A: Allocator + Copy, H: Mark> SoleNative<S, M, A, H> {
         ensures places { length self.now.items + result ≡ capacity_of self.now.role }
         ensures fits { length self.now.items + result < 2 ^ 64 }
     {
-        if S::DROPS && self.behind != 0 {
-            return 0;
-        }
-        self.memory.capacity() - self.memory.len() - self.beyond
+        self.memory.capacity() - self.memory.len()
     }
 
     /// Where there is room for so many items more.
@@ -212,10 +278,9 @@ impl<S: Slice, M: Drop, A: Allocator + Copy, H: Mark> SoleNative<S, M, A, H> {
         if self.count.is_none() {
             return Room::Fresh(max(S::first(), additional));
         }
-        let size = self.memory.count();
-        let first = self.memory.start();
-        let (full, offset) = (first + self.memory.len(), first + self.start);
-        room_in::<S>(false, size, full, offset, self.len(), additional)
+        let (size, offset, len) = (self.memory.count(), self.memory.start(), self.memory.len());
+        let full = offset + len + self.memory.left();
+        room_in::<S>(false, size, full, offset, len, additional)
     }
 
     /// No items, with so many places: for none on nothing, else on a new native block. The pass,
@@ -337,6 +402,7 @@ impl<S: Slice, M: Drop, A: Allocator + Copy, H: Mark> SoleNative<S, M, A, H> {
     }
 
     /// All items of this memory, which becomes that of a new block. The pass becomes the block's.
+    #[tactic(auto, using(crate::proofs::CutNatives::keeps_both))]
     fn on_new(alloc: A, memory: WriterMemory<S::Item, A>, pass: &mut Pass<H>) -> Self
         requires start { memory.places.under.start ≡ 0 }
         requires block { IsPiece memory.source }
@@ -345,12 +411,10 @@ impl<S: Slice, M: Drop, A: Allocator + Copy, H: Mark> SoleNative<S, M, A, H> {
     {
         let (count, new) = NativeCount::<MAX_OWNERS, H>::new();
         *pass = new;
+        let capacity = memory.capacity();
         SoleNative {
             count: Some(count),
-            memory,
-            start: 0,
-            behind: 0,
-            beyond: 0,
+            memory: CutMemory::of(memory, capacity),
             alloc,
             marker: PhantomData,
         }
@@ -371,17 +435,9 @@ impl<S: Slice, M: Drop, A: Allocator + Copy, H: Mark> SoleNative<S, M, A, H> {
         requires block { IsPiece memory.source }
         ensures { result ≡ sole_native_part S.DROPS (count_owner count) memory start end }
     {
-        let mut memory = memory;
-        if !S::DROPS {
-            memory.truncate(end);
-        }
-        let behind = memory.len() - end;
         SoleNative {
             count: Some(count),
-            memory,
-            start,
-            behind,
-            beyond: 0,
+            memory: part_of::<S, A>(memory, start, end),
             alloc,
             marker: PhantomData,
         }
@@ -491,11 +547,8 @@ impl<S: Slice, M: Drop, A: Allocator + Copy, H: Mark> SoleNative<S, M, A, H> {
             × (capacity_of self.new.role ≡ places - offset_at self.old.place)) }
         ensures refused { OnErr result (self.new ≡ self.old) }
     {
-        match self.memory.grow(self.alloc, places) {
-            Ok(()) => {
-                self.beyond = 0;
-                Ok(())
-            }
+        match grown::<S, A>(&mut self.memory, self.alloc, places) {
+            Ok(()) => Ok(()),
             Err(e) => Err(e),
         }
     }
@@ -507,7 +560,7 @@ impl<S: Slice, M: Drop, A: Allocator + Copy, H: Mark> SoleNative<S, M, A, H> {
         ensures room { (length self.new.items ≡ length self.old.items) × (capacity_of self.new.role
             ≡ size_at self.old.place - offset_at self.old.place) }
     {
-        self.beyond = 0;
+        self.memory.widen();
     }
 
     /// Moves the items to the front of their memory; those before them are let go.
@@ -517,9 +570,7 @@ impl<S: Slice, M: Drop, A: Allocator + Copy, H: Mark> SoleNative<S, M, A, H> {
         ensures room { (length self.new.items ≡ length self.old.items)
             × (size_at self.old.place ≤ capacity_of self.new.role) }
     {
-        self.memory.to_front(self.start);
-        self.start = 0;
-        self.beyond = 0;
+        self.memory.to_front();
     }
 }
 

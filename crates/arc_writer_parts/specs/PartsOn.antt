@@ -5,13 +5,14 @@ use Rattle.arc_sort_writers.specs.NativeWriters.{NativeWriter, native_row, IsAlo
 use Rattle.arc_writer_parts.specs.declared.shared.SharedStorage.{SharedStorage}
 use Rattle.arc_writer_parts.specs.declared.shared.SharedStorage.TheVariants.{Several, Alone}
 use Rattle.arc_writer_parts.specs.declared.sole.SoleStorage.{SoleStorage}
-use Rattle.arc_writer_parts.specs.declared.sole.SoleStorage.TheVariants.{Native, Vector, Buffer}
+use Rattle.arc_writer_parts.specs.declared.sole.SoleStorage.TheVariants.{Native, Other}
+use Rattle.arc_writer_parts.specs.declared.sole.SoleOther.TheVariants.{Vector, Buffer}
 
 -- what is seen of a sole writer, whose items are memory of ours, a vector or a caller's buffer
 abbrev pub sole_on : {P : Type 0} → SoleStorage P P P → P
 sole_on (Native parts) = parts
-sole_on (Vector parts) = parts
-sole_on (Buffer parts) = parts
+sole_on (Other (Vector parts)) = parts
+sole_on (Other (Buffer parts)) = parts
 
 module _ {T M : Type 0} where
   -- what is seen of him

@@ -22,14 +22,21 @@ use arc_sort_writers::vector::SoleVector;
 use std::alloc::{Allocator, Global};
 use std::marker::Model;
 
-/// What a sole writer's parts are: items in memory of ours, in a vector, or in a caller's buffer.
+/// What a sole writer's parts are: items in memory of ours, or elsewhere.
 ///
-/// This tag tells which, so that nothing of the block is read for it. Where all three are matched,
-/// the buffer's arm stands first: the compiler makes the first arm the last that it tests.
+/// This tag tells which, so that nothing of the block is read for it. It has two cases, so that one
+/// test finds memory of ours.
 #[derive(Drop)]
 pub(crate) enum SoleStorage<N, V, B> {
     /// A native block's memory, or none.
     Native(N),
+    /// Another's.
+    Other(SoleOther<V, B>),
+}
+
+/// Where a sole writer's items are that lie in no memory of ours.
+#[derive(Drop)]
+pub(crate) enum SoleOther<V, B> {
     /// A vector.
     Vector(V),
     /// A caller's buffer.
@@ -67,9 +74,9 @@ impl<S: Slice, B: BufferMut<S::Item> + Drop, M: Drop, A: Allocator + Copy, H: Ma
     {
         let SoleParts { on } = self;
         match on {
-            SoleStorage::Buffer(parts) => drop(parts),
+            SoleStorage::Other(SoleOther::Buffer(parts)) => drop(parts),
             SoleStorage::Native(parts) => drop(parts),
-            SoleStorage::Vector(parts) => drop(parts),
+            SoleStorage::Other(SoleOther::Vector(parts)) => drop(parts),
         }
     }
 }
@@ -96,7 +103,7 @@ impl<S: Slice, B: BufferMut<S::Item> + Drop, M: Drop, A: Allocator + Copy, H: Ma
         ensures { result ≡ parts }
     {
         SoleParts {
-            on: SoleStorage::Vector(parts),
+            on: SoleStorage::Other(SoleOther::Vector(parts)),
         }
     }
 
@@ -105,7 +112,7 @@ impl<S: Slice, B: BufferMut<S::Item> + Drop, M: Drop, A: Allocator + Copy, H: Ma
         ensures { result ≡ parts }
     {
         SoleParts {
-            on: SoleStorage::Buffer(parts),
+            on: SoleStorage::Other(SoleOther::Buffer(parts)),
         }
     }
 
@@ -121,9 +128,9 @@ impl<S: Slice, B: BufferMut<S::Item> + Drop, M: Drop, A: Allocator + Copy, H: Ma
         ensures { IsTrue result ↔ IsOfBuffer self.now.place }
     {
         match &self.on {
-            SoleStorage::Buffer(parts) => parts.is_on_buffer(),
+            SoleStorage::Other(SoleOther::Buffer(parts)) => parts.is_on_buffer(),
             SoleStorage::Native(parts) => parts.is_on_buffer(),
-            SoleStorage::Vector(parts) => parts.is_on_buffer(),
+            SoleStorage::Other(SoleOther::Vector(parts)) => parts.is_on_buffer(),
         }
     }
 
@@ -132,9 +139,9 @@ impl<S: Slice, B: BufferMut<S::Item> + Drop, M: Drop, A: Allocator + Copy, H: Ma
         ensures { result ≡ is_vector_at self.now.place }
     {
         match &self.on {
-            SoleStorage::Buffer(parts) => parts.is_on_vector(),
+            SoleStorage::Other(SoleOther::Buffer(parts)) => parts.is_on_vector(),
             SoleStorage::Native(parts) => parts.is_on_vector(),
-            SoleStorage::Vector(parts) => parts.is_on_vector(),
+            SoleStorage::Other(SoleOther::Vector(parts)) => parts.is_on_vector(),
         }
     }
 

@@ -26,6 +26,7 @@ impl<S: Slice, M: Drop, A: Allocator + Copy, H: Mark> SoleNative<S, M, A, H> {
     }
 
     /// Whether they stand on a block; else there are no items and no places.
+    #[tactic(auto, using(crate::proofs::CutNatives::idle_cut))]
     pub fn is_on_block(&self) -> bool
         ensures answer { IsTrue result ↔ IsOnBlock self.now.place }
         ensures idle { result ≡ false → self.now ≡ idle_writer }

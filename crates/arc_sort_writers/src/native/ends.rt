@@ -1,5 +1,5 @@
 //! How a sole writer's parts on a native block end, and what they become.
-ghost use Rattle.std.specs.Prelude.{◌≡◌, ◌↔◌, ◌-◌, true, false, length, IfOk, IfErr, IsTrue};
+ghost use Rattle.std.specs.Prelude.{◌≡◌, ◌↔◌, true, false, IfOk, IfErr, IsTrue};
 ghost use Rattle.std.specs.Prelude.{IfSome, IfNone, Some, None};
 ghost use Rattle.arc_owners.specs.count.Calls.{Leaves, Learns, IsNewPass, IsPassOfNone};
 ghost use Rattle.arc_owners.specs.count.Calls.{SeesAlone, EndsByItself};
@@ -9,19 +9,19 @@ ghost use Rattle.arc_block.specs.Metadata.{IsMetadataAt, IsOnCallers};
 ghost use Rattle.arc_block.specs.Place.{at_owner, metadata_at, IsOnBlock};
 ghost use Rattle.arc_block.specs.Table.{reader};
 ghost use Rattle.arc_parts.specs.Steps.{IsPassAt, EndsAt, Makes, Begins};
-ghost use Rattle.arc_parts.specs.Writers.{as_reader, Freezes, IsWholeWriter, with_fewer};
-ghost use Rattle.arc_sort_writers.specs.SortParts.{sole_native, IsNativeWithin, CanLeave};
+ghost use Rattle.arc_parts.specs.Writers.{as_reader, Freezes, IsWholeWriter};
+ghost use Rattle.arc_sort_writers.specs.CutParts.{cut_native, IsCutNative};
 ghost use Rattle.std.specs.Option.{option_map};
 ghost use Rattle.arc_parts.specs.Window.{IsHeld, IsBlockHeld, IsBufferWhole, window_of};
 ghost use Rattle.arc_parts.specs.Window.{IsVecPart, IsBoxWhole};
 ghost use Rattle.arc_block.specs.Moves.{IsRefused, layout_move};
 
-use super::{SoleNative, end_in};
+use super::{SoleNative, whole_of};
 use arc_block::block::{MAX_OWNERS, NativeBlock, NativeCount};
 use arc_block::layout::Layout;
 use arc_buffer::buffer::{BorrowMetadata, Buffer};
 use arc_buffer::kinds::Slice;
-use arc_memory::WriterMemory;
+use arc_memory::{CutMemory, WriterMemory};
 use arc_owners::mark::{Mark, Stepping};
 use arc_owners::owners::Pass;
 use arc_parts::parts::Parts;
@@ -31,14 +31,7 @@ use std::marker::PhantomData;
 use std::mem;
 
 /// The fields of a sole writer's parts on a native block but the marker, in their order.
-type NativeFields<T, A, H> = (
-    Option<NativeCount<MAX_OWNERS, H>>,
-    WriterMemory<T, A>,
-    usize,
-    usize,
-    usize,
-    A,
-);
+type NativeFields<T, A, H> = (Option<NativeCount<MAX_OWNERS, H>>, CutMemory<T, A>, A);
 
 /// What a drop does: under `Open` the owner ends with a new pass, and its items are dropped; under
 /// `Whole` it is forgotten, and so are its items, which stay where they are. The pass is the one
@@ -63,23 +56,16 @@ impl<S: Slice, M: Drop, A: Allocator + Copy, H: Mark> SoleNative<S, M, A, H> {
     /// The fields but the marker, in their order.
     #[inline(always)]
     fn into_fields(self) -> NativeFields<S::Item, A, H>
-        ensures within { IsNativeWithin S.DROPS H.whole (option_map count_owner result.0)
-            result.1 result.2 result.3 }
-        ensures left { CanLeave S.DROPS (option_map count_owner result.0) result.1 result.4 }
-        ensures parts { self ≡ with_fewer result.4 (sole_native S.DROPS
-            (option_map count_owner result.0) result.1 result.2
-            (length result.1.places.vec.items - result.3)) }
+        ensures within { IsCutNative S.DROPS H.whole (option_map count_owner result.0) result.1 }
+        ensures parts { self ≡ cut_native S.DROPS (option_map count_owner result.0) result.1 }
     {
         let SoleNative {
             count,
             memory,
-            start,
-            behind,
-            beyond,
             alloc,
             marker: _,
         } = self;
-        (count, memory, start, behind, beyond, alloc)
+        (count, memory, alloc)
     }
 
     /// The same items and places, which others may read from now on. It adds nothing and takes no
@@ -90,18 +76,15 @@ impl<S: Slice, M: Drop, A: Allocator + Copy, H: Mark> SoleNative<S, M, A, H> {
         let SoleNative {
             count,
             memory,
-            start,
-            behind,
-            beyond: _,
             alloc,
             marker: _,
         } = self;
+        let (start, len) = (memory.start(), memory.len());
+        let memory = whole_of::<S, A>(memory);
         match count {
             Some(count) => {
-                let first = memory.start();
-                let end = first + end_in::<S, A>(&memory, behind);
                 let on = Storage::Native(NativeBlock::of_sole(count, memory));
-                Parts::over(on, first + start, end, alloc)
+                Parts::over(on, start, start + len, alloc)
             }
             None => {
                 drop(memory);
@@ -226,11 +209,11 @@ impl<S: Slice, M: Drop, A: Allocator + Copy, H: Mark> SoleNative<S, M, A, H> {
         if !self.is_whole(N) {
             return Err(self);
         }
-        let (count, memory, _, _, _, _) = self.into_fields();
+        let (count, memory, _) = self.into_fields();
         if let Some(count) = count {
             count.end_as(pass);
         }
-        Ok(memory.into_array())
+        Ok(whole_of::<S, A>(memory).into_array())
     }
 
     /// The same parts, of items of another kind. It adds nothing.
@@ -238,13 +221,10 @@ impl<S: Slice, M: Drop, A: Allocator + Copy, H: Mark> SoleNative<S, M, A, H> {
         requires { K.DROPS ≡ S.DROPS }
         ensures { result ≡ self }
     {
-        let (count, memory, start, behind, beyond, alloc) = self.into_fields();
+        let (count, memory, alloc) = self.into_fields();
         SoleNative {
             count,
             memory,
-            start,
-            behind,
-            beyond,
             alloc,
             marker: PhantomData,
         }
@@ -260,11 +240,11 @@ impl<S: Slice, M: Drop, A: Allocator + Copy, H: Mark> SoleNative<S, M, A, H> {
         ensures entry { at_owner self.place (pass.new ≡ pass.old) (λ o.
             Leaves o pass.old pass.new true) }
     {
-        let (count, memory, _, _, _, _) = self.into_fields();
+        let (count, memory, _) = self.into_fields();
         if let Some(count) = count {
             count.end_as(pass);
         }
-        drop(memory);
+        drop(whole_of::<S, A>(memory));
     }
 
     /// What a drop does: under `Open` the owner ends with a new pass, and the block is given back
@@ -278,7 +258,8 @@ impl<S: Slice, M: Drop, A: Allocator + Copy, H: Mark> SoleNative<S, M, A, H> {
         ensures forgotten { H.whole ≡ true → IsPassOfNone result }
         ensures ended { H.whole ≡ false → EndsAt self.place result }
     {
-        let (count, memory, _, _, _, _) = self.into_fields();
+        let (count, memory, _) = self.into_fields();
+        let memory = whole_of::<S, A>(memory);
         match count {
             Some(count) => end_native(count, memory),
             None => {

@@ -14,7 +14,7 @@ use super::SoleNative;
 use crate::shared::SharedNative;
 use arc_block::block::{MAX_OWNERS, NativeCount};
 use arc_buffer::kinds::Slice;
-use arc_memory::WriterMemory;
+use arc_memory::{CutMemory, WriterMemory};
 use arc_owners::mark::Mark;
 use std::alloc::Allocator;
 use std::marker::PhantomData;
@@ -27,7 +27,7 @@ impl<S: Slice, M: Drop, A: Allocator + Copy, H: Mark> SoleNative<S, M, A, H> {
 
     /// Full places aren't counted: none are more when items are pushed. Does nothing: its contract
     /// is the law.
-    #[tactic(auto, using(crate::proofs::SoleNatives::uncounted_native))]
+    #[tactic(auto, using(crate::proofs::CutNatives::uncounted_cut))]
     pub fn known_uncounted(&self)
         requires { S.DROPS ≡ false }
         ensures { (len more : ℕ) → with_full len more self.now.place ≡ self.now.place }
@@ -61,21 +61,18 @@ impl<S: Slice, M: Drop, A: Allocator + Copy, H: Mark> SoleNative<S, M, A, H> {
         let SoleNative {
             count,
             memory,
-            start,
-            behind: _,
-            beyond,
             alloc: _,
             marker: _,
         } = self;
+        let capacity = memory.capacity();
+        let memory = memory.into_own();
         let Some(count) = count else { unreachable!() };
-        let capacity = memory.capacity() - beyond;
-        let mut writer = SharedNative::of_sole(count, memory, capacity);
-        writer.advance(start);
-        Ok(writer)
+        Ok(SharedNative::of_sole(count, memory, capacity))
     }
 
     /// All items of a block's memory, whose only owner this is, with the first `capacity` of the
     /// memory's places.
+    #[tactic(auto, using(crate::proofs::CutNatives::keeps_own))]
     pub fn of_several(
         alloc: A,
         count: NativeCount<MAX_OWNERS, H>,
@@ -90,13 +87,9 @@ impl<S: Slice, M: Drop, A: Allocator + Copy, H: Mark> SoleNative<S, M, A, H> {
         ensures { result
             ≡ as_unique (native_row (native_writer_over (count_owner count) memory capacity)) }
     {
-        let beyond = memory.capacity() - capacity;
         SoleNative {
             count: Some(count),
-            memory,
-            start: 0,
-            behind: 0,
-            beyond,
+            memory: CutMemory::of(memory, capacity),
             alloc,
             marker: PhantomData,
         }

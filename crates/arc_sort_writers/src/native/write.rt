@@ -7,7 +7,7 @@ ghost use Rattle.arc_parts.specs.Steps.{IsPassAt};
 ghost use Rattle.arc_parts.specs.Writers.{capacity_of, room_for, MakesRoom, Pushes, Reclaims};
 ghost use Rattle.arc_parts.specs.Writers.{with_more, after_advance, after_truncate};
 
-use super::{SoleNative, end_in};
+use super::SoleNative;
 use arc_buffer::kinds::Slice;
 use arc_owners::error::TryReserveError;
 use arc_owners::mark::Mark;
@@ -25,8 +25,7 @@ impl<S: Slice, M: Drop, A: Allocator + Copy, H: Mark> SoleNative<S, M, A, H> {
             S.TryFromSliceError.row H.Mark S.Slice A.Allocator self.entry result) }
         ensures value { result.now ≡ self.old.items }
     {
-        let end = end_in::<S, A>(&self.memory, self.behind);
-        self.memory.as_mut_part(self.start, end)
+        self.memory.as_mut_slice()
     }
 
     /// Whether there is room for so many items more without memory; then it is made.
@@ -101,7 +100,10 @@ impl<S: Slice, M: Drop, A: Allocator + Copy, H: Mark> SoleNative<S, M, A, H> {
         requires { count ≤ length self.old.items }
         ensures { self.new ≡ after_advance count self.old }
     {
-        self.start += count;
+        if S::DROPS {
+            return self.memory.keep_front(count);
+        }
+        self.memory.forget_front(count);
     }
 
     /// Leaves the first so many items, if there are more.
@@ -109,17 +111,13 @@ impl<S: Slice, M: Drop, A: Allocator + Copy, H: Mark> SoleNative<S, M, A, H> {
     pub fn truncate(&mut self, len: usize)
         ensures { self.new ≡ after_truncate S.DROPS len self.old }
     {
-        let Some(end) = self.start.checked_add(len) else {
-            return;
-        };
-        if end_in::<S, A>(&self.memory, self.behind) <= end {
+        if self.memory.len() <= len {
             return;
         }
         if S::DROPS {
-            self.behind = self.memory.len() - end;
-        } else {
-            self.memory.truncate(end);
+            return self.memory.keep_back(len);
         }
+        self.memory.truncate(len);
     }
 }
 

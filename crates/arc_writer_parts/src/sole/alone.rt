@@ -8,7 +8,7 @@ ghost use Rattle.arc_block.specs.Table.{sole_writer};
 ghost use Rattle.arc_parts.specs.Window.{IsBoxWhole};
 ghost use Rattle.arc_parts.specs.Writers.{capacity_of, idle_writer, with_full};
 
-use super::{SoleParts, SoleStorage};
+use super::{SoleOther, SoleParts, SoleStorage};
 use arc_buffer::buffer::BufferMut;
 use arc_buffer::kinds::Slice;
 use arc_owners::mark::Mark;
@@ -29,8 +29,8 @@ impl<S: Slice, B: BufferMut<S::Item> + Drop, M: Drop, A: Allocator + Copy, H: Ma
     {
         match &self.on {
             SoleStorage::Native(parts) => parts.known_role(),
-            SoleStorage::Vector(parts) => parts.known_role(),
-            SoleStorage::Buffer(parts) => parts.known_role(),
+            SoleStorage::Other(SoleOther::Vector(parts)) => parts.known_role(),
+            SoleStorage::Other(SoleOther::Buffer(parts)) => parts.known_role(),
         }
     }
 
@@ -43,8 +43,8 @@ impl<S: Slice, B: BufferMut<S::Item> + Drop, M: Drop, A: Allocator + Copy, H: Ma
     {
         match &self.on {
             SoleStorage::Native(parts) => parts.known_uncounted(),
-            SoleStorage::Vector(parts) => parts.known_uncounted(),
-            SoleStorage::Buffer(parts) => parts.not_alone(),
+            SoleStorage::Other(SoleOther::Vector(parts)) => parts.known_uncounted(),
+            SoleStorage::Other(SoleOther::Buffer(parts)) => parts.not_alone(),
         }
     }
 
@@ -55,8 +55,8 @@ impl<S: Slice, B: BufferMut<S::Item> + Drop, M: Drop, A: Allocator + Copy, H: Ma
     {
         match &self.on {
             SoleStorage::Native(parts) => parts.is_on_block(),
-            SoleStorage::Vector(parts) => parts.is_on_block(),
-            SoleStorage::Buffer(parts) => parts.is_on_block(),
+            SoleStorage::Other(SoleOther::Vector(parts)) => parts.is_on_block(),
+            SoleStorage::Other(SoleOther::Buffer(parts)) => parts.is_on_block(),
         }
     }
 
@@ -66,8 +66,8 @@ impl<S: Slice, B: BufferMut<S::Item> + Drop, M: Drop, A: Allocator + Copy, H: Ma
     {
         match &self.on {
             SoleStorage::Native(parts) => parts.is_box_whole(),
-            SoleStorage::Vector(parts) => parts.is_box_whole(),
-            SoleStorage::Buffer(parts) => parts.is_box_whole(),
+            SoleStorage::Other(SoleOther::Vector(parts)) => parts.is_box_whole(),
+            SoleStorage::Other(SoleOther::Buffer(parts)) => parts.is_box_whole(),
         }
     }
 
@@ -83,8 +83,8 @@ impl<S: Slice, B: BufferMut<S::Item> + Drop, M: Drop, A: Allocator + Copy, H: Ma
     {
         match &self.on {
             SoleStorage::Native(parts) => parts.is_alone_as(pass),
-            SoleStorage::Vector(parts) => parts.is_alone_as(pass),
-            SoleStorage::Buffer(parts) => parts.is_alone_as(pass),
+            SoleStorage::Other(SoleOther::Vector(parts)) => parts.is_alone_as(pass),
+            SoleStorage::Other(SoleOther::Buffer(parts)) => parts.is_alone_as(pass),
         }
     }
 
@@ -95,8 +95,8 @@ impl<S: Slice, B: BufferMut<S::Item> + Drop, M: Drop, A: Allocator + Copy, H: Ma
     {
         match &self.on {
             SoleStorage::Native(parts) => parts.apart_from(writer),
-            SoleStorage::Vector(parts) => parts.apart_from(writer),
-            SoleStorage::Buffer(parts) => parts.apart_from(writer),
+            SoleStorage::Other(SoleOther::Vector(parts)) => parts.apart_from(writer),
+            SoleStorage::Other(SoleOther::Buffer(parts)) => parts.apart_from(writer),
         }
     }
 
@@ -110,12 +110,12 @@ impl<S: Slice, B: BufferMut<S::Item> + Drop, M: Drop, A: Allocator + Copy, H: Ma
     {
         match &mut self.on {
             SoleStorage::Native(parts) => parts.is_nowhere(),
-            SoleStorage::Vector(parts) => match &other.on {
+            SoleStorage::Other(SoleOther::Vector(parts)) => match &other.on {
                 SoleStorage::Native(its) => its.is_nowhere(),
-                SoleStorage::Vector(its) => parts.apart_from_sole(its),
-                SoleStorage::Buffer(its) => its.not_alone(),
+                SoleStorage::Other(SoleOther::Vector(its)) => parts.apart_from_sole(its),
+                SoleStorage::Other(SoleOther::Buffer(its)) => its.not_alone(),
             },
-            SoleStorage::Buffer(parts) => parts.not_alone(),
+            SoleStorage::Other(SoleOther::Buffer(parts)) => parts.not_alone(),
         }
     }
 }

@@ -9,7 +9,7 @@ ghost use Rattle.arc_parts.specs.Window.{IsBufferWhole};
 ghost use Rattle.arc_parts.specs.Writers.{MakesBufferWriter};
 ghost use Rattle.arc_block.specs.Place.{size_at};
 
-use super::{SoleParts, SoleStorage};
+use super::{SoleOther, SoleParts, SoleStorage};
 use arc_buffer::buffer::BufferMut;
 use arc_buffer::kinds::Slice;
 use arc_owners::mark::Mark;
@@ -77,8 +77,10 @@ impl<S: Slice, B: BufferMut<S::Item> + Drop, M: Drop, A: Allocator + Copy, H: Ma
         let SoleParts { on } = self;
         match on {
             SoleStorage::Native(parts) => Err(Self::in_native(parts.not_buffer())),
-            SoleStorage::Vector(parts) => Err(Self::in_vector(parts.not_buffer())),
-            SoleStorage::Buffer(parts) => match parts.try_into_buffer_as(pass) {
+            SoleStorage::Other(SoleOther::Vector(parts)) => Err(Self::in_vector(
+                parts.not_buffer(),
+            )),
+            SoleStorage::Other(SoleOther::Buffer(parts)) => match parts.try_into_buffer_as(pass) {
                 Ok(buffer) => Ok(buffer),
                 Err(back) => Err(Self::in_buffer(back)),
             },

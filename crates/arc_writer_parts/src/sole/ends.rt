@@ -14,7 +14,7 @@ ghost use Rattle.arc_parts.specs.Writers.{BecomesSole, RefusesSole};
 ghost use Rattle.arc_parts.specs.Window.{IsBlockHeld};
 ghost use Rattle.arc_parts.specs.Window.{IsWithin, parts_of, window_seen};
 
-use super::{SoleParts, SoleStorage};
+use super::{SoleOther, SoleParts, SoleStorage};
 use arc_block::block::{Block, MAX_OWNERS, NativeBlock};
 use arc_block::layout::Layout;
 use arc_buffer::buffer::BufferMut;
@@ -153,8 +153,8 @@ impl<S: Slice, B: BufferMut<S::Item> + Drop, M: Drop, A: Allocator + Copy, H: Ma
     {
         match &self.on {
             SoleStorage::Native(parts) => parts.is_held::<L>(),
-            SoleStorage::Vector(parts) => parts.is_held::<L>(),
-            SoleStorage::Buffer(parts) => parts.is_held::<L>(),
+            SoleStorage::Other(SoleOther::Vector(parts)) => parts.is_held::<L>(),
+            SoleStorage::Other(SoleOther::Buffer(parts)) => parts.is_held::<L>(),
         }
     }
 
@@ -182,8 +182,10 @@ impl<S: Slice, B: BufferMut<S::Item> + Drop, M: Drop, A: Allocator + Copy, H: Ma
                 Ok(array) => Ok(array),
                 Err(back) => Err(Self::in_native(back)),
             },
-            SoleStorage::Vector(parts) => Err(Self::in_vector(parts.not_array())),
-            SoleStorage::Buffer(parts) => Err(Self::in_buffer(parts.not_memory())),
+            SoleStorage::Other(SoleOther::Vector(parts)) => Err(Self::in_vector(parts.not_array())),
+            SoleStorage::Other(SoleOther::Buffer(parts)) => Err(Self::in_buffer(
+                parts.not_memory(),
+            )),
         }
     }
 
@@ -195,8 +197,8 @@ impl<S: Slice, B: BufferMut<S::Item> + Drop, M: Drop, A: Allocator + Copy, H: Ma
         let SoleParts { on } = self;
         match on {
             SoleStorage::Native(parts) => SoleParts::in_native(parts.into_kind()),
-            SoleStorage::Vector(parts) => SoleParts::in_vector(parts.into_kind()),
-            SoleStorage::Buffer(parts) => SoleParts::in_buffer(parts.into_kind()),
+            SoleStorage::Other(SoleOther::Vector(parts)) => SoleParts::in_vector(parts.into_kind()),
+            SoleStorage::Other(SoleOther::Buffer(parts)) => SoleParts::in_buffer(parts.into_kind()),
         }
     }
 
@@ -209,8 +211,8 @@ impl<S: Slice, B: BufferMut<S::Item> + Drop, M: Drop, A: Allocator + Copy, H: Ma
     {
         match &self.on {
             SoleStorage::Native(parts) => parts.only(pass),
-            SoleStorage::Vector(parts) => parts.only(pass),
-            SoleStorage::Buffer(parts) => parts.only(pass),
+            SoleStorage::Other(SoleOther::Vector(parts)) => parts.only(pass),
+            SoleStorage::Other(SoleOther::Buffer(parts)) => parts.only(pass),
         }
     }
 }

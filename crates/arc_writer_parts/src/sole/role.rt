@@ -10,7 +10,7 @@ ghost use Rattle.arc_parts.specs.Steps.{Begins, IsPassAt, Makes};
 ghost use Rattle.arc_parts.specs.Window.{IsBoxWhole, IsHeld, IsVecPart, window_of};
 ghost use Rattle.arc_parts.specs.Writers.{as_reader, Freezes, with_items};
 
-use super::{SoleParts, SoleStorage};
+use super::{SoleOther, SoleParts, SoleStorage};
 use crate::role::{CopyWriterParts, WriterParts};
 use arc_block::layout::Layout;
 use arc_buffer::buffer::{BorrowMetadata, BufferMut};
@@ -37,63 +37,63 @@ impl<S: Slice, B: BufferMut<S::Item> + Drop, M: Drop, A: Allocator + Copy, H: Ma
     fn known_place(&self) {
         self.known_role();
         match &self.on {
-            SoleStorage::Buffer(parts) => parts.known_place(),
+            SoleStorage::Other(SoleOther::Buffer(parts)) => parts.known_place(),
             SoleStorage::Native(parts) => parts.known_place(),
-            SoleStorage::Vector(parts) => parts.known_place(),
+            SoleStorage::Other(SoleOther::Vector(parts)) => parts.known_place(),
         }
     }
 
     #[inline(always)]
     fn len(&self) -> usize {
         match &self.on {
-            SoleStorage::Buffer(parts) => parts.len(),
+            SoleStorage::Other(SoleOther::Buffer(parts)) => parts.len(),
             SoleStorage::Native(parts) => parts.len(),
-            SoleStorage::Vector(parts) => parts.len(),
+            SoleStorage::Other(SoleOther::Vector(parts)) => parts.len(),
         }
     }
 
     #[inline(always)]
     fn as_slice(&self) -> &[S::Item] {
         match &self.on {
-            SoleStorage::Buffer(parts) => parts.as_slice(),
+            SoleStorage::Other(SoleOther::Buffer(parts)) => parts.as_slice(),
             SoleStorage::Native(parts) => parts.as_slice(),
-            SoleStorage::Vector(parts) => parts.as_slice(),
+            SoleStorage::Other(SoleOther::Vector(parts)) => parts.as_slice(),
         }
     }
 
     #[inline(always)]
     fn capacity(&self) -> usize {
         match &self.on {
-            SoleStorage::Buffer(parts) => parts.capacity(),
+            SoleStorage::Other(SoleOther::Buffer(parts)) => parts.capacity(),
             SoleStorage::Native(parts) => parts.capacity(),
-            SoleStorage::Vector(parts) => parts.capacity(),
+            SoleStorage::Other(SoleOther::Vector(parts)) => parts.capacity(),
         }
     }
 
     #[inline(always)]
     fn as_mut_slice(&mut self) -> &mut [S::Item] {
         match &mut self.on {
-            SoleStorage::Buffer(parts) => parts.as_mut_slice(),
+            SoleStorage::Other(SoleOther::Buffer(parts)) => parts.as_mut_slice(),
             SoleStorage::Native(parts) => parts.as_mut_slice(),
-            SoleStorage::Vector(parts) => parts.as_mut_slice(),
+            SoleStorage::Other(SoleOther::Vector(parts)) => parts.as_mut_slice(),
         }
     }
 
     #[inline(always)]
     fn advance(&mut self, count: usize) {
         match &mut self.on {
-            SoleStorage::Buffer(parts) => parts.advance(count),
+            SoleStorage::Other(SoleOther::Buffer(parts)) => parts.advance(count),
             SoleStorage::Native(parts) => parts.advance(count),
-            SoleStorage::Vector(parts) => parts.advance(count),
+            SoleStorage::Other(SoleOther::Vector(parts)) => parts.advance(count),
         }
     }
 
     #[inline(always)]
     fn truncate(&mut self, len: usize) {
         match &mut self.on {
-            SoleStorage::Buffer(parts) => parts.truncate(len),
+            SoleStorage::Other(SoleOther::Buffer(parts)) => parts.truncate(len),
             SoleStorage::Native(parts) => parts.truncate(len),
-            SoleStorage::Vector(parts) => parts.truncate(len),
+            SoleStorage::Other(SoleOther::Vector(parts)) => parts.truncate(len),
         }
     }
 
@@ -105,9 +105,9 @@ impl<S: Slice, B: BufferMut<S::Item> + Drop, M: Drop, A: Allocator + Copy, H: Ma
         pass: &mut Pass<H>,
     ) -> Result<(), TryReserveError> {
         match &mut self.on {
-            SoleStorage::Buffer(parts) => parts.try_reserve_as(additional, pass),
+            SoleStorage::Other(SoleOther::Buffer(parts)) => parts.try_reserve_as(additional, pass),
             SoleStorage::Native(parts) => parts.try_reserve_as(additional, pass),
-            SoleStorage::Vector(parts) => parts.try_reserve_as(additional, pass),
+            SoleStorage::Other(SoleOther::Vector(parts)) => parts.try_reserve_as(additional, pass),
         }
     }
 
@@ -124,9 +124,9 @@ impl<S: Slice, B: BufferMut<S::Item> + Drop, M: Drop, A: Allocator + Copy, H: Ma
         pass: &mut Pass<H>,
     ) -> Result<(), (TryReserveError, S::Item)> {
         match &mut self.on {
-            SoleStorage::Buffer(parts) => parts.try_push_as(item, pass),
+            SoleStorage::Other(SoleOther::Buffer(parts)) => parts.try_push_as(item, pass),
             SoleStorage::Native(parts) => parts.try_push_as(item, pass),
-            SoleStorage::Vector(parts) => parts.try_push_as(item, pass),
+            SoleStorage::Other(SoleOther::Vector(parts)) => parts.try_push_as(item, pass),
         }
     }
 
@@ -142,11 +142,13 @@ impl<S: Slice, B: BufferMut<S::Item> + Drop, M: Drop, A: Allocator + Copy, H: Ma
         let SoleParts { on } = self;
         match on {
             SoleStorage::Native(parts) => Err(Self::in_native(parts.not_vector())),
-            SoleStorage::Vector(parts) => match parts.try_into_vec_as(pass) {
+            SoleStorage::Other(SoleOther::Vector(parts)) => match parts.try_into_vec_as(pass) {
                 Ok(items) => Ok(items),
                 Err(back) => Err(Self::in_vector(back)),
             },
-            SoleStorage::Buffer(parts) => Err(Self::in_buffer(parts.not_memory())),
+            SoleStorage::Other(SoleOther::Buffer(parts)) => Err(Self::in_buffer(
+                parts.not_memory(),
+            )),
         }
     }
 
@@ -162,11 +164,13 @@ impl<S: Slice, B: BufferMut<S::Item> + Drop, M: Drop, A: Allocator + Copy, H: Ma
         let SoleParts { on } = self;
         match on {
             SoleStorage::Native(parts) => Err(Self::in_native(parts.not_vector())),
-            SoleStorage::Vector(parts) => match parts.try_into_box_vec_as(pass) {
+            SoleStorage::Other(SoleOther::Vector(parts)) => match parts.try_into_box_vec_as(pass) {
                 Ok(items) => Ok(items),
                 Err(back) => Err(Self::in_vector(back)),
             },
-            SoleStorage::Buffer(parts) => Err(Self::in_buffer(parts.not_memory())),
+            SoleStorage::Other(SoleOther::Buffer(parts)) => Err(Self::in_buffer(
+                parts.not_memory(),
+            )),
         }
     }
 
@@ -174,8 +178,8 @@ impl<S: Slice, B: BufferMut<S::Item> + Drop, M: Drop, A: Allocator + Copy, H: Ma
         let SoleParts { on } = self;
         match on {
             SoleStorage::Native(parts) => parts.freeze(),
-            SoleStorage::Vector(parts) => parts.freeze(),
-            SoleStorage::Buffer(parts) => parts.freeze(),
+            SoleStorage::Other(SoleOther::Vector(parts)) => parts.freeze(),
+            SoleStorage::Other(SoleOther::Buffer(parts)) => parts.freeze(),
         }
     }
 
@@ -200,11 +204,11 @@ impl<S: Slice, B: BufferMut<S::Item> + Drop, M: Drop, A: Allocator + Copy, H: Ma
                 Ok(parts) => Ok(parts),
                 Err(back) => Err(Self::in_native(back)),
             },
-            SoleStorage::Vector(parts) => match parts.try_freeze_as::<L>(pass) {
+            SoleStorage::Other(SoleOther::Vector(parts)) => match parts.try_freeze_as::<L>(pass) {
                 Ok(parts) => Ok(parts),
                 Err(back) => Err(Self::in_vector(back)),
             },
-            SoleStorage::Buffer(parts) => match parts.try_freeze_as::<L>(pass) {
+            SoleStorage::Other(SoleOther::Buffer(parts)) => match parts.try_freeze_as::<L>(pass) {
                 Ok(parts) => Ok(parts),
                 Err(back) => Err(Self::in_buffer(back)),
             },
@@ -221,8 +225,8 @@ impl<S: Slice, B: BufferMut<S::Item> + Drop, M: Drop, A: Allocator + Copy, H: Ma
     fn metadata(&self) -> Option<&M> {
         match &self.on {
             SoleStorage::Native(parts) => parts.metadata(),
-            SoleStorage::Vector(parts) => parts.metadata(),
-            SoleStorage::Buffer(parts) => parts.metadata(),
+            SoleStorage::Other(SoleOther::Vector(parts)) => parts.metadata(),
+            SoleStorage::Other(SoleOther::Buffer(parts)) => parts.metadata(),
         }
     }
 
@@ -232,8 +236,8 @@ impl<S: Slice, B: BufferMut<S::Item> + Drop, M: Drop, A: Allocator + Copy, H: Ma
     {
         match &self.on {
             SoleStorage::Native(parts) => parts.borrowed_metadata::<B>(),
-            SoleStorage::Vector(parts) => parts.borrowed_metadata(),
-            SoleStorage::Buffer(parts) => Some(parts.borrowed_metadata()),
+            SoleStorage::Other(SoleOther::Vector(parts)) => parts.borrowed_metadata(),
+            SoleStorage::Other(SoleOther::Buffer(parts)) => Some(parts.borrowed_metadata()),
         }
     }
 
@@ -245,8 +249,8 @@ impl<S: Slice, B: BufferMut<S::Item> + Drop, M: Drop, A: Allocator + Copy, H: Ma
         let SoleParts { on } = self;
         match on {
             SoleStorage::Native(parts) => parts.release_as(pass),
-            SoleStorage::Vector(parts) => parts.release_as(pass),
-            SoleStorage::Buffer(parts) => parts.release_as(pass),
+            SoleStorage::Other(SoleOther::Vector(parts)) => parts.release_as(pass),
+            SoleStorage::Other(SoleOther::Buffer(parts)) => parts.release_as(pass),
         }
     }
 
@@ -262,8 +266,8 @@ impl<S: Slice, B: BufferMut<S::Item> + Drop, M: Drop, A: Allocator + Copy, H: Ma
         let SoleParts { on } = self;
         match on {
             SoleStorage::Native(parts) => parts.let_go(),
-            SoleStorage::Vector(parts) => parts.let_go(),
-            SoleStorage::Buffer(parts) => parts.let_go(),
+            SoleStorage::Other(SoleOther::Vector(parts)) => parts.let_go(),
+            SoleStorage::Other(SoleOther::Buffer(parts)) => parts.let_go(),
         }
     }
 
@@ -274,8 +278,8 @@ impl<S: Slice, B: BufferMut<S::Item> + Drop, M: Drop, A: Allocator + Copy, H: Ma
     fn learn(&self, pass: &mut Pass<H>, other: &Pass<H>) {
         match &self.on {
             SoleStorage::Native(parts) => parts.learn(pass, other),
-            SoleStorage::Vector(parts) => parts.learn(pass, other),
-            SoleStorage::Buffer(parts) => parts.learn(pass, other),
+            SoleStorage::Other(SoleOther::Vector(parts)) => parts.learn(pass, other),
+            SoleStorage::Other(SoleOther::Buffer(parts)) => parts.learn(pass, other),
         }
     }
 
@@ -285,8 +289,8 @@ impl<S: Slice, B: BufferMut<S::Item> + Drop, M: Drop, A: Allocator + Copy, H: Ma
     {
         match &self.on {
             SoleStorage::Native(parts) => parts.pass(),
-            SoleStorage::Vector(parts) => parts.pass(),
-            SoleStorage::Buffer(parts) => parts.pass(),
+            SoleStorage::Other(SoleOther::Vector(parts)) => parts.pass(),
+            SoleStorage::Other(SoleOther::Buffer(parts)) => parts.pass(),
         }
     }
 
@@ -311,18 +315,22 @@ where
         pass: &mut Pass<H>,
     ) -> Result<(), TryReserveError> {
         match &mut self.on {
-            SoleStorage::Buffer(parts) => parts.try_extend_from_slice_as(items, pass),
+            SoleStorage::Other(SoleOther::Buffer(parts)) => parts.try_extend_from_slice_as(
+                items, pass,
+            ),
             SoleStorage::Native(parts) => parts.try_extend_from_slice_as(items, pass),
-            SoleStorage::Vector(parts) => parts.try_extend_from_slice_as(items, pass),
+            SoleStorage::Other(SoleOther::Vector(parts)) => parts.try_extend_from_slice_as(
+                items, pass,
+            ),
         }
     }
 
     #[inline(always)]
     fn extend_reserved(&mut self, items: &[S::Item]) {
         match &mut self.on {
-            SoleStorage::Buffer(parts) => parts.extend_reserved(items),
+            SoleStorage::Other(SoleOther::Buffer(parts)) => parts.extend_reserved(items),
             SoleStorage::Native(parts) => parts.extend_reserved(items),
-            SoleStorage::Vector(parts) => parts.extend_reserved(items),
+            SoleStorage::Other(SoleOther::Vector(parts)) => parts.extend_reserved(items),
         }
     }
 }

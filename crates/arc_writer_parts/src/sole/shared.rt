@@ -3,7 +3,7 @@ ghost use Rattle.std.specs.Prelude.{◌≡◌, false, IfOk, IfErr};
 ghost use Rattle.arc_parts.specs.Shared.{as_shared};
 ghost use Rattle.arc_parts.specs.Window.{IsOfBuffer};
 
-use super::{SoleParts, SoleStorage};
+use super::{SoleOther, SoleParts, SoleStorage};
 use crate::shared::SharedParts;
 use arc_buffer::buffer::BufferMut;
 use arc_buffer::kinds::Slice;
@@ -50,12 +50,12 @@ impl<S: Slice, B: BufferMut<S::Item> + Drop, M: Drop, A: Allocator + Copy, H: Ma
                     Err(parts) => SharedParts::alone(alloc, Self::in_native(parts)),
                 }
             }
-            SoleStorage::Vector(parts) => {
+            SoleStorage::Other(SoleOther::Vector(parts)) => {
                 let alloc = parts.alloc();
                 parts.is_alone_place();
                 SharedParts::alone(alloc, Self::in_vector(parts))
             }
-            SoleStorage::Buffer(parts) => {
+            SoleStorage::Other(SoleOther::Buffer(parts)) => {
                 parts.known_buffer();
                 unreachable!()
             }

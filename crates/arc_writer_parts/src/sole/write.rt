@@ -3,7 +3,7 @@ ghost use Rattle.std.specs.Prelude.{◌≡◌, ◌≤◌, ◌+◌, ◌∷◌, []
 ghost use Rattle.std.specs.Mem.{type_size};
 ghost use Rattle.arc_parts.specs.Writers.{capacity_of, room_for, Reclaims, with_more};
 
-use super::{SoleParts, SoleStorage};
+use super::{SoleOther, SoleParts, SoleStorage};
 use arc_buffer::buffer::BufferMut;
 use arc_buffer::kinds::Slice;
 use arc_owners::mark::Mark;
@@ -22,9 +22,9 @@ impl<S: Slice, B: BufferMut<S::Item> + Drop, M: Drop, A: Allocator + Copy, H: Ma
             self.old self.new result }
     {
         match &mut self.on {
-            SoleStorage::Buffer(parts) => parts.try_reclaim(additional),
+            SoleStorage::Other(SoleOther::Buffer(parts)) => parts.try_reclaim(additional),
             SoleStorage::Native(parts) => parts.try_reclaim(additional),
-            SoleStorage::Vector(parts) => parts.try_reclaim(additional),
+            SoleStorage::Other(SoleOther::Vector(parts)) => parts.try_reclaim(additional),
         }
     }
 
@@ -36,8 +36,8 @@ impl<S: Slice, B: BufferMut<S::Item> + Drop, M: Drop, A: Allocator + Copy, H: Ma
     {
         match &mut self.on {
             SoleStorage::Native(parts) => parts.push_reserved(item),
-            SoleStorage::Vector(parts) => parts.push_reserved(item),
-            SoleStorage::Buffer(parts) => parts.push_reserved(item),
+            SoleStorage::Other(SoleOther::Vector(parts)) => parts.push_reserved(item),
+            SoleStorage::Other(SoleOther::Buffer(parts)) => parts.push_reserved(item),
         }
     }
 }

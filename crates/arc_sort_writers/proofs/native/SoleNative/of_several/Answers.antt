@@ -1,7 +1,0 @@
--- The places that he had, and no others.
-use Rattle.std.proofs.Common.{arith}
-use Rattle.std.proofs.lemmas.Grind.{common_steps}
-use Rattle.arc_sort_writers.proofs.native.SoleNative.of_several.Goals as goal
-
-pub returns : goal.returns
-returns g c = grind (arith, common_steps)
