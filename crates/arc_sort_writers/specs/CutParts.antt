@@ -31,10 +31,12 @@ module _ {T M A : Type 0} where
   }
 
 module _ {T A : Type 0} where
-  -- items that are dropped one by one stay in the memory, and others are forgotten
+  -- Items that are dropped one by one stay in the memory, and others are forgotten. Where none that
+  -- stay lie behind the writer's places, these go up to the end.
   pub record IsCutFor (drops : Bool) (m : CutMemory T A) : Type 0 where
     pub all : drops ≡ true → KeepsAll m
     pub own : drops ≡ false → KeepsOwn m
+    pub last : drops ≡ true → length m.behind.items ≡ 0 → m.behind.count ≡ 0
 
   -- who stands on a native block has its memory, and who stands on nothing has none
   abbrev pub HasCut : Bool → Option Owner → CutMemory T A → Type 0

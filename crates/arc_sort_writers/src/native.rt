@@ -547,10 +547,7 @@ impl<S: Slice, M: Drop, A: Allocator + Copy, H: Mark> SoleNative<S, M, A, H> {
             × (capacity_of self.new.role ≡ places - offset_at self.old.place)) }
         ensures refused { OnErr result (self.new ≡ self.old) }
     {
-        match grown::<S, A>(&mut self.memory, self.alloc, places) {
-            Ok(()) => Ok(()),
-            Err(e) => Err(e),
-        }
+        grown::<S, A>(&mut self.memory, self.alloc, places)
     }
 
     /// Has all places up to the end of the block.

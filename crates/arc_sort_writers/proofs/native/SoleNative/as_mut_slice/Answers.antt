@@ -19,6 +19,6 @@ returns g c = (
 )
 
 pub invariant_of-self-lent : goal.invariant_of-self-lent
-invariant_of-self-lent g c =
+invariant_of-self-lent g c = λ ws.
     within_lent g.S.Slice.DROPS g.H.Mark.whole (option_map count_owner c.self.inside.count)
-    c.self.inside.memory _ c.self.invariant
+    c.self.inside.memory ws c.self.invariant

@@ -14,7 +14,7 @@ returns g c =
     record {
       owner = o;
       made = new_cut drops o w (cut.start ∙ c.requires.start) c.of.ensures.own.back
-          (omega (arith, cut.count, cut.whole, m.own, c.requires.start, c.capacity.ensures))
+          (omega (arith, cut.count, cut.whole, m.own, c.requires.start, c.capacity-capacity.ensures))
           ∙ (λ i. writer_over native drops (Some o) (c.of.ensures.items i) (cut.whole i));
       first = c.new-count.ensures.first;
       pass = c.new-count.ensures.pass;

@@ -20,8 +20,10 @@ returns-clause-taken g c =
 pub into_array-requires : goal.into_array-requires
 into_array-requires g c =
     let whole : IsWholeWriter g.row.N c.args.self = c.is_whole.ensures.0 (search rules) in
-    let fields = c.into_fields-count.result in let was = c.into_fields-count.ensures in
-    ap (λ zs. length zs) (whole_cut g.S.Slice.DROPS g.H.Mark.whole
-    (option_map count_owner fields.0) fields.1 c.whole_of.result g.row.N c.args.self
-    (sym was.parts) was.within c.whole_of.ensures.own c.whole_of.ensures.all whole)
-    ∙ whole.items
+    let fields = c.into_fields-count.result in let was = c.into_fields-count.ensures in (
+      search rules,
+      ap (λ zs. length zs) (whole_cut g.S.Slice.DROPS g.H.Mark.whole
+          (option_map count_owner fields.0) fields.1 c.whole_of.result g.row.N c.args.self
+          (sym was.parts) was.within c.whole_of.ensures.own c.whole_of.ensures.all whole)
+          ∙ whole.items,
+    )
