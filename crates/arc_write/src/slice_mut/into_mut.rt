@@ -120,6 +120,7 @@ impl<
 
     ghost seen = { λ window. window };
 
+    #[inline(always)]
     fn try_into_mut_as<K: LayoutMut>(
         self,
         pass: &mut Pass<H>,
@@ -140,6 +141,7 @@ impl<
         }
     }
 
+    #[inline(always)]
     fn try_into_mut<K: LayoutMut>(self) -> Result<ArcSliceMut<S, K, 1, B, M, A, H>, Self>
     where
         H: Stepping,

@@ -73,9 +73,11 @@ impl<S: Slice, B: BufferMut<S::Item> + Drop, M: Drop, A: Allocator + Copy, H: Ma
     #[inline(always)]
     fn as_mut_slice(&mut self) -> &mut [S::Item] {
         match &mut self.on {
-            SoleStorage::Other(SoleOther::Buffer(parts)) => parts.as_mut_slice(),
             SoleStorage::Native(parts) => parts.as_mut_slice(),
-            SoleStorage::Other(SoleOther::Vector(parts)) => parts.as_mut_slice(),
+            SoleStorage::Other(other) => match other {
+                SoleOther::Vector(parts) => parts.as_mut_slice(),
+                SoleOther::Buffer(parts) => parts.as_mut_slice(),
+            },
         }
     }
 
@@ -183,6 +185,7 @@ impl<S: Slice, B: BufferMut<S::Item> + Drop, M: Drop, A: Allocator + Copy, H: Ma
         }
     }
 
+    #[inline(always)]
     fn try_freeze_as<L: Layout>(self, pass: &mut Pass<H>) -> Result<Parts<S, B, M, A, H>, Self>
         requires pass { IsPassAt self.place pass.old }
         ensures frozen { IfOk result (λ parts.
