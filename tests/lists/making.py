@@ -1,7 +1,7 @@
 """Windows that are made of what a line brings. Each function changes the table, and answers the reply."""
 from dataclasses import replace
 
-from .table import STATIC, Row
+from .table import INLINE_LIMIT, STATIC, Row
 
 STATIC_ITEMS = b"abcd"
 
@@ -25,7 +25,7 @@ def make_slice(table, items):
 
 def make_small(table, items):
     """Up to the limit the bytes are in the window itself, and past that it stands where a reader does."""
-    inline = len(items) <= table.inline_limit
+    inline = len(items) <= INLINE_LIMIT
     row = Row(items, None, 0, "i") if inline else replace(reader(table, items), role="i")
     return table.make(row)
 

@@ -3,8 +3,11 @@ from dataclasses import dataclass, replace
 
 STATIC = "static"
 
-# By the program's word: whether an Arc is a block by itself, and how many bytes a small window has in itself.
-LAYOUTS = {"arc": (False, 22), "boxed": (False, 22), "vec": (False, 30), "raw": (True, 30)}
+# By the program's word: whether an Arc is a block by itself.
+LAYOUTS = {"arc": False, "boxed": False, "vec": False, "raw": True}
+
+# How many bytes a small window has in itself at most.
+INLINE_LIMIT = 30
 
 # Requests for memory up to so many places are served here; from so many on no machine can serve them.
 SERVED, UNSERVED = 1 << 24, 1 << 47
@@ -46,7 +49,7 @@ class Table:
     after the other."""
 
     def __init__(self, word):
-        self.by_itself, self.inline_limit = LAYOUTS[word]
+        self.by_itself = LAYOUTS[word]
         self.rows, self.blocks, self.made, self.begun, self.answers = {}, {}, 0, 0, []
 
     def __eq__(self, other):

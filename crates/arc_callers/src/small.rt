@@ -7,6 +7,7 @@ use arc_slice::error::{AllocError, OwnerError, RangeError};
 use arc_slice::inlined::{
     SmallArcBytes, SmallArcSlice, SmallArcStr, SmallBytes, SmallSlice, SmallStr,
 };
+use arc_slice::layout::VecLayout;
 use arc_slice::{ArcBytes, Pass};
 use either::{Left, Right};
 use std::alloc::Global;
@@ -262,4 +263,30 @@ pub fn kept_as(
         vector,
         SmallArcBytes::try_from_boxed_as(alloc, boxed, &mut pass),
     )
+}
+
+/// A short list, and windows, under another layout: a short list stays in its window.
+pub fn under_vectors(
+    short: SmallBytes,
+    window: SmallArcBytes,
+) -> (
+    SmallBytes<VecLayout>,
+    Result<SmallArcBytes<VecLayout>, SmallArcBytes>,
+)
+    ensures short { result.0.items ≡ short.items }
+    ensures moved { IfOk result.1 (λ moved. moved.items ≡ window.items) }
+    ensures back { IfErr result.1 (λ back. back ≡ window) }
+{
+    (
+        short.with_layout::<VecLayout>(),
+        window.try_with_layout::<VecLayout>(),
+    )
+}
+
+/// A short list's window under another layout, with a pass of no block.
+pub fn under_vectors_as(short: SmallBytes) -> Result<SmallArcBytes<VecLayout>, SmallArcBytes>
+    ensures { IfOk result (λ moved. moved.items ≡ short.items) }
+{
+    let mut pass = Pass::none();
+    SmallArcBytes::from(short).try_with_layout_as::<VecLayout>(&mut pass)
 }

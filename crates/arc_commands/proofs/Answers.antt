@@ -199,15 +199,15 @@ module _ {T M : Type 0} (setting : Setting T) (short : Shortage) (places : ℕ) 
   either_each true one other h k = h
   either_each false one other h k = k
 
-  small_each : (limit : ℕ) (items : List T)
-      → Makes (Some (small_row limit setting.layout.has_static setting.drops t.blocks items))
-  small_each limit items =
+  small_each : (items : List T)
+      → Makes (Some (small_row setting.layout.has_static setting.drops t.blocks items))
+  small_each items =
       let nothing = setting.layout.has_static && (length items == 0) in
       let info : BlockInfo M = native_facts setting.drops (length items) in
       let inside : Row T M = record { items = items; place = nowhere; role = inline } in
       let shared : Row T M =
       as_small (made_row setting.layout.has_static setting.drops t.blocks items) in
-      either_each (nat_lt limit (length items)) shared inside
+      either_each (nat_lt inline_limit (length items)) shared inside
       (founded_each short refl shared (each.founds items inline nothing info refl
       (small-fits setting.drops t.blocks items nothing (λ none. eqb-true (length items) 0
       (and_parts setting.layout.has_static (length items == 0) none).1))))
@@ -244,9 +244,8 @@ module _ {T M : Type 0} (setting : Setting T) (short : Shortage) (places : ℕ) 
       if_each setting.calls.copies (made_row setting.layout.has_static setting.drops t.blocks items)
       (list_each items)
   made_each (Small items) e =
-      let row = small_row (inline_limit setting.layout) setting.layout.has_static setting.drops
-      t.blocks items in
-      if_each setting.calls.small row (small_each (inline_limit setting.layout) items)
+      let row = small_row setting.layout.has_static setting.drops t.blocks items in
+      if_each setting.calls.small row (small_each items)
   made_each (Vec items) e =
       if_each setting.layout.has_any (vector_row setting.layout.has_static setting.drops t.blocks
       items places)

@@ -12,6 +12,7 @@ use Rattle.arc_buffer.specs.Slice.{sub}
 use Rattle.arc_block.specs.declared.block.TheConstants.{MAX_OWNERS}
 use Rattle.arc_block.specs.Block.{Sort, native, vector, buffer, raw, native_facts, partly_full}
 use Rattle.arc_block.specs.Block.{BlockInfo, memory_info, buffer_info, raw_info}
+use Rattle.arc_block.specs.Inline.{inline_limit}
 use Rattle.arc_block.specs.Layouts.{LayoutFacts}
 use Rattle.arc_block.specs.Moves.{layout_move}
 use Rattle.arc_block.specs.declared.layout.Move.{Move}
@@ -156,10 +157,9 @@ as_small row = record row { role = inline }
 
 -- What is made of a list as a small window. Up to a limit it has the items in itself, and stands on
 -- nothing; past that it stands where a reader does that is made of them.
-abbrev pub small_row : {T M : Type 0} → (limit : ℕ) → (has_static drops : Bool) → (block : ℕ)
-    → List T → Row T M
-small_row limit has_static drops block items =
-    if nat_lt limit (length items) then as_small (made_row has_static drops block items) else
+abbrev pub small_row : {T M : Type 0} → (has_static drops : Bool) → (block : ℕ) → List T → Row T M
+small_row has_static drops block items =
+    if nat_lt inline_limit (length items) then as_small (made_row has_static drops block items) else
     record { items = items; place = nowhere; role = inline }
 
 -- What is made of a vector of these items and so many places: a reader of it, on a block that is

@@ -6,7 +6,6 @@ use Rattle.std.specs.Option.{option_map, option_map_or}
 use Rattle.arc_owners.specs.declared.error.OwnerError.TheVariants.{AllocError}
 use Rattle.arc_owners.specs.declared.error.TryReserveError.TheVariants as reserve
 use Rattle.arc_buffer.specs.Slice.{range_answer, edge_answer}
-use Rattle.arc_block.specs.Inline.{inline_limit}
 use Rattle.arc_block.specs.Place.{metadata_at}
 use Rattle.arc_block.specs.Table.{Row, Table, row_at, block_of, is_alone}
 use Rattle.arc_block.specs.Table.{Role, reader, sole_writer, one_writer_of_several, inline}
@@ -202,8 +201,7 @@ row_by setting places block (Slice items) =
     else None
 row_by setting places block (Small items) =
     if setting.calls.small then
-    Some (small_row (inline_limit setting.layout) setting.layout.has_static setting.drops block
-    items)
+    Some (small_row setting.layout.has_static setting.drops block items)
     else None
 row_by setting places block (Vec items) =
     if setting.layout.has_any then

@@ -23,22 +23,20 @@ inlined bytes start end = record {
 abbrev pub all_bytes : Inlined → List ℕ
 all_bytes v = (v.front ++ v.items) ++ v.back
 
--- start to end lies within the array, which has thirty places, and is within the limit; in front of
--- it stand no words
-pub record IsInlined (limit : ℕ) (words bytes : List ℕ) (start end : ℕ) : Type 0 where
+-- start to end lies within the array, which has thirty places; in front of it stand no words
+pub record IsInlined (words bytes : List ℕ) (start end : ℕ) : Type 0 where
   pub aligned : words ≡ []
   pub places : length bytes ≡ 30
   pub ordered : start ≤ end
   pub within : end ≤ 30
-  pub short : length (sub bytes start end) ≤ limit
 
 -- the array comes back from what is seen of it
 module _ {X : Type 0} (make : List ℕ → List ℕ → ℕ → ℕ → X) where
-  pub put_together : (limit : ℕ) (words bytes : List ℕ) (start end : ℕ)
-      → IsInlined limit words bytes start end → let v = inlined bytes start end in
+  pub put_together : (words bytes : List ℕ) (start end : ℕ)
+      → IsInlined words bytes start end → let v = inlined bytes start end in
       make [] (all_bytes v) (length v.front) (length v.front + length v.items)
       ≡ make words bytes start end
-  put_together limit words bytes start end is =
+  put_together words bytes start end is =
       let upto = length-take-le end bytes (omega (arith, is.within, is.places)) in
       let first = length-take-le start bytes (omega (arith, is.ordered, is.within, is.places)) in
       let last : length (take start bytes) + length (sub bytes start end) ≡ end =

@@ -156,6 +156,7 @@ impl<
 
 mod cuts;
 mod make;
+mod moves;
 mod read;
 mod text;
 mod vectors;

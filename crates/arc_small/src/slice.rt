@@ -4,7 +4,6 @@ ghost use Rattle.std.specs.Prelude.{slice_range};
 ghost use Rattle.std.specs.Prelude.{IsOk, IsSome, IfSome};
 ghost use Rattle.arc_buffer.specs.Slice.{IsEdge, IsRange, sub, edge_answer, range_answer};
 ghost use Rattle.arc_block.specs.Inline.{inline_limit};
-ghost use Rattle.arc_block.specs.LayoutFacts.{layout_facts};
 
 use super::limit::inline_limit;
 use arc_block::layout::{DefaultLayout, Layout};
@@ -14,11 +13,8 @@ use arc_read::range;
 use std::marker::{Model, PhantomData};
 use std::str;
 
-/// A list of bytes that has no more than a limit of its layout's, in the value itself. It is
-/// copied freely, and no call of it takes memory or adds to a history.
-///
-/// It has thirty places under every layout. The limit is 22 under `ArcLayout` and
-/// `BoxedSliceLayout`, and 30 under `VecLayout` and `RawLayout`.
+/// A list of at most thirty bytes, under every layout, in the value itself. It is copied freely,
+/// and no call of it takes memory or adds to a history.
 #[derive_where(Clone, Copy)]
 pub struct SmallSlice<S: Slice<Item = u8>, L: Layout = DefaultLayout> {
     // It has no bytes. With it the value begins where a word does, and a copy is one of four words.
@@ -33,16 +29,15 @@ impl<S: Slice<Item = u8>, L: Layout> Model for SmallSlice<S, L> {
     ghost use Rattle.std.specs.Prelude.{◌+◌, [], length};
     ghost use Rattle.arc_buffer.specs.Slice.{sub};
     ghost use Rattle.arc_block.specs.Inline.{inline_limit};
-    ghost use Rattle.arc_block.specs.LayoutFacts.{layout_facts};
-    ghost use Rattle.arc_small.specs.Inline.{Inlined, inlined, all_bytes, IsInlined};
+        ghost use Rattle.arc_small.specs.Inline.{Inlined, inlined, all_bytes, IsInlined};
     ghost use Rattle.arc_small.specs.Inline.{put_together};
 
     ghost Value = { Inlined };
 
     ghost view = { λ s. inlined s.bytes s.start s.end };
 
-    ghost invariant = { λ s. IsInlined (inline_limit (layout_facts L.Layout)) s.words s.bytes
-        s.start s.end × ∥ S.is_legal (sub s.bytes s.start s.end) ∥₁ };
+    ghost invariant = { λ s. IsInlined s.words s.bytes s.start s.end
+        × ∥ S.is_legal (sub s.bytes s.start s.end) ∥₁ };
 
     ghost inverse = { λ v. record {
       words = [];
@@ -58,7 +53,7 @@ impl<S: Slice<Item = u8>, L: Layout> Model for SmallSlice<S, L> {
       start = start;
       end = end;
       of = record {};
-    }) (inline_limit (layout_facts L.Layout)) s.words s.bytes s.start s.end h.0 };
+    }) s.words s.bytes s.start s.end h.0 };
 }
 
 impl<S: Slice<Item = u8>, L: Layout> SmallSlice<S, L> {
@@ -80,10 +75,10 @@ impl<S: Slice<Item = u8>, L: Layout> SmallSlice<S, L> {
     /// A copy of the bytes, which are legal, where they are within the limit.
     fn of_legal(items: &[u8]) -> Option<Self>
         requires { ∥ S.is_legal items.now ∥₁ }
-        ensures some { IsSome result ↔ length items.now ≤ inline_limit (layout_facts L.Layout) }
+        ensures some { IsSome result ↔ length items.now ≤ inline_limit }
         ensures items { IfSome result (λ small. small.items ≡ items.now) }
     {
-        if items.len() > inline_limit::<L>() {
+        if items.len() > inline_limit() {
             return None;
         }
         let mut bytes = [0; 30];
@@ -101,7 +96,7 @@ impl<S: Slice<Item = u8>, L: Layout> SmallSlice<S, L> {
     pub(super) fn of_any(items: &[u8]) -> Option<Self>
     where
         S: AnyItems,
-        ensures some { IsSome result ↔ length items.now ≤ inline_limit (layout_facts L.Layout) }
+        ensures some { IsSome result ↔ length items.now ≤ inline_limit }
         ensures items { IfSome result (λ small. small.items ≡ items.now) }
     {
         Self::of_legal(items)
@@ -111,7 +106,7 @@ impl<S: Slice<Item = u8>, L: Layout> SmallSlice<S, L> {
     pub fn new(items: &[u8]) -> Option<Self>
     where
         S: CopySlice,
-        ensures some { IsSome result ↔ length items.now ≤ inline_limit (layout_facts L.Layout) }
+        ensures some { IsSome result ↔ length items.now ≤ inline_limit }
         ensures items { IfSome result (λ small. small.items ≡ items.now) }
     {
         Self::of_legal(items)
@@ -135,7 +130,7 @@ impl<S: Slice<Item = u8>, L: Layout> SmallSlice<S, L> {
     #[inline(always)]
     pub fn len(&self) -> usize
         ensures answer { result ≡ length self.now.items }
-        ensures limit { result ≤ inline_limit (layout_facts L.Layout) }
+        ensures limit { result ≤ inline_limit }
     {
         (self.end - self.start) as usize
     }
@@ -230,6 +225,21 @@ impl<S: Slice<Item = u8>, L: Layout> SmallSlice<S, L> {
         part
     }
 
+    /// The same list, under the layout `K`.
+    #[inline(always)]
+    pub fn with_layout<K: Layout>(self) -> SmallSlice<S, K>
+        ensures { result ≡ self }
+    {
+        let (words, bytes) = (self.words, self.bytes);
+        SmallSlice {
+            words,
+            start: self.start,
+            end: self.end,
+            bytes,
+            of: PhantomData,
+        }
+    }
+
     /// Takes the first `n` bytes off the list.
     pub fn advance(&mut self, n: usize)
     where
@@ -261,7 +271,7 @@ const _: () = prove!(size_of::<SmallSlice<Plain<u8>>>() == 32);
 impl<L: Layout> SmallSlice<Text, L> {
     /// A copy of the text, where it is within the limit.
     pub fn new_str(text: &str) -> Option<Self>
-        ensures some { IsSome result ↔ length text.now ≤ inline_limit (layout_facts L.Layout) }
+        ensures some { IsSome result ↔ length text.now ≤ inline_limit }
         ensures items { IfSome result (λ small. small.items ≡ text.now) }
     {
         Self::of_legal(text.as_bytes())

@@ -4,7 +4,6 @@ ghost use Rattle.std.specs.Prelude.{IfErr, IfNone, IfOk, IfSome, IsOk, None, OnE
 ghost use Rattle.arc_owners.specs.count.Calls.{IsPassOfNone, Leaves};
 ghost use Rattle.arc_buffer.specs.Slice.{IsEdge, IsRange, edge_answer, range_answer, sub};
 ghost use Rattle.arc_block.specs.Inline.{inline_limit};
-ghost use Rattle.arc_block.specs.LayoutFacts.{layout_facts};
 ghost use Rattle.arc_block.specs.Place.{at_owner, moved, nowhere};
 ghost use Rattle.arc_parts.specs.Steps.{Begins, IsPassAt, Refuses, Shares};
 ghost use Rattle.arc_block.specs.Table.{inline};
@@ -63,13 +62,12 @@ pub trait SmallOf<S: TableKind, L: Layout, M: Drop, A: Allocator + Copy>: Smalls
         requires legal { ∥ S.is_legal items.now ∥₁ }
         requires pass { IsPassOfNone pass.old }
         ensures has { is_some result ≡ Self.small }
-        ensures made { IfSome result (λ made. IfOk made (λ window. MakesSmall
-            (inline_limit (layout_facts L.Layout)) L.STATIC S.DROPS true items.now
+        ensures made { IfSome result (λ made. IfOk made (λ window. MakesSmall L.STATIC S.DROPS true items.now
             (seen window))) }
         ensures pass { IfSome result (λ made. IfOk made (λ window.
             Begins (window_of (seen window)) pass.old pass.new)) }
         ensures refused { IfSome result (λ made. OnErr made
-            ((inline_limit (layout_facts L.Layout) < length items.now) × (pass.new ≡ pass.old))) }
+            ((inline_limit < length items.now) × (pass.new ≡ pass.old))) }
         ensures none { IfNone result (pass.new ≡ pass.old) };
 
     /// The items of a small window.
@@ -201,10 +199,9 @@ pub trait SmallKind: Subsliceable<Item = u8> {
     ) -> Result<SmallArcSlice<Self, L, Vec<u8>, M, A, Whole>, AllocError>
         requires legal { ∥ Self.is_legal items.now ∥₁ }
         requires pass { IsPassOfNone pass.old }
-        ensures made { IfOk result (λ window. MakesSmall (inline_limit (layout_facts L.Layout))
-            L.STATIC Self.DROPS true items.now window) }
+        ensures made { IfOk result (λ window. MakesSmall L.STATIC Self.DROPS true items.now window) }
         ensures pass { IfOk result (λ window. Begins (window_of window) pass.old pass.new) }
-        ensures refused { OnErr result ((inline_limit (layout_facts L.Layout) < length items.now)
+        ensures refused { OnErr result ((inline_limit < length items.now)
             × (pass.new ≡ pass.old)) };
 }
 

@@ -2,7 +2,6 @@
 ghost use Rattle.std.specs.Prelude.{◌≡◌, ◌<◌, IfErr, IfOk, Some, true, is_some, length};
 ghost use Rattle.std.specs.Vec.{vec_capacity};
 ghost use Rattle.arc_block.specs.Inline.{inline_limit};
-ghost use Rattle.arc_block.specs.LayoutFacts.{layout_facts};
 ghost use Rattle.arc_commands.specs.Additions.{Founds};
 ghost use Rattle.arc_commands.specs.Seen.{seen_reply};
 ghost use Rattle.arc_commands.specs.Changes.{small_row};
@@ -34,10 +33,9 @@ where
     S::Small: SmallOf<S, L, M, A>,
     requires has { S.Small.small ≡ true }
     requires legal { ∥ S.is_legal items.now ∥₁ }
-    requires room { inline_limit (layout_facts L.Layout) < length items.now
+    requires room { inline_limit < length items.now
         → length passes.old.of_blocks.items < vec_capacity passes.old.of_blocks }
-    ensures row { IfOk result (λ slot. row_of slot ≡ small_row
-        (inline_limit (layout_facts L.Layout)) L.STATIC S.DROPS
+    ensures row { IfOk result (λ slot. row_of slot ≡ small_row L.STATIC S.DROPS
         (length passes.old.of_blocks.items) items.now) }
     ensures stand { IfOk result (λ slot. Founds (stand_of (Some slot)) passes.old.of_blocks.items
         passes.new.of_blocks.items) }
@@ -51,7 +49,7 @@ where
         Ok(window) => Held::Small(window),
         Err(e) => return Err(e),
     };
-    if items.len() <= inline_limit::<L>() {
+    if items.len() <= inline_limit() {
         return Ok(Slot {
             window,
             block: None,
@@ -92,7 +90,7 @@ where
     }
     let items = vec_of::<S, A>(items);
     if passes
-        .reserve_for(items.len() > inline_limit::<L>())
+        .reserve_for(items.len() > inline_limit())
         .is_err()
     {
         return (Reply::Alloc, None);

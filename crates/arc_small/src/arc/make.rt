@@ -7,7 +7,6 @@ ghost use Rattle.arc_block.specs.Table.{reader};
 ghost use Rattle.arc_parts.specs.Window.{window_of};
 ghost use Rattle.arc_read.specs.Steps.{WithNewPass};
 ghost use Rattle.arc_block.specs.Inline.{inline_limit};
-ghost use Rattle.arc_block.specs.LayoutFacts.{layout_facts};
 ghost use Rattle.arc_small.specs.Small.{MakesSmall};
 
 use super::super::slice::SmallSlice;
@@ -44,10 +43,9 @@ impl<
     where
         S: CopySlice,
         requires pass { IsPassOfNone pass.old }
-        ensures ok { IfOk result (λ window. MakesSmall (inline_limit (layout_facts L.Layout))
-            L.STATIC S.DROPS H.whole items.now window) }
+        ensures ok { IfOk result (λ window. MakesSmall L.STATIC S.DROPS H.whole items.now window) }
         ensures pass { IfOk result (λ window. Begins (window_of window) pass.old pass.new) }
-        ensures refused { OnErr result ((inline_limit (layout_facts L.Layout) < length items.now)
+        ensures refused { OnErr result ((inline_limit < length items.now)
             × (pass.new ≡ pass.old)) }
     {
         if let Some(small) = SmallSlice::new(items) {
@@ -76,11 +74,10 @@ impl<
     where
         S: AnyItems,
         requires pass { IsPassOfNone pass.old }
-        ensures ok { IfOk result (λ window. MakesSmall (inline_limit (layout_facts L.Layout))
-            L.STATIC S.DROPS H.whole array.entry window) }
+        ensures ok { IfOk result (λ window. MakesSmall L.STATIC S.DROPS H.whole array.entry window) }
         ensures pass { IfOk result (λ window. Begins (window_of window) pass.old pass.new) }
         ensures refused { IfErr result (λ back. (back ≡ array.entry)
-            × (inline_limit (layout_facts L.Layout) < length array.entry)
+            × (inline_limit < length array.entry)
             × (pass.new ≡ pass.old)) }
     {
         if let Some(small) = SmallSlice::of_any(&array) {
@@ -116,12 +113,11 @@ impl<
     where
         H: Stepping,
         S: CopySlice,
-        ensures ok { IfOk result (λ window. MakesSmall (inline_limit (layout_facts L.Layout))
-            L.STATIC S.DROPS H.whole items.now window) }
+        ensures ok { IfOk result (λ window. MakesSmall L.STATIC S.DROPS H.whole items.now window) }
         ensures pass { IfOk result (λ window.
             WithNewPass {M = M} {H = H} H.real nowhere (λ first last.
             Begins (window_of window) first last)) }
-        ensures refused { OnErr result (inline_limit (layout_facts L.Layout) < length items.now) }
+        ensures refused { OnErr result (inline_limit < length items.now) }
     {
         let mut pass = Pass::none();
         let made = Self::try_from_slice_as(alloc, items, &mut pass);
@@ -142,13 +138,12 @@ impl<
     where
         H: Stepping,
         S: AnyItems,
-        ensures ok { IfOk result (λ window. MakesSmall (inline_limit (layout_facts L.Layout))
-            L.STATIC S.DROPS H.whole array.entry window) }
+        ensures ok { IfOk result (λ window. MakesSmall L.STATIC S.DROPS H.whole array.entry window) }
         ensures pass { IfOk result (λ window.
             WithNewPass {M = M} {H = H} H.real nowhere (λ first last.
             Begins (window_of window) first last)) }
         ensures refused { IfErr result (λ back. (back ≡ array.entry)
-            × (inline_limit (layout_facts L.Layout) < length array.entry)) }
+            × (inline_limit < length array.entry)) }
     {
         let mut pass = Pass::none();
         let made = Self::try_from_array_as(alloc, array, &mut pass);

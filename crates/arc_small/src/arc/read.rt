@@ -1,7 +1,5 @@
 //! Views of a small window, and tests of where it may be cut.
 ghost use Rattle.std.specs.Prelude.{◌≡◌, ◌==◌, ◌↔◌, length, IsOk};
-ghost use Rattle.arc_block.specs.Inline.{inline_limit};
-ghost use Rattle.arc_block.specs.LayoutFacts.{layout_facts};
 ghost use Rattle.arc_small.specs.Small.{IsSmall};
 ghost use Rattle.arc_buffer.specs.Slice.{IsEdge, IsRange, edge_answer, range_answer};
 
@@ -26,7 +24,7 @@ impl<
     #[inline(always)]
     pub fn len(&self) -> usize
         ensures answer { result ≡ length self.now.items }
-        ensures row { IsSmall (inline_limit (layout_facts L.Layout)) self.now }
+        ensures row { IsSmall self.now }
     {
         match &self.either {
             Left(small) => small.len(),

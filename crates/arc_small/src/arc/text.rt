@@ -7,7 +7,6 @@ ghost use Rattle.arc_block.specs.Table.{reader};
 ghost use Rattle.arc_parts.specs.Window.{window_of};
 ghost use Rattle.arc_read.specs.Steps.{WithNewPass};
 ghost use Rattle.arc_block.specs.Inline.{inline_limit};
-ghost use Rattle.arc_block.specs.LayoutFacts.{layout_facts};
 ghost use Rattle.arc_small.specs.Small.{MakesSmall};
 
 use super::super::slice::SmallSlice;
@@ -43,10 +42,9 @@ impl<L: Layout, B: Buffer<u8> + Drop, M: Drop, A: Allocator + Copy, H: Mark> Sma
     /// Where there are more bytes than the limit.
     pub fn try_from_str_as(alloc: A, text: &str, pass: &mut Pass<H>) -> Result<Self, AllocError>
         requires pass { IsPassOfNone pass.old }
-        ensures ok { IfOk result (λ window. MakesSmall (inline_limit (layout_facts L.Layout))
-            L.STATIC false H.whole text.now window) }
+        ensures ok { IfOk result (λ window. MakesSmall L.STATIC false H.whole text.now window) }
         ensures pass { IfOk result (λ window. Begins (window_of window) pass.old pass.new) }
-        ensures refused { OnErr result ((inline_limit (layout_facts L.Layout) < length text.now)
+        ensures refused { OnErr result ((inline_limit < length text.now)
             × (pass.new ≡ pass.old)) }
     {
         if let Some(small) = SmallSlice::new_str(text) {
@@ -89,12 +87,11 @@ impl<L: Layout, B: Buffer<u8> + Drop, M: Drop, A: Allocator + Copy, H: Mark> Sma
     pub fn try_from_str(alloc: A, text: &str) -> Result<Self, AllocError>
     where
         H: Stepping,
-        ensures ok { IfOk result (λ window. MakesSmall (inline_limit (layout_facts L.Layout))
-            L.STATIC false H.whole text.now window) }
+        ensures ok { IfOk result (λ window. MakesSmall L.STATIC false H.whole text.now window) }
         ensures pass { IfOk result (λ window.
             WithNewPass {M = M} {H = H} H.real nowhere (λ first last.
             Begins (window_of window) first last)) }
-        ensures refused { OnErr result (inline_limit (layout_facts L.Layout) < length text.now) }
+        ensures refused { OnErr result (inline_limit < length text.now) }
     {
         let mut pass = Pass::none();
         let made = Self::try_from_str_as(alloc, text, &mut pass);

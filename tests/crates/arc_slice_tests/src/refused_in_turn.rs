@@ -4,7 +4,7 @@ use arc_slice::layout::{
     AnyBufferLayout, ArcLayout, BoxedSliceLayout, DefaultLayout, RawLayout, VecLayout,
 };
 use counting_heap::CountingHeap;
-use rows::{ALL, LONGER, Line, SHORTER};
+use rows::{ALL, Line};
 use run::run;
 use std::alloc::{AllocError, Global};
 use std::sync::Wait;
@@ -64,15 +64,10 @@ fn missed_by_layout(
 ) -> Result<[Option<usize>; 10], AllocError> {
     Ok([
         missed::<DefaultLayout>(rt, alloc, heap, ALL)?,
-        missed::<DefaultLayout>(rt, alloc, heap, SHORTER)?,
         missed::<Any>(rt, alloc, heap, ALL)?,
-        missed::<Any>(rt, alloc, heap, SHORTER)?,
         missed::<BoxedSliceLayout>(rt, alloc, heap, ALL)?,
-        missed::<BoxedSliceLayout>(rt, alloc, heap, SHORTER)?,
         missed::<VecLayout>(rt, alloc, heap, ALL)?,
-        missed::<VecLayout>(rt, alloc, heap, LONGER)?,
         missed::<RawLayout>(rt, alloc, heap, ALL)?,
-        missed::<RawLayout>(rt, alloc, heap, LONGER)?,
     ])
 }
 

@@ -45,8 +45,8 @@ fn of_boxed_str<'a, L: AnyBufferLayout>(heap: Heap<'a>, text: &str) -> Words<'a,
 fn bytes<'a, L: AnyBufferLayout>(heap: Heap<'a>, what: Make) -> Bytes<'a, L> {
     match what {
         Make::Slice(text) => or_no_memory(SmallBytes::try_from_slice(heap, text.as_bytes())),
-        Make::Array22 => {
-            let items = [b'a'; 22];
+        Make::Array30 => {
+            let items = [b'a'; 30];
             or_back(SmallBytes::try_from_array(heap, items), &items)
         }
         Make::Array31 => {

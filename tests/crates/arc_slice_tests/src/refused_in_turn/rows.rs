@@ -6,8 +6,8 @@
 pub enum Make {
     /// Of a slice.
     Slice(&'static str),
-    /// Of an array of 22 letters `a`.
-    Array22,
+    /// Of an array of 30 letters `a`.
+    Array30,
     /// Of an array of 31 letters `a`.
     Array31,
     /// Of a vector.
@@ -122,9 +122,6 @@ const TWENTY_THREE: &str = "abcdefghijklmnopqrstuvw";
 /// The first 30.
 const THIRTY: &str = "abcdefghijklmnopqrstuvwxyzabcd";
 
-/// The first 22.
-const TWENTY_TWO: &str = "abcdefghijklmnopqrstuv";
-
 /// 31 bytes stand on a block, which clones and cuts share; none lie in the window.
 const LONG: &[Line] = &[
     (Call::Make(Make::Slice(LETTERS)), Reply::Done),
@@ -143,12 +140,12 @@ const LONG: &[Line] = &[
     (Call::Ask(3, Ask::IsInline), Reply::Yes),
 ];
 
-/// So do 31 items of an array, which comes back where memory is refused; 22 lie in the window.
+/// So do 31 items of an array, which comes back where memory is refused; 30 lie in the window.
 const ARRAYS: &[Line] = &[
     (Call::Make(Make::Array31), Reply::Done),
     (Call::Ask(0, Ask::Show(ARRAY)), Reply::Done),
     (Call::Ask(0, Ask::IsInline), Reply::No),
-    (Call::Make(Make::Array22), Reply::Done),
+    (Call::Make(Make::Array30), Reply::Done),
     (Call::Ask(1, Ask::IsInline), Reply::Yes),
     (Call::Turn(1, Turn::TakeVec("")), Reply::NoCall),
 ];
@@ -189,29 +186,14 @@ const TEXTS: &[Line] = &[
     (Call::Turn(5, Turn::TakeVec(LETTERS)), Reply::Done),
 ];
 
-/// Where 22 bytes are the limit, 23 stand on a block.
-const PAST_22: &[Line] = &[
-    (Call::Make(Make::Slice(TWENTY_TWO)), Reply::Done),
-    (Call::Ask(0, Ask::IsInline), Reply::Yes),
-    (Call::Part(0, Part::Clone), Reply::Done),
-    (Call::Turn(0, Turn::Drop), Reply::Done),
-    (Call::Ask(1, Ask::Show(TWENTY_TWO)), Reply::Done),
-    (Call::Make(Make::Slice(TWENTY_THREE)), Reply::Done),
-    (Call::Ask(2, Ask::IsInline), Reply::No),
-    (Call::Make(Make::Str(TWENTY_THREE)), Reply::Done),
-    (Call::Ask(3, Ask::IsInline), Reply::No),
-    (Call::Ask(3, Ask::Show(TWENTY_THREE)), Reply::Done),
-    (Call::Make(Make::Str(TWENTY_TWO)), Reply::Done),
-    (Call::Ask(4, Ask::IsInline), Reply::Yes),
-];
-
-/// Where 30 are, these lie in the window, and ask for no memory.
-const PAST_30: &[Line] = &[
+/// Up to 30 bytes lie in the window, and ask for no memory; 31 stand on a block.
+const SHORT: &[Line] = &[
     (Call::Make(Make::Slice(TWENTY_THREE)), Reply::Done),
     (Call::Ask(0, Ask::IsInline), Reply::Yes),
     (Call::Make(Make::Str(TWENTY_THREE)), Reply::Done),
     (Call::Ask(1, Ask::IsInline), Reply::Yes),
     (Call::Part(1, Part::Clone), Reply::Done),
+    (Call::Turn(1, Turn::Drop), Reply::Done),
     (Call::Ask(2, Ask::Show(TWENTY_THREE)), Reply::Done),
     (Call::Make(Make::Str(LETTERS)), Reply::Done),
     (Call::Ask(3, Ask::IsInline), Reply::No),
@@ -219,13 +201,9 @@ const PAST_30: &[Line] = &[
     (Call::Ask(4, Ask::IsInline), Reply::Yes),
     (Call::Make(Make::Slice(LETTERS)), Reply::Done),
     (Call::Ask(5, Ask::IsInline), Reply::No),
+    (Call::Make(Make::Str(THIRTY)), Reply::Done),
+    (Call::Ask(6, Ask::IsInline), Reply::Yes),
 ];
 
-/// Rows under each layout.
-pub const ALL: &[&[Line]] = &[LONG, ARRAYS, VECTORS, TEXTS];
-
-/// Rows under layouts whose limit is 22.
-pub const SHORTER: &[&[Line]] = &[PAST_22];
-
-/// Rows under those whose limit is 30.
-pub const LONGER: &[&[Line]] = &[PAST_30];
+/// Rows, which go the same way under each layout.
+pub const ALL: &[&[Line]] = &[LONG, ARRAYS, VECTORS, TEXTS, SHORT];

@@ -2,8 +2,6 @@
 use Rattle.std.proofs.Common.{sym, ap, ◌∙◌, subst, arith}
 use Rattle.arc_buffer.specs.Slice.{IsRange, sub}
 use Rattle.arc_buffer.proofs.Sub.{sub-sub}
-use Rattle.arc_block.specs.Inline.{inline_limit}
-use Rattle.arc_block.specs.LayoutFacts.{layout_facts}
 use Rattle.arc_small.specs.Inline.{Inlined}
 use Rattle.arc_small.proofs.Inline.{part_inlined, inlined_long}
 use Rattle.arc_small.proofs.slice.SmallSlice.keep.Goals as goal
@@ -15,8 +13,7 @@ invariant_of-self g c =
     let from = c.args.start in
     let to = c.args.end in
     part_inlined g.S.Slice.is_legal boundary g.met.S.Subsliceable.range_is_legal
-    (inline_limit (layout_facts g.L.Layout)) s.words s.bytes s.start s.end from to
-    c.self.invariant
+    s.words s.bytes s.start s.end from to c.self.invariant
     (subst (λ (v : Inlined). IsRange boundary v.items from to) (sym c.self.view_is) c.requires)
 
 pub returns : goal.returns
@@ -27,7 +24,6 @@ returns g c =
     let to = c.args.end in
     let range = subst (λ (v : Inlined). IsRange boundary v.items from to) (sym c.self.view_is)
     c.requires in
-    let long = inlined_long (inline_limit (layout_facts g.L.Layout)) s.words s.bytes s.start
-    s.end c.self.invariant.0 in
+    let long = inlined_long s.words s.bytes s.start s.end c.self.invariant.0 in
     sym (sub-sub s.bytes s.start s.end from to (omega (arith, long, range.within)))
     ∙ ap (λ (v : Inlined). sub v.items from to) c.self.view_is
