@@ -21,7 +21,6 @@ pub mod several_passes;
 pub mod several_writers;
 pub mod sizes;
 pub mod small;
-pub mod table;
 pub mod taking_back;
 pub mod threads;
 pub mod words;
