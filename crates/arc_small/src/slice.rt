@@ -29,7 +29,7 @@ impl<S: Slice<Item = u8>, L: Layout> Model for SmallSlice<S, L> {
     ghost use Rattle.std.specs.Prelude.{◌+◌, [], length};
     ghost use Rattle.arc_buffer.specs.Slice.{sub};
     ghost use Rattle.arc_block.specs.Inline.{inline_limit};
-        ghost use Rattle.arc_small.specs.Inline.{Inlined, inlined, all_bytes, IsInlined};
+    ghost use Rattle.arc_small.specs.Inline.{Inlined, inlined, all_bytes, IsInlined};
     ghost use Rattle.arc_small.specs.Inline.{put_together};
 
     ghost Value = { Inlined };

@@ -89,10 +89,7 @@ where
         return (Reply::Alloc, None);
     }
     let items = vec_of::<S, A>(items);
-    if passes
-        .reserve_for(items.len() > inline_limit())
-        .is_err()
-    {
+    if passes.reserve_for(items.len() > inline_limit()).is_err() {
         return (Reply::Alloc, None);
     }
     match small(alloc, &items, passes) {
