@@ -13,14 +13,14 @@ pub fn of_reader() -> usize
 
 /// One that is written by its block's only owner.
 pub fn of_sole_writer() -> usize
-    ensures { result ≡ 112 }
+    ensures { result ≡ 96 }
 {
     size_of::<ArcBytesMut>()
 }
 
 /// One of several writers' on a block.
 pub fn of_one_writer_of_several() -> usize
-    ensures { result ≡ 120 }
+    ensures { result ≡ 104 }
 {
     size_of::<ArcBytesShared>()
 }
