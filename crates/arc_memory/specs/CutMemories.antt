@@ -1,5 +1,5 @@
 -- A writer's memory whose own places are parted from the others, before and after a call.
-use Rattle.std.specs.Prelude.{◌≡◌, ℕ, ◌+◌, ◌-◌, ◌<◌, [], length, List}
+use Rattle.std.specs.Prelude.{◌≡◌, ℕ, ◌<◌, length, List}
 use Rattle.std.specs.Borrow.{Lends, Fml, RattleType, MutBor, Array}
 use Rattle.std.specs.declared.alloc.Allocator.{Ghosts}
 use Rattle.arc_memory.specs.LendsPlaces.{with_written}

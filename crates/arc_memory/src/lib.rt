@@ -8,8 +8,8 @@
 //! (`FrozenReader`), and leaves in the counted box what is kept for its end (`Kept`). Memory of our
 //! own is one piece (`Piece`): in front the room for a header, in which that box lies, and behind
 //! it the places. It is one writer's (`WriterMemory`), who lends its places and has them back, and
-//! moves no item for it. While he writes, his own places lie apart from those before and behind them
-//! (`CutMemory`), so that no call on his items looks at these.
+//! moves no item for it. While he writes, his own places lie apart from those before and behind
+//! them (`CutMemory`), so that no call on his items looks at these.
 #![tactic(auto)]
 
 pub use allocation::{Allocation, put_together, take_apart};

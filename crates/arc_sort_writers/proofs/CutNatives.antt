@@ -1,7 +1,7 @@
 -- Sole writers of native blocks, whose own places are parted from others: what is seen of them.
-use Rattle.std.proofs.Common.{◌≡◌, ℕ, zero, suc, ◌+◌, ◌-◌, ◌≤◌, ◌<◌, nat_lt, if◌then◌else◌, Bool, true}
-use Rattle.std.proofs.Common.{false, not, ◌==◌, List, [], ◌∷◌, ◌++◌, length, take, drop, Option, Some, None}
-use Rattle.std.proofs.Common.{refl, sym, ap, ◌∙◌, subst, arith}
+use Rattle.std.proofs.Common.{◌≡◌, ℕ, zero, suc, ◌+◌, ◌-◌, ◌≤◌, ◌<◌, if◌then◌else◌, Bool, true}
+use Rattle.std.proofs.Common.{false, not, ◌==◌, List, [], ◌∷◌, ◌++◌, length, take, drop, Option}
+use Rattle.std.proofs.Common.{Some, None, refl, sym, ap, ◌∙◌, subst, arith}
 use Rattle.std.specs.Prelude.{Result, Ok, Err, OnOk, OnErr, is_some}
 use Rattle.std.specs.List.{refill, length_refill}
 use Rattle.std.specs.Option.{option_map}
@@ -15,10 +15,10 @@ use Rattle.arc_memory.specs.Sources.{IsPiece}
 use Rattle.arc_memory.specs.CutMemories.{KeepsAll, KeepsOwn, SameCut, IsCutAt, IsCutOf, IsWholeOf}
 use Rattle.arc_memory.specs.CutMemories.{with_cut_written}
 use Rattle.arc_buffer.specs.Slice.{sub}
-use Rattle.arc_buffer.proofs.Sub.{length-sub, sub-whole}
+use Rattle.arc_buffer.proofs.Sub.{sub-whole}
 use Rattle.arc_block.specs.Block.{native, full_places, memory_info}
-use Rattle.arc_block.specs.Natives.{NativeView, native_info, native_over, IsAmong}
-use Rattle.arc_block.specs.Place.{Place, nowhere, on_block, IsOnBlock, size_at, offset_at}
+use Rattle.arc_block.specs.Natives.{NativeView, native_over, IsAmong}
+use Rattle.arc_block.specs.Place.{nowhere, on_block, IsOnBlock, size_at, offset_at}
 use Rattle.arc_block.specs.Table.{reader, sole_writer, one_writer_of_several}
 use Rattle.arc_parts.specs.declared.storage.Storage.TheVariants.{Native}
 use Rattle.arc_owners.specs.declared.error.TryReserveError.TheVariants.{Unsupported}
@@ -150,7 +150,8 @@ module _ {T M A : Type 0} where
       (seen : PartsView T M) → cut_native {M = M} drops owner m ≡ seen → drops ≡ false
       → n < length (xs m) → xs w ≡ take n (xs m) → SameCut m w
       → cut_native {M = M} drops owner w ≡ after_truncate drops n seen
-  forgotten_cut true owner m w n seen view copied short items same = absurd (false≢true (sym copied))
+  forgotten_cut true owner m w n seen view copied short items same =
+      absurd (false≢true (sym copied))
   forgotten_cut false owner m w n seen view copied short items same =
       let s : PartsView T M = cut_native {M = M} false owner m in
       shorter owner
@@ -160,7 +161,8 @@ module _ {T M A : Type 0} where
     where
       shorter : (owner : Option Owner) → let s = cut_native {M = M} false owner m in
           cut_native {M = M} false owner w ≡ record s { items = take n s.items; role = s.role }
-      shorter None i = record { items = items i; place = nowhere; role = sole_writer (same.count i) }
+      shorter None i =
+          record { items = items i; place = nowhere; role = sole_writer (same.count i) }
       shorter (Some o) i = record {
         items = items i;
         place = on_block (Some o) (same.start i)
@@ -189,7 +191,8 @@ module _ {T M A : Type 0} where
       whole = omega (arith, long, short, at.start, at.left)
 
       shorter : (owner : Option Owner) → let s = cut_native {M = M} true owner m in
-          cut_native {M = M} true owner w ≡ record s { items = take n s.items; role = sole_writer n }
+          cut_native {M = M} true owner w
+          ≡ record s { items = take n s.items; role = sole_writer n }
       shorter None i = record { items = items i; place = nowhere; role = sole_writer (at.count i) }
       shorter (Some o) i = record {
         items = items i;
@@ -232,7 +235,8 @@ module _ {T M A : Type 0} where
       → IsCutNative drops one_pass owner m
       → xs w ≡ xs m → IsCutAt m (first m) (size m - first m) 0 w
       → cut_native {M = M} drops owner w ≡ with_room Behind seen
-  behind_cut true one_pass owner m w seen view copied within items at = absurd (false≢true (sym copied))
+  behind_cut true one_pass owner m w seen view copied within items at =
+      absurd (false≢true (sym copied))
   behind_cut false one_pass None m w seen view copied within items at =
       let idle : room w ≡ 0 - 0 = omega (arith, at.count, within.1.1) in
       (λ i. record { items = items i; place = nowhere; role = sole_writer (idle i) })
@@ -252,7 +256,8 @@ module _ {T M A : Type 0} where
       → IsCutNative drops one_pass owner m
       → xs w ≡ xs m → IsCutAt m 0 (size m) 0 w
       → cut_native {M = M} drops owner w ≡ with_room Front seen
-  front_cut true one_pass owner m w seen view copied within items at = absurd (false≢true (sym copied))
+  front_cut true one_pass owner m w seen view copied within items at =
+      absurd (false≢true (sym copied))
   front_cut false one_pass None m w seen view copied within items at =
       let idle : room w ≡ 0 = omega (arith, at.count, within.1.1) in
       (λ i. record { items = items i; place = nowhere; role = sole_writer (idle i) })
@@ -303,7 +308,7 @@ module _ {T M A : Type 0} where
       (grows.behind owned) in
       omega (arith, all, m.back.2, m.back.3, m.behind.inside.1)
 
-  -- if it was grown
+  -- and so it is, where memory was given
   pub grown_seen : {E : Type 0} (drops one_pass : Bool) (owner : Option Owner)
       (m w : CutMemory T A) (places : ℕ) (seen : PartsView T M) (reply : Result (Unit {0}) E)
       → cut_native {M = M} drops owner m ≡ seen → CanGrowNative drops seen places

@@ -178,7 +178,7 @@ fn grown<S: Slice, A: Allocator>(
 
 impl<S: Slice, M: Drop, A: Allocator + Copy, H: Mark> SoleNative<S, M, A, H> {
     /// No items and no places, on nothing.
-    #[tactic(auto, using(crate::proofs::CutNatives::idle_cut, crate::proofs::CutNatives::keeps_both))]
+    #[tactic(auto, using(crate::proofs::CutNatives::keeps_both))]
     pub fn on_nothing(alloc: A) -> Self
         ensures { result ≡ record { items = []; place = nowhere; role = sole_writer 0 } }
     {

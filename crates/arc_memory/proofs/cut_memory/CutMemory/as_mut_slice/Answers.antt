@@ -1,6 +1,6 @@
 -- What is written stands in the same places of the same memory: two proofs of what else is known of
 -- them are one.
-use Rattle.std.proofs.Common.{◌≡◌, ℕ, ◌+◌, length, refl, List}
+use Rattle.std.proofs.Common.{◌≡◌, ◌+◌, length, refl, List}
 use Rattle.std.specs.Coded.{coded_ℕ}
 use base.Stored.{Coded-set}
 use denote.RawPtr.{coded_ptr}

@@ -1,9 +1,8 @@
 -- The parts are all of the memory.
-use Rattle.std.proofs.Common.{ap, ◌∙◌, arith}
+use Rattle.std.proofs.Common.{Some, ◌∙◌, arith}
 use Rattle.arc_owners.specs.memory.SoleCounts.{count_owner}
 use Rattle.arc_block.specs.Block.{native}
 use Rattle.arc_parts.specs.Writers.{writer_over}
-use Rattle.std.proofs.Common.{Some}
 use Rattle.arc_sort_writers.proofs.CutNatives.{new_cut}
 use Rattle.arc_sort_writers.proofs.native.SoleNative.on_new.Goals as goal
 
@@ -14,7 +13,14 @@ returns g c =
     record {
       owner = o;
       made = new_cut drops o w (cut.start ∙ c.requires.start) c.of.ensures.own.back
-          (omega (arith, cut.count, cut.whole, m.own, c.requires.start, c.capacity-capacity.ensures))
+          (omega (
+            arith,
+            cut.count,
+            cut.whole,
+            m.own,
+            c.requires.start,
+            c.capacity-capacity.ensures,
+          ))
           ∙ (λ i. writer_over native drops (Some o) (c.of.ensures.items i) (cut.whole i));
       first = c.new-count.ensures.first;
       pass = c.new-count.ensures.pass;

@@ -1,5 +1,5 @@
 -- Where there is room, by the places that are his.
-use Rattle.std.proofs.Common.{◌+◌, length, refl, ap, arith}
+use Rattle.std.proofs.Common.{◌+◌, length, ap, arith}
 use Rattle.arc_owners.specs.memory.SoleCounts.{count_owner}
 use Rattle.std.specs.Mem.{type_size}
 use Rattle.arc_parts.specs.Writers.{capacity_of}
