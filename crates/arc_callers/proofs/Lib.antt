@@ -1,3 +1,4 @@
 pub mod Ends
 pub mod Encoded
 pub mod Runs
+mod Reclaimed

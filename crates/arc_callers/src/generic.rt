@@ -1,5 +1,5 @@
 //! Callers that are generic: in all parameters of a reader, and in the role of a writer.
-ghost use Rattle.std.specs.Prelude.{◌++◌, ◌≡◌, IfOk, length, OnOk};
+ghost use Rattle.std.specs.Prelude.{◌++◌, ◌≡◌, ◌∷◌, [], IfOk, length, OnOk};
 ghost use Rattle.arc_buffer.specs.Slice.{sub};
 
 use arc_owners::mark::Stepping;
@@ -83,7 +83,12 @@ pub fn counted_twice(
     sole: &mut ArcBytesMut,
     several: &mut ArcBytesShared,
     bytes: &[u8],
-) -> Result<[usize; 2], TryReserveError> {
+) -> Result<[usize; 2], TryReserveError>
+    ensures items { OnOk result ((sole.new.items ≡ sole.old.items ++ bytes.now)
+        × (several.new.items ≡ several.old.items ++ bytes.now)) }
+    ensures counts { IfOk result (λ counts. counts
+        ≡ length sole.new.items ∷ length several.new.items ∷ []) }
+{
     match counted_behind(sole, bytes) {
         Ok(first) => match counted_behind(several, bytes) {
             Ok(second) => Ok([first, second]),

@@ -2,6 +2,7 @@
 use Rattle.std.proofs.Common.{sym, ap, ◌∙◌}
 use Rattle.arc_parts.specs.Window.{PartsView, window_of}
 use Rattle.arc_writer_parts.specs.PartsOn.{sole_on}
+use Rattle.arc_writer_parts.specs.declared.sole.SoleStorage.TheVariants.{Other}
 use Rattle.arc_writer_parts.proofs.Frozen.{made_alike}
 use Rattle.arc_writer_parts.proofs.sole.role.SolePartsWriterParts.try_freeze_as.Goals as goal
 
@@ -15,13 +16,15 @@ pub returns-in-Ok-try_freeze_as-clause-items : goal.returns-in-Ok-try_freeze_as-
 returns-in-Ok-try_freeze_as-clause-items g c =
     c.in-Ok-try_freeze_as.ensures.items
     ∙ ap (λ (w : PartsView g.row.S-Item.Denot g.row.M.Denot). w.items)
-    (sym (ap sole_on c.in-Vector.is) ∙ c.self.view_is)
+    (sym (ap sole_on (c.in-Other-Vector.is ∙ ap Other c.in-Other-Vector.field-0-is))
+    ∙ c.self.view_is)
 
 pub returns-in-Ok-try_freeze_as-2-clause-items : goal.returns-in-Ok-try_freeze_as-2-clause-items
 returns-in-Ok-try_freeze_as-2-clause-items g c =
     c.in-Ok-try_freeze_as-2.ensures.items
     ∙ ap (λ (w : PartsView g.row.S-Item.Denot g.row.M.Denot). w.items)
-    (sym (ap sole_on c.in-Buffer.is) ∙ c.self.view_is)
+    (sym (ap sole_on (c.in-Other-Buffer.is ∙ ap Other c.in-Other-Buffer.field-0-is))
+    ∙ c.self.view_is)
 
 pub returns-in-Ok-clause-made : goal.returns-in-Ok-clause-made
 returns-in-Ok-clause-made g c =
@@ -32,11 +35,13 @@ returns-in-Ok-clause-made g c =
 pub returns-in-Ok-try_freeze_as-clause-made : goal.returns-in-Ok-try_freeze_as-clause-made
 returns-in-Ok-try_freeze_as-clause-made g c =
     made_alike g.L.Layout.STATIC g.S.Slice.DROPS g.H.Mark.whole _ c.args.self
-    (sym (ap sole_on c.in-Vector.is) ∙ c.self.view_is) (window_of c.in-Ok-try_freeze_as.parts) _ _
+    (sym (ap sole_on (c.in-Other-Vector.is ∙ ap Other c.in-Other-Vector.field-0-is))
+    ∙ c.self.view_is) (window_of c.in-Ok-try_freeze_as.parts) _ _
     c.in-Ok-try_freeze_as.ensures.made
 
 pub returns-in-Ok-try_freeze_as-2-clause-made : goal.returns-in-Ok-try_freeze_as-2-clause-made
 returns-in-Ok-try_freeze_as-2-clause-made g c =
     made_alike g.L.Layout.STATIC g.S.Slice.DROPS g.H.Mark.whole _ c.args.self
-    (sym (ap sole_on c.in-Buffer.is) ∙ c.self.view_is) (window_of c.in-Ok-try_freeze_as-2.parts) _ _
+    (sym (ap sole_on (c.in-Other-Buffer.is ∙ ap Other c.in-Other-Buffer.field-0-is))
+    ∙ c.self.view_is) (window_of c.in-Ok-try_freeze_as-2.parts) _ _
     c.in-Ok-try_freeze_as-2.ensures.made
