@@ -34,5 +34,5 @@ module _ (legal : List ℕ → Type 0) (boundary : List ℕ → ℕ → Bool) wh
           within = omega (arith, long, range.within, is.0.within);
         },
         subst (λ xs. ∥ legal xs ∥₁) same
-            (part_legal legal boundary law part from to is.1 (λ _. range)),
+            (part_legal legal boundary law (sub bytes start end) from to is.1 (λ _. range)),
       )
