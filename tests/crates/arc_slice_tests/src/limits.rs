@@ -1,8 +1,7 @@
 //! What lies in a small window itself, by layout and by what it is made of.
 use arc_slice::buffer::{Plain, Text};
 use arc_slice::inlined::{SmallArcBytes, SmallArcSlice, SmallArcStr, SmallSlice};
-use arc_slice::layout::{ArcLayout, BoxedSliceLayout, DefaultLayout, Layout, RawLayout};
-use arc_slice::layout::VecLayout;
+use arc_slice::layout::{ArcLayout, BoxedSliceLayout, DefaultLayout, Layout, RawLayout, VecLayout};
 use linked_list_allocator::LocalHeap;
 use std::alloc::Global;
 use std::boxed::BoxedSlice;
@@ -154,7 +153,10 @@ fn moved_inline(alloc: Global, bytes: &[u8]) -> Option<(bool, bool)> {
     let window = SmallArcBytes::<Any>::try_from_slice(alloc, bytes).ok()?;
     let inside = window.as_either().is_left();
     let moved = window.try_with_layout::<ArcLayout<false, false>>().ok()?;
-    Some((inside, moved.as_either().is_left() && moved.as_slice() == bytes))
+    Some((
+        inside,
+        moved.as_either().is_left() && moved.as_slice() == bytes,
+    ))
 }
 
 /// Whether a window over bytes that are there for good comes back from a layout without such.
