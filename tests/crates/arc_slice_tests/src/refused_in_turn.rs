@@ -56,12 +56,12 @@ fn missed<L: AnyBufferLayout>(
 /// The default layout without static data.
 type Any = ArcLayout<true, false>;
 
-/// The rows under each layout: all of them, and those of its limit.
+/// The rows under each layout.
 fn missed_by_layout(
     rt: &impl Wait,
     alloc: Global,
     heap: Heap<'_>,
-) -> Result<[Option<usize>; 10], AllocError> {
+) -> Result<[Option<usize>; 5], AllocError> {
     Ok([
         missed::<DefaultLayout>(rt, alloc, heap, ALL)?,
         missed::<Any>(rt, alloc, heap, ALL)?,
@@ -77,6 +77,6 @@ fn missed_by_layout(
 #[test]
 fn refused_in_turn(rt: HostRuntime) -> Result<(), Fail> {
     let heap = CountingHeap::new(rt.alloc());
-    assert!(rt; missed_by_layout(&rt, rt.alloc(), &heap)? == [None; 10]);
+    assert!(rt; missed_by_layout(&rt, rt.alloc(), &heap)? == [None; 5]);
     Ok(())
 }
