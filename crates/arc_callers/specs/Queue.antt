@@ -1,6 +1,5 @@
 -- Who gets a queue's buffer: the last that ends.
-use Rattle.std.specs.Prelude.{◌≡◌, ℕ, Bool, true, false, List, length, Option, IfSome, is_some}
-use Rattle.std.specs.declared.vec.Vec.{Vec}
+use Rattle.std.specs.Prelude.{◌≡◌, ℕ, Bool, false, length, Option, IfSome, is_some}
 use Rattle.arc_owners.specs.declared.mark.Open.{Open}
 use Rattle.arc_owners.specs.count.Calls.{Owner}
 use Rattle.arc_block.specs.Place.{Place}

@@ -90,7 +90,7 @@ pub struct Read {
 }
 
 /// Reads a part, and ends it.
-pub fn read(part: ArcBytes) -> Read
+pub fn read_part(part: ArcBytes) -> Read
     ensures { Reads part result }
 {
     let len = part.len();
@@ -106,5 +106,5 @@ pub fn read_by_two(rt: &impl Threads, first: ArcBytes, second: ArcBytes) -> (Rea
     ensures first { Reads first result.0 }
     ensures second { Reads second result.1 }
 {
-    thread::join(rt, move || read(first), move || read(second))
+    thread::join(rt, move || read_part(first), move || read_part(second))
 }

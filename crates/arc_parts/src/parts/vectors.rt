@@ -134,10 +134,7 @@ impl<S: Slice, B: Buffer<S::Item> + Drop, M: Drop, A: Allocator + Copy, H: Mark>
     /// # History
     ///
     /// Down. Refused, nothing.
-    pub fn into_vec_if_last_as(
-        self,
-        pass: &mut Pass<H>,
-    ) -> Result<Option<Vec<S::Item, A>>, Self>
+    pub fn into_vec_if_last_as(self, pass: &mut Pass<H>) -> Result<Option<Vec<S::Item, A>>, Self>
         requires role { self.role ≡ reader }
         requires pass { IsPassAt self.place pass.old }
         ensures ended { IfOk result (λ last. IsVecPart S.DROPS self.items self.place

@@ -1,5 +1,5 @@
 //! The queue over threads, run.
-use arc_callers::queue::{Queue, read, read_by_two};
+use arc_callers::queue::{Queue, read_by_two, read_part};
 use std::test::Fail;
 
 #[test]
@@ -55,7 +55,7 @@ fn no_buffer(rt: HostRuntime) -> Result<(), Fail> {
     let Err(queue) = queue.end() else {
         return Err("though there is no vector".into());
     };
-    let told = read(queue.whole);
+    let told = read_part(queue.whole);
     assert!(rt; told.len == 0 && told.buffer.is_none());
     Ok(())
 }

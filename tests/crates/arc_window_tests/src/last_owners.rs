@@ -16,6 +16,7 @@ type Window = ArcSlice<Plain<u8>, VecLayout>;
 
 /// How many threads end an owner of one block, and of how many blocks each does so.
 const THREADS: usize = 8;
+
 const ROUNDS: usize = 1000;
 
 /// How often a thread yields at most until all others have come as far.
