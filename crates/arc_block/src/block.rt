@@ -1,7 +1,7 @@
 //! Blocks of a caller's making: a vector, a buffer or an `Arc` of one, which stays where it is
 //! while a window stands on it.
 ghost use Rattle.std.specs.Prelude.{◌≡◌, ◌≤◌, ◌↔◌, length, true, false, Bool, IsTrue};
-ghost use Rattle.std.specs.Prelude.{IfOk, IfErr, OnErr, IfSome, IfNone};
+ghost use Rattle.std.specs.Prelude.{IfOk, IfErr, OnErr, IfSome, IfNone, is_some};
 ghost use Rattle.std.specs.Vec.{vec_capacity};
 ghost use Rattle.arc_owners.specs.count.Calls.{IsFirst, IsPassFor, IsFreshPass, IsNewPass, Learns};
 ghost use Rattle.arc_owners.specs.count.Calls.{Asks, RefusesOwner, MakesAnother, Leaves};
@@ -467,6 +467,28 @@ impl<
         match piece.try_into_value_as(pass) {
             Ok(content) => Ok(content),
             Err(piece) => Err(Block { piece, base, shown }),
+        }
+    }
+
+    /// Ends this owner by one subtraction. The last one gets what the block keeps. Takes no memory.
+    ///
+    /// # History
+    ///
+    /// Down.
+    pub fn into_content_if_last_as(self, pass: &mut Pass<H>) -> Option<Content<S::Item, B, M, A>>
+        requires pass { IsPassFor self.owner pass.old }
+        ensures entry { Leaves self.owner pass.old pass.new (is_some result) }
+        ensures content { IfSome result (λ content.
+            held_in B.list B.places S.DROPS self.owner content ≡ self) }
+    {
+        let Block {
+            piece,
+            base: _,
+            shown: _,
+        } = self;
+        match piece.release_as(pass) {
+            Some(content) => Some(content),
+            None => None,
         }
     }
 

@@ -1,5 +1,6 @@
 //! Windows over callers' buffers, which keep them as they are and give them back.
 ghost use Rattle.std.specs.Prelude.{◌≡◌, ◌<◌, length, slice_set, IfOk, IfErr};
+ghost use Rattle.arc_parts.specs.Window.{IsBufferWhole, IsRawWhole};
 ghost use Rattle.std.specs.Vec.{vec_items};
 
 use crate::page::Page;
@@ -69,6 +70,14 @@ pub fn page_again(window: Pages) -> Result<AsRefBuffer<Page>, Pages>
     window.try_into_buffer()
 }
 
+/// Ends a reader of a page, which the last one of all gets.
+pub fn page_if_last(window: Pages) -> Result<Option<AsRefBuffer<Page>>, Pages>
+    ensures { IfErr result (λ back. (back ≡ window)
+        × (¬ IsBufferWhole window.items window.place)) }
+{
+    window.into_buffer_if_last()
+}
+
 /// A vector behind an `Arc`, whose windows are counted.
 pub fn over_shared(alloc: Global, shared: Arc<Vec<u8>>) -> Result<Shared, Arc<Vec<u8>>>
     ensures back { IfErr result (λ back. back ≡ shared) }
@@ -81,6 +90,13 @@ pub fn shared_again(window: Shared) -> Result<Arc<Vec<u8>>, Shared>
     ensures { IfErr result (λ back. back ≡ window) }
 {
     window.try_into_raw_buffer()
+}
+
+/// Ends a reader of an `Arc`, which the last one of all gets.
+pub fn shared_if_last(window: Shared) -> Result<Option<Arc<Vec<u8>>>, Shared>
+    ensures { IfErr result (λ back. (back ≡ window) × (¬ IsRawWhole window.items window.place)) }
+{
+    window.into_raw_buffer_if_last()
 }
 
 /// A page that is written.

@@ -1,6 +1,10 @@
-//! An example: parts of one buffer are handed to threads, which read them where they lie, and the
-//! buffer's vector is had back when they have ended theirs. No byte is copied.
-ghost use Rattle.std.specs.Prelude.{◌≡◌, ◌≤◌, ◌+◌, take, drop, length, IfOk, IfErr, OnErr};
+//! An example: parts of one buffer are handed to threads, which read them where they lie. Whoever
+//! ends last, a thread its part or the queue its own, gets the buffer's vector: so it is never lost,
+//! however they meet. No byte is copied.
+ghost use Rattle.std.specs.Prelude.{◌≡◌, ◌≤◌, ◌+◌, take, drop, length, false};
+ghost use Rattle.std.specs.Prelude.{IfOk, IfErr, IfSome, OnErr, is_some};
+ghost use Rattle.arc_parts.specs.Window.{IsVecPart};
+ghost use Rattle.arc_callers.specs.Queue.{EndsAs, Reads};
 
 use arc_slice::ArcBytes;
 use arc_slice::error::OwnerError;
@@ -57,9 +61,50 @@ impl Queue {
             Err(whole) => Err(Queue { whole, next }),
         }
     }
+
+    /// Ends the queue. It gets the vector, with all bytes, where it is the last one; else the part
+    /// that ends last gets it. A buffer without places stands on no vector: then the queue comes
+    /// back.
+    pub fn end(self) -> Result<Option<Vec<u8>>, Self>
+        ensures last { IfOk result (λ last. EndsAs self.whole.place (is_some last)) }
+        ensures bytes { IfOk result (λ last. IfSome last (λ bytes.
+            bytes.items ≡ self.whole.items)) }
+        ensures refused { IfErr result (λ back. (back.whole ≡ self.whole)
+            × (back.next ≡ self.next) × (¬ IsVecPart false self.whole.items self.whole.place)) }
+    {
+        let Queue { whole, next } = self;
+        match whole.into_vec_if_last() {
+            Ok(last) => Ok(last),
+            Err(whole) => Err(Queue { whole, next }),
+        }
+    }
 }
 
-/// How many bytes two threads have of two parts, which they end.
-pub fn lengths(rt: &impl Threads, first: ArcBytes, second: ArcBytes) -> (usize, usize) {
-    thread::join(rt, move || first.len(), move || second.len())
+/// What a thread makes of a part.
+#[derive(Drop)]
+pub struct Read {
+    /// How many bytes the part had.
+    pub len: usize,
+    /// The vector, with the part's bytes, where the part was the last one.
+    pub buffer: Option<Vec<u8>>,
+}
+
+/// Reads a part, and ends it.
+pub fn read_part(part: ArcBytes) -> Read
+    ensures { Reads part result }
+{
+    let len = part.len();
+    match part.into_vec_if_last() {
+        Ok(buffer) => Read { len, buffer },
+        Err(_) => Read { len, buffer: None },
+    }
+}
+
+/// Two threads read a part each, and end it. Each gets the vector exactly where it was the last one
+/// of all: at most one of them, and neither where the queue or another part outlives both.
+pub fn read_by_two(rt: &impl Threads, first: ArcBytes, second: ArcBytes) -> (Read, Read)
+    ensures first { Reads first result.0 }
+    ensures second { Reads second result.1 }
+{
+    thread::join(rt, move || read_part(first), move || read_part(second))
 }

@@ -1,8 +1,9 @@
 //! Calls of readers with a pass of the window's block, in which contracts see what they add to the
 //! history of its owners. Each goes on where the last one ended; the plain forms take a new pass.
-ghost use Rattle.std.specs.Prelude.{◌≡◌, ◌≤◌, ◌++◌, length, IfOk, IfErr};
+ghost use Rattle.std.specs.Prelude.{◌≡◌, ◌≤◌, ◌++◌, length, IfOk, IfErr, IfSome};
 ghost use Rattle.std.specs.Box.{boxed_slice_items};
 ghost use Rattle.arc_owners.specs.count.Calls.{IsPassOfNone};
+ghost use Rattle.arc_parts.specs.Steps.{IsPassAt};
 
 use arc_slice::buffer::Plain;
 use arc_slice::error::{AllocError, OwnerError};
@@ -124,6 +125,60 @@ pub fn arc(alloc: Global, shared: Arc<Vec<u8>>) -> Result<Arc<Vec<u8>>, ArcBytes
     match ArcBytes::try_from_raw_buffer_as(alloc, shared, &mut pass) {
         Ok(window) => window.try_into_raw_buffer_as(&mut pass),
         Err(shared) => Ok(shared),
+    }
+}
+
+/// Ends a reader of a vector, with the pass of its block: the last owner gets the vector.
+pub fn vector_if_last(window: WholeBytes, pass: &mut Pass<Whole>) -> Option<Vec<u8>>
+    requires { IsPassAt window.place pass.old }
+    ensures { IfSome result (λ bytes. bytes.items ≡ window.items) }
+{
+    match window.into_vec_if_last_as(pass) {
+        Ok(last) => last,
+        Err(window) => {
+            window.release_as(pass);
+            None
+        }
+    }
+}
+
+/// A box, moved in and out: its only owner is the last one.
+pub fn boxed_if_last(alloc: Global, bytes: BoxedSlice<u8>) -> Option<BoxedSlice<u8>>
+    ensures { IfSome result (λ back. boxed_slice_items back ≡ boxed_slice_items bytes) }
+{
+    let mut pass = Pass::none();
+    match ArcBytes::<DefaultLayout>::try_from_boxed_as(alloc, bytes, &mut pass) {
+        Ok(window) => match window.into_boxed_if_last_as(&mut pass) {
+            Ok(last) => last,
+            Err(_) => None,
+        },
+        Err(bytes) => Some(bytes),
+    }
+}
+
+/// The same of a caller's buffer.
+pub fn buffer_if_last(alloc: Global, bytes: Vec<u8>) -> Option<Vec<u8>>
+    ensures { IfSome result (λ back. back.items ≡ bytes.items) }
+{
+    let mut pass = Pass::none();
+    match ArcBytes::<DefaultLayout>::try_from_buffer_as(alloc, bytes, &mut pass) {
+        Ok(window) => match window.into_buffer_if_last_as(&mut pass) {
+            Ok(last) => last,
+            Err(_) => None,
+        },
+        Err(bytes) => Some(bytes),
+    }
+}
+
+/// The same of an `Arc`.
+pub fn arc_if_last(alloc: Global, shared: Arc<Vec<u8>>) -> Option<Arc<Vec<u8>>> {
+    let mut pass = Pass::none();
+    match ArcBytes::<DefaultLayout>::try_from_raw_buffer_as(alloc, shared, &mut pass) {
+        Ok(window) => match window.into_raw_buffer_if_last_as(&mut pass) {
+            Ok(last) => last,
+            Err(_) => None,
+        },
+        Err(shared) => Some(shared),
     }
 }
 

@@ -1,5 +1,5 @@
 //! Calls of one of several writers with a pass of the window's block.
-ghost use Rattle.std.specs.Prelude.{◌≡◌, ◌++◌, ◌∷◌, [], IfOk, IfErr, IsOk, OnOk};
+ghost use Rattle.std.specs.Prelude.{◌≡◌, ◌++◌, ◌∷◌, [], IfOk, IfErr, IfSome, IsOk, OnOk};
 ghost use Rattle.std.specs.Prelude.{Err, true};
 ghost use Rattle.std.specs.Box.{boxed_slice_items};
 ghost use Rattle.arc_parts.specs.Shared.{IsOneBlock};
@@ -95,6 +95,17 @@ pub fn sole(window: ArcBytesShared) -> Result<ArcBytesMut, ArcBytesShared>
 {
     let mut pass = window.pass();
     window.try_into_unique_as(&mut pass)
+}
+
+/// Ends a writer: the last one is the only writer of a new block then, with a pass of that.
+pub fn sole_if_last(
+    window: ArcBytesShared,
+) -> Result<Option<(ArcBytesMut, Pass<Open>)>, ArcBytesShared>
+    ensures sole { IfOk result (λ last. IfSome last (λ r. r.0.items ≡ window.items)) }
+    ensures back { IfErr result (λ back. back ≡ window) }
+{
+    let mut pass = window.pass();
+    window.into_unique_if_last_as(&mut pass)
 }
 
 /// A window under another layout, and one that is to be read from now on.

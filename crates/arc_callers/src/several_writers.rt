@@ -1,9 +1,11 @@
 //! One of several writers on one block, each with places of his own: handed out, joined, filled,
 //! given room, taken back and ended. `editor` splits and joins for two threads.
 ghost use Rattle.std.specs.Prelude.{◌≡◌, ◌≤◌, ◌+◌, ◌++◌, ◌∷◌, [], length, drop, true};
-ghost use Rattle.std.specs.Prelude.{IfOk, IfErr, IsOk, OnOk, Err};
+ghost use Rattle.std.specs.Prelude.{IfOk, IfErr, IfSome, IsOk, OnOk, Err};
 ghost use Rattle.std.specs.Box.{boxed_slice_items};
+ghost use Rattle.arc_block.specs.Block.{native};
 ghost use Rattle.arc_parts.specs.Shared.{IsOneBlock, IsSharedPlace};
+ghost use Rattle.arc_parts.specs.Window.{IsOfSort};
 ghost use Rattle.arc_parts.specs.Writers.{capacity_of};
 
 use arc_slice::buffer::ByteText;
@@ -31,6 +33,14 @@ pub fn sole(window: ArcBytesShared) -> Result<ArcBytesMut, ArcBytesShared>
     ensures back { IfErr result (λ back. back ≡ window) }
 {
     window.try_into_unique()
+}
+
+/// Ends a writer: the last one of all is the only writer then.
+pub fn sole_if_last(window: ArcBytesShared) -> Result<Option<ArcBytesMut>, ArcBytesShared>
+    ensures sole { IfOk result (λ last. IfSome last (λ sole. sole.items ≡ window.items)) }
+    ensures back { IfErr result (λ back. (back ≡ window) × (¬ IsOfSort native window.place)) }
+{
+    window.into_unique_if_last()
 }
 
 /// Where one of several writers stands: on nothing, or on a native block or a vector that counts

@@ -1,6 +1,7 @@
 //! What a window stands on, taken back: a string, a box, an array. A vector is taken back in
 //! `frames`, `queue` and `editor`, a caller's buffer in `buffers`, an `Arc` in `layouts`.
-ghost use Rattle.std.specs.Prelude.{◌≡◌, IfOk, IfErr};
+ghost use Rattle.std.specs.Prelude.{◌≡◌, IfOk, IfErr, IfSome, false};
+ghost use Rattle.arc_parts.specs.Window.{IsBoxWhole, IsVecPart};
 ghost use Rattle.std.specs.Box.{boxed_slice_items};
 ghost use Rattle.std.specs.String.{string_bytes};
 
@@ -38,6 +39,28 @@ pub fn boxed(window: ArcSlice<Owned<String>>) -> Result<BoxedSlice<String>, ArcS
     ensures back { IfErr result (λ back. back ≡ window) }
 {
     window.try_into_boxed()
+}
+
+/// Ends a reader of a string, which the last one of all gets.
+pub fn string_if_last(window: ArcStr) -> Result<Option<String>, ArcStr>
+    ensures string { IfOk result (λ last. IfSome last (λ text.
+        string_bytes text ≡ window.items)) }
+    ensures back { IfErr result (λ back. (back ≡ window)
+        × (¬ IsVecPart false window.items window.place)) }
+{
+    window.into_vec_if_last()
+}
+
+/// Ends a reader of a box, which the last one of all gets.
+pub fn boxed_if_last(
+    window: ArcSlice<Owned<String>>,
+) -> Result<Option<BoxedSlice<String>>, ArcSlice<Owned<String>>>
+    ensures boxed { IfOk result (λ last. IfSome last (λ texts.
+        boxed_slice_items texts ≡ window.items)) }
+    ensures back { IfErr result (λ back. (back ≡ window)
+        × (¬ IsBoxWhole window.items window.place)) }
+{
+    window.into_boxed_if_last()
 }
 
 /// The items of a window on a block of ours, moved out of it.

@@ -18,7 +18,7 @@ use Rattle.arc_buffer.specs.Slice.{IsEdge, edge_answer}
 use Rattle.arc_block.specs.declared.block.TheConstants.{MAX_OWNERS}
 use Rattle.arc_parts.specs.declared.room.Room.{Room}
 use Rattle.arc_block.specs.Block.{Sort, native, vector, buffer, raw, IsMemory, memory_info}
-use Rattle.arc_block.specs.Place.{Place, nowhere, static_data, on_block, at_owner}
+use Rattle.arc_block.specs.Place.{Place, nowhere, static_data, on_block, at_owner, owned_by}
 use Rattle.arc_parts.specs.Steps.{Shares}
 use Rattle.arc_block.specs.Table.{RowOf, sole_writer, one_writer_of_several}
 use Rattle.arc_parts.specs.Window.{PartsView}
@@ -181,6 +181,13 @@ module _ {T M : Type 0} where
         → (before after : Pass H) → Type 0
     SplitsWriterTo drops one_pass at w front back before after =
         SplitsWriter drops one_pass (after_advance at) (front_of at) w back front before after
+
+-- The last of several writers is the only one, of the same items and places: on a new block that
+-- has the memory of theirs, as its first owner.
+pub record BecomesUnique {T M : Type 0} (one_pass : Bool) (w v : PartsView T M) : Type 0 where
+  pub owner : Owner
+  pub made : v ≡ record (as_unique w) { place = owned_by (Some owner) w.place }
+  pub first : IsFirst MAX_OWNERS one_pass Counted owner
 
 module _ {H : Type 0} where
   -- A split was refused: the count was found at its greatest; or, of a vector, memory for the block

@@ -10,7 +10,7 @@ use Rattle.arc_owners.specs.count.Invariant.{BlockId, Line}
 use Rattle.arc_owners.specs.count.Calls.{Owner, IsPassOf, IsPassOfNone, MayJoin, RefusesOwner}
 use Rattle.arc_owners.specs.count.Calls.{IsFirst, IsFreshPass}
 use Rattle.arc_owners.specs.count.Calls.{MakesAnother, Asks, EndsByItself, EndsShown}
-use Rattle.arc_owners.specs.count.Calls.{TakesBlock}
+use Rattle.arc_owners.specs.count.Calls.{TakesBlock, Leaves}
 use Rattle.arc_block.specs.Block.{Sort, vector, BlockInfo, memory_info, raw_info}
 use Rattle.arc_block.specs.Layouts.{vector_begins}
 use Rattle.arc_block.specs.Place.{Place, nowhere, static_data, on_block, at_owner}
@@ -105,6 +105,13 @@ module _ {M H : Type 0} where
       : Type 0 where
     pub asked : wanted → at_owner place ⊥ (λ o. Asks o old new false)
     pub unasked : ¬ wanted → new ≡ old
+
+module _ {M H : Type 0} where
+  -- The owner that stands at a place ended by one step, and was the last one or not. An `Arc` that
+  -- is a block by itself has no owner: nothing is added, and its window has it as a last one does.
+  abbrev pub LeavesLastAt : Place (Option Owner) M → (old new : Pass H) → (last : Bool) → Type 0
+  LeavesLastAt place old new last =
+      at_owner place ((last ≡ true) × (new ≡ old)) (λ o. Leaves o old new last)
 
 module _ {T M H : Type 0} where
   -- an array was refused: where only the count could decide, it was asked and said no, and else

@@ -1,7 +1,8 @@
 //! One of several writers on a native block.
 ghost use Rattle.arc_owners.specs.history.Histories.{Counted};
 ghost use Rattle.std.specs.Prelude.{◌≡◌, ◌==◌, ◌+◌, ◌-◌, ◌^◌, ◌<◌, ◌≤◌, ◌++◌, ◌∷◌, [], Bool};
-ghost use Rattle.std.specs.Prelude.{length, take, true, false, ◌&&◌, IfOk, IfErr, is_ok};
+ghost use Rattle.std.specs.Prelude.{length, take, true, false, ◌&&◌, IfOk, IfErr, IfSome, is_ok};
+ghost use Rattle.std.specs.Prelude.{is_some};
 ghost use Rattle.arc_owners.specs.count.Calls.{IsPassFor, IsPassOfNone, IsNewPass, Learns};
 ghost use Rattle.arc_owners.specs.count.Calls.{MakesAnother, FindsFull, Leaves, EndsByItself};
 ghost use Rattle.arc_owners.specs.count.Calls.{EndsShown, AsksAndLeaves};
@@ -152,6 +153,39 @@ impl<T: Drop, A: Allocator + Copy, H: Mark> SharedNative<T, A, H> {
                 Ok((count, memory))
             }
             Err(writer) => Err(SharedNative { writer, head }),
+        }
+    }
+
+    /// Ends this writer by one subtraction. The last owner gets the block's memory: his places begin
+    /// where the writer's did. Takes no memory.
+    ///
+    /// # History
+    ///
+    /// Down.
+    #[tactic(auto, using(crate::proofs::Takes::laid_room))]
+    pub fn into_memory_if_last_as(self, pass: &mut Pass<H>) -> Option<WriterMemory<T, A>>
+        requires pass { IsPassFor self.owner pass.old }
+        ensures entry { Leaves self.owner pass.old pass.new (is_some result) }
+        ensures memory { IfSome result (λ memory. (memory.places.vec.items ≡ self.items)
+            × (memory.places.under.start ≡ self.start)
+            × (memory.places.under.whole ≡ self.size)) }
+        ensures block { IfSome result (λ memory. IsPiece memory.source) }
+    {
+        let SharedNative { writer, head } = self;
+        let (base, start) = (writer.places.base(), writer.places.start());
+        let len = writer.places.len();
+        let WriterPart { owner, part } = writer.into_part();
+        match owner.release_with_room_as(pass) {
+            Some((kept, room, ended)) => {
+                let Kept::Places(kept) = kept else {
+                    unreachable!()
+                };
+                Some(unsafe { kept.regain_writer(ended, part, room, head, base, start, len) })
+            }
+            None => {
+                part.forget();
+                None
+            }
         }
     }
 

@@ -1,7 +1,7 @@
 //! Parts over a caller's buffer, or over an `Arc` of one: made of them, and taken back.
 ghost use Rattle.arc_owners.specs.history.Histories.{Counted};
 ghost use Rattle.std.specs.Prelude.{◌≡◌, ◌↔◌, false, length, Some, None, IfOk, IfErr, IfSome};
-ghost use Rattle.std.specs.Prelude.{IfNone, IsTrue};
+ghost use Rattle.std.specs.Prelude.{IfNone, IsTrue, is_some};
 ghost use Rattle.std.specs.Arc.{arc_value};
 ghost use Rattle.arc_owners.specs.count.Calls.{IsPassOfNone};
 ghost use Rattle.arc_block.specs.Block.{buffer_info, raw_info};
@@ -10,7 +10,7 @@ ghost use Rattle.arc_block.specs.Place.{on_block, metadata_at, size_at};
 ghost use Rattle.arc_block.specs.Table.{reader};
 ghost use Rattle.arc_parts.specs.Window.{IsBufferWhole, IsRawWhole, window_of};
 ghost use Rattle.arc_parts.specs.Steps.{IsPassAt, MakesOver, MakesOverRaw, Begins, TakesAt};
-ghost use Rattle.arc_parts.specs.Steps.{RefusesTaking};
+ghost use Rattle.arc_parts.specs.Steps.{RefusesTaking, LeavesLastAt};
 
 use super::Parts;
 use crate::shared_buffer::SharedBuffer;
@@ -209,6 +209,53 @@ impl<S: Slice, B: Buffer<S::Item> + Drop, M: Drop, A: Allocator + Copy, H: Mark>
         }
     }
 
+    /// Ends the parts by one subtraction, where the items are all of a caller's buffer. The last
+    /// owner gets the buffer, and its metadata is dropped; the others get nothing.
+    ///
+    /// # Errors
+    ///
+    /// The parts, exactly on another block or none, and where the items are a part alone. Nothing
+    /// has happened then.
+    ///
+    /// # History
+    ///
+    /// Down. Refused, nothing.
+    pub fn into_buffer_if_last_as(self, pass: &mut Pass<H>) -> Result<Option<B>, Self>
+        requires role { self.role ≡ reader }
+        requires pass { IsPassAt self.place pass.old }
+        ensures ended { IfOk result (λ last. IsBufferWhole self.items self.place
+            × LeavesLastAt self.place pass.old pass.new (is_some last)) }
+        ensures buffer { IfOk result (λ last. IfSome last (λ buffer.
+            (B.list buffer ≡ self.items) × (B.places buffer ≡ size_at self.place))) }
+        ensures refused { IfErr result (λ parts. (parts ≡ self)
+            × (¬ IsBufferWhole self.items self.place) × (pass.new ≡ pass.old)) }
+    {
+        if !self.is_buffer_whole() {
+            return Err(self);
+        }
+        let Parts {
+            on,
+            start: _,
+            end: _,
+            alloc: _,
+        } = self;
+        let Storage::Block(block) = on else {
+            unreachable!()
+        };
+        match block.into_content_if_last_as(pass) {
+            Some(content) => {
+                let CallersBuffer {
+                    buffer,
+                    metadata,
+                    writable: _,
+                } = content.into_buffer();
+                drop(metadata);
+                Ok(Some(buffer))
+            }
+            None => Ok(None),
+        }
+    }
+
     /// Whether the items are all of a caller's buffer behind an `Arc`.
     fn is_raw_whole(&self) -> bool
         ensures { IsTrue result ↔ IsRawWhole self.now.items self.now.place }
@@ -261,6 +308,47 @@ impl<S: Slice, B: Buffer<S::Item> + Drop, M: Drop, A: Allocator + Copy, H: Mark>
                 }),
             },
             Storage::Raw(shared) => Ok(shared.into_arc()),
+            _ => unreachable!(),
+        }
+    }
+
+    /// Ends the parts by one subtraction, where the items are all of a caller's buffer behind an
+    /// `Arc`. The last owner gets the `Arc`; the others get nothing. One that is a block by itself
+    /// is had at once, and nothing is counted.
+    ///
+    /// # Errors
+    ///
+    /// The parts, exactly on another block or none, and where the items are a part alone. Nothing
+    /// has happened then.
+    ///
+    /// # History
+    ///
+    /// On a block that counts its owners Down. Refused, nothing.
+    pub fn into_raw_if_last_as(self, pass: &mut Pass<H>) -> Result<Option<Arc<B, A>>, Self>
+        requires role { self.role ≡ reader }
+        requires pass { IsPassAt self.place pass.old }
+        ensures ended { IfOk result (λ last. IsRawWhole self.items self.place
+            × LeavesLastAt self.place pass.old pass.new (is_some last)) }
+        ensures shared { IfOk result (λ last. IfSome last (λ shared.
+            B.list (arc_value shared) ≡ self.items)) }
+        ensures refused { IfErr result (λ parts. (parts ≡ self)
+            × (¬ IsRawWhole self.items self.place) × (pass.new ≡ pass.old)) }
+    {
+        if !self.is_raw_whole() {
+            return Err(self);
+        }
+        let Parts {
+            on,
+            start: _,
+            end: _,
+            alloc: _,
+        } = self;
+        match on {
+            Storage::Block(block) => match block.into_content_if_last_as(pass) {
+                Some(content) => Ok(Some(content.into_raw())),
+                None => Ok(None),
+            },
+            Storage::Raw(shared) => Ok(Some(shared.into_arc())),
             _ => unreachable!(),
         }
     }

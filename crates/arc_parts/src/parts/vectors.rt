@@ -1,5 +1,5 @@
 //! Parts over a vector: made of one, and taken back as one.
-ghost use Rattle.std.specs.Prelude.{◌≡◌, ◌≤◌, ◌↔◌, false, IfOk, IfErr, IsTrue};
+ghost use Rattle.std.specs.Prelude.{◌≡◌, ◌≤◌, ◌↔◌, false, IfOk, IfErr, IfSome, IsTrue, is_some};
 ghost use Rattle.std.specs.Vec.{vec_capacity, vec_len};
 ghost use Rattle.arc_buffer.specs.Slice.{sub};
 ghost use Rattle.arc_owners.specs.count.Calls.{IsPassOfNone, Asks};
@@ -8,7 +8,7 @@ ghost use Rattle.arc_block.specs.Table.{reader};
 ghost use Rattle.arc_parts.specs.Window.{IsOfSort, IsVecPart, IsBoxWhole, window_of};
 ghost use Rattle.arc_block.specs.Block.{vector};
 ghost use Rattle.arc_parts.specs.Steps.{IsPassAt, MakesOfVec, NeedsVecBlock, Begins, TakesAt};
-ghost use Rattle.arc_parts.specs.Steps.{RefusesTaking};
+ghost use Rattle.arc_parts.specs.Steps.{RefusesTaking, LeavesLastAt};
 
 use super::Parts;
 use crate::storage::Storage;
@@ -122,6 +122,34 @@ impl<S: Slice, B: Buffer<S::Item> + Drop, M: Drop, A: Allocator + Copy, H: Mark>
         self.try_take_memory_as(pass)
     }
 
+    /// Ends the parts by one subtraction, where the block is a vector. The last owner gets it, with
+    /// the items moved to its front; the others get nothing. Items that are dropped one by one have
+    /// to be all of the vector.
+    ///
+    /// # Errors
+    ///
+    /// The parts, exactly on another block or none, and where items that are dropped one by one are
+    /// a part alone. Nothing has happened then.
+    ///
+    /// # History
+    ///
+    /// Down. Refused, nothing.
+    pub fn into_vec_if_last_as(self, pass: &mut Pass<H>) -> Result<Option<Vec<S::Item, A>>, Self>
+        requires role { self.role ≡ reader }
+        requires pass { IsPassAt self.place pass.old }
+        ensures ended { IfOk result (λ last. IsVecPart S.DROPS self.items self.place
+            × LeavesLastAt self.place pass.old pass.new (is_some last)) }
+        ensures vector { IfOk result (λ last. IfSome last (λ v. (v.items ≡ self.items)
+            × (vec_capacity v ≡ size_at self.place))) }
+        ensures refused { IfErr result (λ parts. (parts ≡ self)
+            × (¬ IsVecPart S.DROPS self.items self.place) × (pass.new ≡ pass.old)) }
+    {
+        if !self.is_vec_part() {
+            return Err(self);
+        }
+        Ok(self.into_memory_if_last_as(pass))
+    }
+
     /// Whether the list is all of the block's vector, which has no places more.
     fn is_box_whole(&self) -> bool
         ensures { IsTrue result ↔ IsBoxWhole self.now.items self.now.place }
@@ -157,6 +185,64 @@ impl<S: Slice, B: Buffer<S::Item> + Drop, M: Drop, A: Allocator + Copy, H: Mark>
             return Err(self);
         }
         self.try_take_memory_as(pass)
+    }
+
+    /// Ends the parts by one subtraction, where the items are all of the block's vector, and it has
+    /// no places more. The last owner gets the vector, which so is a box; the others get nothing.
+    ///
+    /// # Errors
+    ///
+    /// The parts, exactly on another block or none, and where the items are a part of the vector's
+    /// places alone. Nothing has happened then.
+    ///
+    /// # History
+    ///
+    /// Down. Refused, nothing.
+    pub fn into_box_vec_if_last_as(
+        self,
+        pass: &mut Pass<H>,
+    ) -> Result<Option<Vec<S::Item, A>>, Self>
+        requires role { self.role ≡ reader }
+        requires pass { IsPassAt self.place pass.old }
+        ensures ended { IfOk result (λ last. IsBoxWhole self.items self.place
+            × LeavesLastAt self.place pass.old pass.new (is_some last)) }
+        ensures vector { IfOk result (λ last. IfSome last (λ v. (v.items ≡ self.items)
+            × (vec_capacity v ≡ size_at self.place))) }
+        ensures refused { IfErr result (λ parts. (parts ≡ self)
+            × (¬ IsBoxWhole self.items self.place) × (pass.new ≡ pass.old)) }
+    {
+        if !self.is_box_whole() {
+            return Err(self);
+        }
+        Ok(self.into_memory_if_last_as(pass))
+    }
+
+    /// Ends the parts, whose block is a vector, by one subtraction. The last owner gets the vector,
+    /// with the items alone.
+    ///
+    /// # History
+    ///
+    /// Down.
+    fn into_memory_if_last_as(self, pass: &mut Pass<H>) -> Option<Vec<S::Item, A>>
+        requires pass { IsPassAt self.place pass.old }
+        requires sort { IsOfSort vector self.place }
+        ensures ended { LeavesLastAt self.place pass.old pass.new (is_some result) }
+        ensures vector { IfSome result (λ v. (v.items ≡ self.items)
+            × (vec_capacity v ≡ size_at self.place)) }
+    {
+        let Parts {
+            on,
+            start,
+            end,
+            alloc: _,
+        } = self;
+        let Storage::Block(block) = on else {
+            unreachable!()
+        };
+        match block.into_content_if_last_as(pass) {
+            Some(content) => Some(cut_to(content.into_vec(), start, end)),
+            None => None,
+        }
     }
 
     /// The items as the vector of their block, which is one, where no other owner lives.

@@ -1,7 +1,7 @@
 //! Read windows over a caller's buffer, or over an `Arc` of one: made of them, and taken back.
 ghost use Rattle.arc_owners.specs.history.Histories.{Counted};
 ghost use Rattle.std.specs.Prelude.{◌≡◌, false, length, Some, None};
-ghost use Rattle.std.specs.Prelude.{IfOk, IfErr, IfSome, IfNone};
+ghost use Rattle.std.specs.Prelude.{IfOk, IfErr, IfSome, IfNone, is_some};
 ghost use Rattle.std.specs.Arc.{arc_value};
 ghost use Rattle.arc_owners.specs.count.Calls.{IsPassOfNone};
 ghost use Rattle.arc_block.specs.Block.{buffer_info};
@@ -10,7 +10,7 @@ ghost use Rattle.arc_block.specs.Place.{nowhere, metadata_at};
 ghost use Rattle.arc_parts.specs.Window.{IsBufferWhole, IsRawWhole};
 ghost use Rattle.arc_block.specs.Place.{size_at};
 ghost use Rattle.arc_parts.specs.Steps.{IsPassAt, MakesOver, MakesOverRaw, Begins};
-ghost use Rattle.arc_parts.specs.Steps.{TakesAt, RefusesTaking};
+ghost use Rattle.arc_parts.specs.Steps.{TakesAt, RefusesTaking, LeavesLastAt};
 ghost use Rattle.arc_read.specs.Steps.{WithNewPass};
 
 use super::ArcSlice;
@@ -226,6 +226,60 @@ impl<
         }
     }
 
+    /// Ends the window by one subtraction, where its items are all of a caller's buffer. The last
+    /// owner gets the buffer, and its metadata is dropped; the others get nothing. So of owners
+    /// that all end by this call exactly one gets it.
+    ///
+    /// # Errors
+    ///
+    /// The window, exactly on another block or none, and where the items are a part alone. Nothing
+    /// has happened then.
+    ///
+    /// # History
+    ///
+    /// Down. Refused, nothing.
+    pub fn into_buffer_if_last_as(self, pass: &mut Pass<H>) -> Result<Option<B>, Self>
+        requires pass { IsPassAt self.place pass.old }
+        ensures ended { IfOk result (λ last. IsBufferWhole self.items self.place
+            × LeavesLastAt self.place pass.old pass.new (is_some last)) }
+        ensures buffer { IfOk result (λ last. IfSome last (λ buffer.
+            (B.list buffer ≡ self.items) × (B.places buffer ≡ size_at self.place))) }
+        ensures refused { IfErr result (λ window. (window ≡ self)
+            × (¬ IsBufferWhole self.items self.place) × (pass.new ≡ pass.old)) }
+    {
+        match self.into_parts().into_buffer_if_last_as(pass) {
+            Ok(last) => Ok(last),
+            Err(parts) => Err(Self::from_parts(parts)),
+        }
+    }
+
+    /// Ends the window by one subtraction, where its items are all of a caller's buffer behind an
+    /// `Arc`. The last owner gets the `Arc`; the others get nothing. One that is a block by itself
+    /// is had at once, and nothing is counted.
+    ///
+    /// # Errors
+    ///
+    /// The window, exactly on another block or none, and where the items are a part alone. Nothing
+    /// has happened then.
+    ///
+    /// # History
+    ///
+    /// On a block that counts its owners Down. Refused, nothing.
+    pub fn into_raw_buffer_if_last_as(self, pass: &mut Pass<H>) -> Result<Option<Arc<B, A>>, Self>
+        requires pass { IsPassAt self.place pass.old }
+        ensures ended { IfOk result (λ last. IsRawWhole self.items self.place
+            × LeavesLastAt self.place pass.old pass.new (is_some last)) }
+        ensures shared { IfOk result (λ last. IfSome last (λ shared.
+            B.list (arc_value shared) ≡ self.items)) }
+        ensures refused { IfErr result (λ window. (window ≡ self)
+            × (¬ IsRawWhole self.items self.place) × (pass.new ≡ pass.old)) }
+    {
+        match self.into_parts().into_raw_if_last_as(pass) {
+            Ok(last) => Ok(last),
+            Err(parts) => Err(Self::from_parts(parts)),
+        }
+    }
+
     /// A window over all items of a caller's buffer: `try_from_buffer_as` with a new pass.
     ///
     /// # Errors
@@ -358,5 +412,61 @@ impl<
         let taken = self.try_into_raw_buffer_as(&mut pass);
         pass.show();
         taken
+    }
+
+    /// Ends the window, and the last owner gets the buffer: `into_buffer_if_last_as` with a new
+    /// pass.
+    ///
+    /// # Errors
+    ///
+    /// Those of `into_buffer_if_last_as`.
+    ///
+    /// # History
+    ///
+    /// That of `into_buffer_if_last_as`.
+    pub fn into_buffer_if_last(self) -> Result<Option<B>, Self>
+    where
+        H: Stepping,
+        ensures ended { IfOk result (λ last. IsBufferWhole self.items self.place
+            × WithNewPass {H = H} H.real self.place (λ first now.
+            LeavesLastAt self.place first now (is_some last))) }
+        ensures buffer { IfOk result (λ last. IfSome last (λ buffer.
+            (B.list buffer ≡ self.items) × (B.places buffer ≡ size_at self.place))) }
+        ensures refused { IfErr result (λ window. (window ≡ self)
+            × (¬ IsBufferWhole self.items self.place)
+            × WithNewPass {H = H} H.real self.place (λ first last. last ≡ first)) }
+    {
+        let mut pass = self.pass();
+        let ended = self.into_buffer_if_last_as(&mut pass);
+        pass.show();
+        ended
+    }
+
+    /// Ends the window, and the last owner gets the `Arc`: `into_raw_buffer_if_last_as` with a new
+    /// pass.
+    ///
+    /// # Errors
+    ///
+    /// Those of `into_raw_buffer_if_last_as`.
+    ///
+    /// # History
+    ///
+    /// That of `into_raw_buffer_if_last_as`.
+    pub fn into_raw_buffer_if_last(self) -> Result<Option<Arc<B, A>>, Self>
+    where
+        H: Stepping,
+        ensures ended { IfOk result (λ last. IsRawWhole self.items self.place
+            × WithNewPass {H = H} H.real self.place (λ first now.
+            LeavesLastAt self.place first now (is_some last))) }
+        ensures shared { IfOk result (λ last. IfSome last (λ shared.
+            B.list (arc_value shared) ≡ self.items)) }
+        ensures refused { IfErr result (λ window. (window ≡ self)
+            × (¬ IsRawWhole self.items self.place)
+            × WithNewPass {H = H} H.real self.place (λ first last. last ≡ first)) }
+    {
+        let mut pass = self.pass();
+        let ended = self.into_raw_buffer_if_last_as(&mut pass);
+        pass.show();
+        ended
     }
 }

@@ -1,5 +1,5 @@
 //! Read windows over vectors and boxes: made of them, and taken back as them.
-ghost use Rattle.std.specs.Prelude.{◌≡◌, length, IfOk, IfErr};
+ghost use Rattle.std.specs.Prelude.{◌≡◌, length, IfOk, IfErr, IfSome, is_some};
 ghost use Rattle.std.specs.Vec.{vec_capacity};
 ghost use Rattle.std.specs.declared.vec.Vec.{Vec};
 ghost use Rattle.arc_owners.specs.count.Calls.{IsPassOfNone};
@@ -7,7 +7,7 @@ ghost use Rattle.arc_block.specs.Place.{nowhere};
 ghost use Rattle.arc_parts.specs.Window.{IsVecPart, IsBoxWhole};
 ghost use Rattle.arc_block.specs.Place.{size_at};
 ghost use Rattle.arc_parts.specs.Steps.{IsPassAt, MakesOfVec, NeedsVecBlock, Begins};
-ghost use Rattle.arc_parts.specs.Steps.{TakesAt, RefusesTaking};
+ghost use Rattle.arc_parts.specs.Steps.{TakesAt, RefusesTaking, LeavesLastAt};
 ghost use Rattle.arc_read.specs.Steps.{WithNewPass};
 
 use super::ArcSlice;
@@ -177,6 +177,66 @@ impl<
         }
     }
 
+    /// Ends the window by one subtraction, where its block is a vector. The last owner gets the
+    /// vector, with the window's items moved to its front; the others get nothing. So of owners
+    /// that all end by this call exactly one gets it. Items that are dropped one by one have to be
+    /// all of the vector.
+    ///
+    /// # Errors
+    ///
+    /// The window, exactly on another block or none, and where items that are dropped one by one are
+    /// a part alone. Nothing has happened then.
+    ///
+    /// # History
+    ///
+    /// Down. Refused, nothing.
+    pub fn into_vec_if_last_as(self, pass: &mut Pass<H>) -> Result<Option<S::Vec>, Self>
+    where
+        S: VecIn<A>,
+        requires pass { IsPassAt self.place pass.old }
+        ensures ended { IfOk result (λ last. IsVecPart S.DROPS self.items self.place
+            × LeavesLastAt self.place pass.old pass.new (is_some last)) }
+        ensures vector { IfOk result (λ last. IfSome last (λ v. S.list_in_vec v ≡ self.items)) }
+        ensures places { IfOk result (λ last. IfSome last (λ v. (inner : Vec S.Item A)
+            × S.Vec.wraps v inner × (vec_capacity inner ≡ size_at self.place))) }
+        ensures refused { IfErr result (λ window. (window ≡ self)
+            × (¬ IsVecPart S.DROPS self.items self.place) × (pass.new ≡ pass.old)) }
+    {
+        match self.into_parts().into_vec_if_last_as(pass) {
+            Ok(Some(inner)) => Ok(Some(S::Vec::from_inner(inner))),
+            Ok(None) => Ok(None),
+            Err(parts) => Err(Self::from_parts(parts)),
+        }
+    }
+
+    /// Ends the window by one subtraction, where its items are all of a vector that has no places
+    /// more. The last owner gets them as a box; the others get nothing. No item is copied.
+    ///
+    /// # Errors
+    ///
+    /// The window, exactly on another block or none, and where the items are a part of the vector's
+    /// places alone. Nothing has happened then.
+    ///
+    /// # History
+    ///
+    /// Down. Refused, nothing.
+    pub fn into_boxed_if_last_as(self, pass: &mut Pass<H>) -> Result<Option<S::Boxed>, Self>
+    where
+        S: VecIn<A>,
+        requires pass { IsPassAt self.place pass.old }
+        ensures ended { IfOk result (λ last. IsBoxWhole self.items self.place
+            × LeavesLastAt self.place pass.old pass.new (is_some last)) }
+        ensures boxed { IfOk result (λ last. IfSome last (λ b. S.list_in_boxed b ≡ self.items)) }
+        ensures refused { IfErr result (λ window. (window ≡ self)
+            × (¬ IsBoxWhole self.items self.place) × (pass.new ≡ pass.old)) }
+    {
+        match self.into_parts().into_box_vec_if_last_as(pass) {
+            Ok(Some(inner)) => Ok(Some(S::Boxed::from_inner(inner.into_boxed_slice()))),
+            Ok(None) => Ok(None),
+            Err(parts) => Err(Self::from_parts(parts)),
+        }
+    }
+
     /// A window over all items of a vector: `try_from_vec_as` with a new pass.
     ///
     /// # Errors
@@ -286,5 +346,61 @@ impl<
         let taken = self.try_into_boxed_as(&mut pass);
         pass.show();
         taken
+    }
+
+    /// Ends the window, and the last owner gets the vector: `into_vec_if_last_as` with a new pass.
+    ///
+    /// # Errors
+    ///
+    /// Those of `into_vec_if_last_as`.
+    ///
+    /// # History
+    ///
+    /// That of `into_vec_if_last_as`.
+    pub fn into_vec_if_last(self) -> Result<Option<S::Vec>, Self>
+    where
+        H: Stepping,
+        S: VecIn<A>,
+        ensures ended { IfOk result (λ last. IsVecPart S.DROPS self.items self.place
+            × WithNewPass {H = H} H.real self.place (λ first now.
+            LeavesLastAt self.place first now (is_some last))) }
+        ensures vector { IfOk result (λ last. IfSome last (λ v. S.list_in_vec v ≡ self.items)) }
+        ensures places { IfOk result (λ last. IfSome last (λ v. (inner : Vec S.Item A)
+            × S.Vec.wraps v inner × (vec_capacity inner ≡ size_at self.place))) }
+        ensures refused { IfErr result (λ window. (window ≡ self)
+            × (¬ IsVecPart S.DROPS self.items self.place)
+            × WithNewPass {H = H} H.real self.place (λ first last. last ≡ first)) }
+    {
+        let mut pass = self.pass();
+        let ended = self.into_vec_if_last_as(&mut pass);
+        pass.show();
+        ended
+    }
+
+    /// Ends the window, and the last owner gets the box: `into_boxed_if_last_as` with a new pass.
+    ///
+    /// # Errors
+    ///
+    /// Those of `into_boxed_if_last_as`.
+    ///
+    /// # History
+    ///
+    /// That of `into_boxed_if_last_as`.
+    pub fn into_boxed_if_last(self) -> Result<Option<S::Boxed>, Self>
+    where
+        H: Stepping,
+        S: VecIn<A>,
+        ensures ended { IfOk result (λ last. IsBoxWhole self.items self.place
+            × WithNewPass {H = H} H.real self.place (λ first now.
+            LeavesLastAt self.place first now (is_some last))) }
+        ensures boxed { IfOk result (λ last. IfSome last (λ b. S.list_in_boxed b ≡ self.items)) }
+        ensures refused { IfErr result (λ window. (window ≡ self)
+            × (¬ IsBoxWhole self.items self.place)
+            × WithNewPass {H = H} H.real self.place (λ first last. last ≡ first)) }
+    {
+        let mut pass = self.pass();
+        let ended = self.into_boxed_if_last_as(&mut pass);
+        pass.show();
+        ended
     }
 }

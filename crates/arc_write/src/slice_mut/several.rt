@@ -1,9 +1,13 @@
 //! Windows of several writers on one block: how a window becomes one, and is its block's only owner
 //! again.
-ghost use Rattle.std.specs.Prelude.{◌≡◌, false, IfErr, IfOk, is_ok, ℕ};
-ghost use Rattle.arc_parts.specs.Shared.{as_shared, as_unique, AsksAlone, is_vector_at};
-ghost use Rattle.arc_parts.specs.Steps.{IsPassAt};
-ghost use Rattle.arc_parts.specs.Window.{IsOfBuffer};
+ghost use Rattle.std.specs.Prelude.{◌≡◌, false, IfErr, IfOk, IfSome, is_ok, is_some, ℕ};
+ghost use Rattle.arc_owners.specs.count.Calls.{IsFreshPass};
+ghost use Rattle.arc_block.specs.Block.{native};
+ghost use Rattle.arc_block.specs.Place.{at_owner};
+ghost use Rattle.arc_parts.specs.Shared.{as_shared, as_unique, AsksAlone, BecomesUnique};
+ghost use Rattle.arc_parts.specs.Shared.{is_vector_at};
+ghost use Rattle.arc_parts.specs.Steps.{IsPassAt, LeavesLastAt};
+ghost use Rattle.arc_parts.specs.Window.{IsOfBuffer, IsOfSort};
 ghost use Rattle.arc_parts.specs.Writers.{with_full};
 ghost use Rattle.arc_read.specs.Steps.{WithNewPass};
 
@@ -120,5 +124,68 @@ impl<
         let made = self.try_into_unique_as(&mut pass);
         pass.show();
         made
+    }
+
+    /// Ends the window by one subtraction, where it stands on a native block. The last owner gets
+    /// the block's memory: a window that is the only writer of the same items and places, on a new
+    /// block, and a pass of that. The others get nothing. It takes no memory.
+    ///
+    /// # Errors
+    ///
+    /// The window, exactly on nothing and on a vector, where it is by itself. Nothing has happened
+    /// then.
+    ///
+    /// # History
+    ///
+    /// Down. Refused, nothing.
+    pub fn into_unique_if_last_as(
+        self,
+        pass: &mut Pass<H>,
+    ) -> Result<Option<(ArcSliceMut<S, L, 1, B, M, A, H>, Pass<H>)>, Self>
+        requires pass { IsPassAt self.place pass.old }
+        ensures ended { IfOk result (λ last. IsOfSort native self.place
+            × LeavesLastAt self.place pass.old pass.new (is_some last)) }
+        ensures sole { IfOk result (λ last. IfSome last (λ r. BecomesUnique H.whole self r.0)) }
+        ensures pass { IfOk result (λ last. IfSome last (λ r.
+            at_owner r.0.place ⊥ (λ o. IsFreshPass o r.1))) }
+        ensures refused { IfErr result (λ back. (back ≡ self)
+            × (¬ IsOfSort native self.place) × (pass.new ≡ pass.old)) }
+    {
+        match self.into_parts().into_unique_if_last_as(pass) {
+            Ok(Some((parts, new))) => Ok(Some((ArcSliceMut::from_parts(parts), new))),
+            Ok(None) => Ok(None),
+            Err(parts) => Err(Self::from_parts(parts)),
+        }
+    }
+
+    /// Ends the window, and the last owner gets a window that is the only writer:
+    /// `into_unique_if_last_as` with a new pass.
+    ///
+    /// # Errors
+    ///
+    /// Those of `into_unique_if_last_as`.
+    ///
+    /// # History
+    ///
+    /// That of `into_unique_if_last_as`.
+    pub fn into_unique_if_last(self) -> Result<Option<ArcSliceMut<S, L, 1, B, M, A, H>>, Self>
+    where
+        H: Stepping,
+        ensures ended { IfOk result (λ last. IsOfSort native self.place
+            × WithNewPass {H = H} H.real self.place (λ first now.
+            LeavesLastAt self.place first now (is_some last))) }
+        ensures sole { IfOk result (λ last. IfSome last (λ sole.
+            BecomesUnique H.whole self sole)) }
+        ensures refused { IfErr result (λ back. (back ≡ self) × (¬ IsOfSort native self.place)
+            × WithNewPass {H = H} H.real self.place (λ first last. last ≡ first)) }
+    {
+        let mut pass = self.pass();
+        let ended = self.into_unique_if_last_as(&mut pass);
+        pass.show();
+        match ended {
+            Ok(Some((sole, _))) => Ok(Some(sole)),
+            Ok(None) => Ok(None),
+            Err(back) => Err(back),
+        }
     }
 }

@@ -1,10 +1,15 @@
 //! One of several writers, as the only one.
-ghost use Rattle.std.specs.Prelude.{◌≡◌, IfOk, IfErr, is_ok};
-ghost use Rattle.arc_parts.specs.Shared.{AsksAlone, as_unique};
-ghost use Rattle.arc_parts.specs.Steps.{IsPassAt};
+ghost use Rattle.std.specs.Prelude.{◌≡◌, IfOk, IfErr, IfSome, is_ok, is_some};
+ghost use Rattle.arc_owners.specs.count.Calls.{IsFreshPass};
+ghost use Rattle.arc_block.specs.Block.{native};
+ghost use Rattle.arc_block.specs.Place.{at_owner};
+ghost use Rattle.arc_parts.specs.Shared.{AsksAlone, as_unique, BecomesUnique};
+ghost use Rattle.arc_parts.specs.Steps.{IsPassAt, LeavesLastAt};
+ghost use Rattle.arc_parts.specs.Window.{IsOfSort};
 
 use super::{SharedParts, SharedStorage};
 use crate::sole::SoleParts;
+use arc_block::block::{MAX_OWNERS, NativeCount};
 use arc_buffer::buffer::BufferMut;
 use arc_buffer::kinds::Slice;
 use arc_owners::mark::Mark;
@@ -58,6 +63,50 @@ impl<S: Slice, B: BufferMut<S::Item> + Drop, M: Drop, A: Allocator + Copy, H: Ma
                     Err(Self::alone(alloc, parts))
                 }
             }
+        }
+    }
+
+    /// Ends the parts by one subtraction, where they stand on a native block. The last owner gets
+    /// its memory: he is the only writer of the same items and places, on a new block, of which he
+    /// gets a pass too. The others get nothing. It takes no memory.
+    ///
+    /// # Errors
+    ///
+    /// The parts, exactly on nothing and on a vector, where they are by themselves. Nothing has
+    /// happened then.
+    ///
+    /// # History
+    ///
+    /// Down. Refused, nothing.
+    pub fn into_unique_if_last_as(
+        self,
+        pass: &mut Pass<H>,
+    ) -> Result<Option<(SoleParts<S, B, M, A, H>, Pass<H>)>, Self>
+        requires pass { IsPassAt self.place pass.old }
+        ensures ended { IfOk result (λ last. IsOfSort native self.place
+            × LeavesLastAt self.place pass.old pass.new (is_some last)) }
+        ensures sole { IfOk result (λ last. IfSome last (λ r. BecomesUnique H.whole self r.0)) }
+        ensures pass { IfOk result (λ last. IfSome last (λ r.
+            at_owner r.0.place ⊥ (λ o. IsFreshPass o r.1))) }
+        ensures refused { IfErr result (λ back. (back ≡ self)
+            × (¬ IsOfSort native self.place) × (pass.new ≡ pass.old)) }
+    {
+        self.known_kind();
+        let SharedParts { on, alloc } = self;
+        match on {
+            SharedStorage::Several(writer) => {
+                let capacity = writer.capacity();
+                let _ = writer.start();
+                match writer.into_memory_if_last_as(pass) {
+                    Some(memory) => {
+                        let (count, new) = NativeCount::<MAX_OWNERS, H>::new();
+                        let parts = SoleNative::of_several(alloc, count, memory, capacity);
+                        Ok(Some((SoleParts::in_native(parts), new)))
+                    }
+                    None => Ok(None),
+                }
+            }
+            SharedStorage::Alone(parts) => Err(Self::alone(alloc, parts)),
         }
     }
 }
