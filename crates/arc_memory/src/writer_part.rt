@@ -91,9 +91,9 @@ impl<T, V: Drop, A: Allocator + Copy, const MAX: u64, H: Mark> WriterPart<T, V, 
         (OpenWriter { rest, out }, places)
     }
 
-    /// The first `at` places, and those behind them, with the items that lie there: two writers. One
-    /// of them is this one, of the front where `FRONT_STAYS`, else of the back; the other is one
-    /// owner more of the same block. Takes no memory.
+    /// The first `at` places, and those behind them, with the items that lie there: two writers.
+    /// One of them is this one, of the front where `FRONT_STAYS`, else of the back; the other is
+    /// one owner more of the same block. Takes no memory.
     ///
     /// # Errors
     ///

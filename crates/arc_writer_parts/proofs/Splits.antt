@@ -98,8 +98,8 @@ module _ {T M H : Type 0} (real : BlockId → ℕ → List Line → Type 0) (one
         whole = native_row v;
         between = between;
         stands = stands;
-        stays = kept
-            ∙ ap native_row (s ∙ f ∙ ap (λ o. record (front_writer at v) { owner = o }) owners.stays);
+        stays = kept ∙ ap native_row
+            (s ∙ f ∙ ap (λ o. record (front_writer at v) { owner = o }) owners.stays);
         items = ap (λ z. z.items) row;
         role = ap (λ z. z.role) row;
         shares = (back.owner, owners.made, ap (λ z. z.place) row);
@@ -110,8 +110,8 @@ module _ {T M H : Type 0} (real : BlockId → ℕ → List Line → Type 0) (one
         whole = native_row v;
         between = between;
         stands = stands;
-        stays = kept
-            ∙ ap native_row (s ∙ b ∙ ap (λ o. record (back_writer at v) { owner = o }) owners.stays);
+        stays = kept ∙ ap native_row
+            (s ∙ b ∙ ap (λ o. record (back_writer at v) { owner = o }) owners.stays);
         items = ap (λ z. z.items) row;
         role = ap (λ z. z.role) row;
         shares = (front.owner, owners.made, ap (λ z. z.place) row);
