@@ -143,6 +143,7 @@ where
         ensures refused { IfErr result (λ e. (self.new ≡ self.old)
             × RefusesSplitAt self.old.place pass.old pass.new e) }
     {
+        self.known_place();
         let Ok((writer, mut new)) = self.copied() else {
             return Err(OwnerError::AllocError);
         };
@@ -195,7 +196,8 @@ where
         ensures pass { IfOk result (λ r. IsFreshPass r.0.owner r.1) }
     {
         self.known_place();
-        SharedNative::try_copy(self.alloc, self.as_slice(), self.capacity())
+        let (writer, new) = SharedNative::try_copy(self.alloc, self.as_slice(), self.capacity())?;
+        Ok((writer, new))
     }
 
     /// This writer goes on in the place of the vector's, who ends as an owner of that.
