@@ -29,8 +29,7 @@ pub struct SharedWriter<T, V: Drop, A: Allocator + Copy, const MAX: u64, H: Mark
 }
 
 impl<T, V: Drop, A: Allocator + Copy, const MAX: u64, H: Mark> SharedWriter<T, V, A, MAX, H> {
-    ghost use Rattle.arc_owners.specs.count.Calls.{IsPassFor, Asks, MakesAnother, FindsFull};
-    ghost use Rattle.arc_owners.specs.count.Calls.{Leaves, Learns};
+    ghost use Rattle.arc_owners.specs.count.Calls.{IsPassFor, Asks, FindsFull, Leaves, Learns};
     ghost use Rattle.arc_owners.specs.memory.Boxes.{owner_in, value_of, place_in};
     ghost use Rattle.arc_owners.specs.memory.SoleBoxes.{sole_in, sole_value, sole_place};
     ghost use Rattle.arc_memory.specs.LentRanges.{part_range, front_range, back_range};
@@ -38,6 +37,7 @@ impl<T, V: Drop, A: Allocator + Copy, const MAX: u64, H: Mark> SharedWriter<T, V
     ghost use Rattle.arc_memory.specs.SharedWriters.{writer_owner, writer_value, writer_range};
     ghost use Rattle.arc_memory.specs.SharedWriters.{writer_place};
     ghost use Rattle.arc_memory.specs.SharedWriters.{writer_items, IsSameWriter, HasRange};
+    ghost use Rattle.arc_memory.specs.WriterParts.{SplitsOwner};
     ghost use Rattle.arc_memory.specs.LendsWriters.{LendsWriter};
     ghost use Rattle.std.specs.Borrow.{sem};
 
@@ -153,8 +153,9 @@ impl<T, V: Drop, A: Allocator + Copy, const MAX: u64, H: Mark> SharedWriter<T, V
         )
     }
 
-    /// This writer of the first `at` places, and another one of those behind them, with the items
-    /// that lie there: one owner more of the same block. Takes no memory.
+    /// The first `at` places, and those behind them, with the items that lie there: two writers.
+    /// One of them is this one, of the front where `FRONT_STAYS`, else of the back; the other is
+    /// one owner more of the same block. Takes no memory.
     ///
     /// # Errors
     ///
@@ -163,7 +164,7 @@ impl<T, V: Drop, A: Allocator + Copy, const MAX: u64, H: Mark> SharedWriter<T, V
     /// # History
     ///
     /// Up, or Full where refused.
-    pub fn try_split_off_as(
+    pub fn try_split_as<const FRONT_STAYS: bool>(
         self,
         rt: &impl Wait,
         at: usize,
@@ -171,10 +172,12 @@ impl<T, V: Drop, A: Allocator + Copy, const MAX: u64, H: Mark> SharedWriter<T, V
     ) -> Result<(Self, Self), (Self, CountFull)>
         requires pass { IsPassFor (writer_owner self) pass.old }
         requires at { at ≤ (writer_range self).count }
-        ensures made { IfOk result (λ r. MakesAnother (writer_owner self) pass.old pass.new
-            (writer_owner r.1) × (writer_value r.1 ≡ writer_value self)
+        ensures owners { IfOk result (λ r. SplitsOwner FRONT_STAYS (writer_owner self)
+            pass.old pass.new (writer_owner r.0) (writer_owner r.1)) }
+        ensures value { IfOk result (λ r. (writer_value r.0 ≡ writer_value self)
+            × (writer_value r.1 ≡ writer_value self)) }
+        ensures place { IfOk result (λ r. (writer_place r.0 ≡ writer_place self)
             × (writer_place r.1 ≡ writer_place self)) }
-        ensures stays { IfOk result (λ r. IsSameWriter self r.0) }
         ensures front { IfOk result (λ r. HasRange r.0 (front_range at (writer_range self))
             (take at (writer_items self))) }
         ensures back { IfOk result (λ r. HasRange r.1 (back_range at (writer_range self))
@@ -186,54 +189,11 @@ impl<T, V: Drop, A: Allocator + Copy, const MAX: u64, H: Mark> SharedWriter<T, V
         let (base, start) = (self.places.base(), self.places.start());
         let (len, capacity) = (self.places.len(), self.places.capacity());
         let (first, others) = cut_lengths(self.places.as_slice(), at);
-        match self.into_part().try_split_off_as(rt, at, pass) {
+        match self.into_part().try_split_as::<FRONT_STAYS>(rt, at, pass) {
             Ok((front, back)) => {
                 let front = unsafe { Self::of(front, base, start, first, at) };
                 let back = unsafe { Self::of(back, base, start + at, others, capacity - at) };
                 Ok((front, back))
-            }
-            Err((part, e)) => Err((unsafe { Self::of(part, base, start, len, capacity) }, e)),
-        }
-    }
-
-    /// This writer of the places behind the first `at`, and another one of these, with the items
-    /// that lie there: one owner more of the same block. Takes no memory.
-    ///
-    /// # Errors
-    ///
-    /// `CountFull` exactly where `MAX` owners live; the writer is handed back.
-    ///
-    /// # History
-    ///
-    /// Up, or Full where refused.
-    pub fn try_split_to_as(
-        self,
-        rt: &impl Wait,
-        at: usize,
-        pass: &mut Pass<H>,
-    ) -> Result<(Self, Self), (Self, CountFull)>
-        requires pass { IsPassFor (writer_owner self) pass.old }
-        requires at { at ≤ (writer_range self).count }
-        ensures made { IfOk result (λ r. MakesAnother (writer_owner self) pass.old pass.new
-            (writer_owner r.1) × (writer_value r.1 ≡ writer_value self)
-            × (writer_place r.1 ≡ writer_place self)) }
-        ensures stays { IfOk result (λ r. IsSameWriter self r.0) }
-        ensures back { IfOk result (λ r. HasRange r.0 (back_range at (writer_range self))
-            (drop at (writer_items self))) }
-        ensures front { IfOk result (λ r. HasRange r.1 (front_range at (writer_range self))
-            (take at (writer_items self))) }
-        ensures full { IfErr result (λ _. FindsFull (writer_owner self) pass.old pass.new) }
-        ensures kept { IfErr result (λ r. IsSameWriter self r.0
-            × HasRange r.0 (writer_range self) (writer_items self)) }
-    {
-        let (base, start) = (self.places.base(), self.places.start());
-        let (len, capacity) = (self.places.len(), self.places.capacity());
-        let (first, others) = cut_lengths(self.places.as_slice(), at);
-        match self.into_part().try_split_to_as(rt, at, pass) {
-            Ok((back, front)) => {
-                let back = unsafe { Self::of(back, base, start + at, others, capacity - at) };
-                let front = unsafe { Self::of(front, base, start, first, at) };
-                Ok((back, front))
             }
             Err((part, e)) => Err((unsafe { Self::of(part, base, start, len, capacity) }, e)),
         }

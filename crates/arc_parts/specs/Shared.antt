@@ -2,7 +2,7 @@
 -- and how they make room. None stands on a caller's buffer, and their items need no drop.
 use Rattle.std.specs.Prelude.{◌≡◌, ℕ, ◌+◌, ◌-◌, ◌<◌, ◌≤◌, ◌==◌, nat_lt, Bool, true, false, ◌&&◌}
 use Rattle.std.specs.Prelude.{◌++◌, length, List, Option, Some, None, Result, Ok, Err, take}
-use Rattle.std.specs.Prelude.{if◌then◌else◌}
+use Rattle.std.specs.Prelude.{if◌then◌else◌, not}
 use Rattle.arc_owners.specs.history.Histories.{Counted}
 use Rattle.arc_owners.specs.declared.error.OwnerError.{OwnerError}
 use Rattle.arc_owners.specs.declared.error.OwnerError.TheVariants as owner_error
@@ -71,6 +71,11 @@ module _ {N T M : Type 0} where
   -- places.
   abbrev pub extended : List T → RowOf N T M → RowOf N T M
   extended items w = record w { items = w.items ++ items }
+
+  -- the one or the other: the front, or the back
+  abbrev pub part_at : (front : Bool) → ℕ → RowOf N T M → RowOf N T M
+  part_at true at w = front_of at w
+  part_at false at w = after_advance at w
 
 -- Whether so many places from here on end where the other window begins, if it is one block on
 -- which both stand; or both stand on nothing.
@@ -169,6 +174,13 @@ module _ {T M : Type 0} where
       pub items : made.items ≡ (makes whole).items
       pub role : made.role ≡ (makes whole).role
       pub shares : Shares (makes whole).place between after made.place
+
+    -- the same by which part stays
+    abbrev pub SplitsWriterAt : (front_stays drops one_pass : Bool) → ℕ
+        → (w stays made : PartsView T M) → (before after : Pass H) → Type 0
+    SplitsWriterAt front_stays drops one_pass at w stays made before after =
+        SplitsWriter drops one_pass (part_at front_stays at) (part_at (not front_stays) at)
+        w stays made before after
 
     -- the part behind so many places was made, and the window keeps these
     abbrev pub SplitsWriterOff : (drops one_pass : Bool) → ℕ → (w front back : PartsView T M)

@@ -154,10 +154,7 @@ where
     ghost use Rattle.arc_owners.specs.count.Calls.{Leaves};
     ghost use Rattle.arc_slots.specs.Stands.{HasPassFor, is_numbered};
     ghost use Rattle.arc_slots.specs.Calls.{Along, AsksPlace, Beside, MayAsk, RefusesAt};
-    ghost use Rattle.arc_commands.specs.Changes.{cut_row, off_part, part_of, to_part};
-    ghost use Rattle.arc_commands.specs.Changes.{is_writable_at, may_write_at};
-    ghost use Rattle.arc_commands.specs.Changes.{truncated};
-    ghost use Rattle.arc_slots.specs.Splits.{IsSplit};
+    ghost use Rattle.arc_commands.specs.Changes.{is_writable_at, may_write_at, part_of, truncated};
     ghost use Rattle.arc_commands.specs.Blocks.{is_reader, is_several, is_small, is_sole};
     ghost use Rattle.arc_commands.specs.Blocks.{is_writer};
     ghost use Rattle.arc_slots.specs.Slots.{IsSlotRole, held, row_of, stand_of, window_in};
@@ -496,121 +493,6 @@ where
             }),
             Err(e) => Err(e),
         }
-    }
-
-    /// Splits the window at `at`, and hands out the back: at the front end that is the window
-    /// itself. Refused, the window is as before.
-    ///
-    /// # Errors
-    ///
-    /// Those of `try_clone`; none where one part has no items and the layout has static data.
-    ///
-    /// # Allocates
-    ///
-    /// Only where `try_clone` does.
-    ///
-    /// # History
-    ///
-    /// On a block that counts its owners Up, or Full where refused; none where one part has no
-    /// items and the layout has static data.
-    pub fn try_split_off(
-        &mut self,
-        rt: &impl Wait,
-        at: usize,
-        passes: &mut Passes<A>,
-    ) -> Result<Self, OwnerError>
-        requires reads { self.old.role ≡ reader }
-        requires at { IsEdge S.boundary self.old.window.items at }
-        requires pass { HasPassFor passes.old.of_blocks.items (stand_of (Some self.old)) }
-        ensures start { IfOk result (λ back. at ≡ 0 → IsSplit self.old back self.new
-            (row_of self.old) (off_part L.STATIC (row_of self.old) at)
-            passes.old.of_blocks.items passes.new.of_blocks.items) }
-        ensures later { IfOk result (λ back. 0 < at → IsSplit self.old self.new back
-            (cut_row (row_of self.old) 0 at) (off_part L.STATIC (row_of self.old) at)
-            passes.old.of_blocks.items passes.new.of_blocks.items) }
-        ensures kept { IfErr result (λ _. self.new ≡ self.old) }
-        ensures refused { IfErr result (RefusesAt L.clone_wants
-            (off_part L.STATIC (row_of self.old) at).place (stand_of (Some self.old))
-            passes.old.of_blocks.items passes.new.of_blocks.items) }
-    {
-        let block = self.block;
-        let Held::Read(front) = &mut self.window else {
-            unreachable!()
-        };
-        let mut pass = passes.lend(block);
-        let made = front.try_split_off_as(rt, at, &mut pass);
-        passes.give_back(block, pass);
-        let back = match made {
-            Ok(window) => window,
-            Err(e) => return Err(e),
-        };
-        if at == 0 {
-            self.block = part_block::<L>(block, front.len());
-            let window = Held::Read(back);
-            return Ok(Slot { window, block });
-        }
-        let block = part_block::<L>(block, back.len());
-        let window = Held::Read(back);
-        Ok(Slot { window, block })
-    }
-
-    /// Splits the window at `at`, and hands out the front: at the back end that is the window
-    /// itself. Refused, the window is as before.
-    ///
-    /// # Errors
-    ///
-    /// Those of `try_clone`; none where one part has no items and the layout has static data.
-    ///
-    /// # Allocates
-    ///
-    /// Only where `try_clone` does.
-    ///
-    /// # History
-    ///
-    /// On a block that counts its owners Up, or Full where refused; none where one part has no
-    /// items and the layout has static data.
-    pub fn try_split_to(
-        &mut self,
-        rt: &impl Wait,
-        at: usize,
-        passes: &mut Passes<A>,
-    ) -> Result<Self, OwnerError>
-        requires reads { self.old.role ≡ reader }
-        requires at { IsEdge S.boundary self.old.window.items at }
-        requires pass { HasPassFor passes.old.of_blocks.items (stand_of (Some self.old)) }
-        ensures end { IfOk result (λ front. at ≡ length self.old.window.items → IsSplit self.old
-            front self.new (row_of self.old) (to_part L.STATIC (row_of self.old) at)
-            passes.old.of_blocks.items passes.new.of_blocks.items) }
-        ensures earlier { IfOk result (λ front. at < length self.old.window.items → IsSplit
-            self.old self.new front
-            (cut_row (row_of self.old) at (length self.old.window.items))
-            (to_part L.STATIC (row_of self.old) at)
-            passes.old.of_blocks.items passes.new.of_blocks.items) }
-        ensures kept { IfErr result (λ _. self.new ≡ self.old) }
-        ensures refused { IfErr result (RefusesAt L.clone_wants
-            (to_part L.STATIC (row_of self.old) at).place (stand_of (Some self.old))
-            passes.old.of_blocks.items passes.new.of_blocks.items) }
-    {
-        let block = self.block;
-        let Held::Read(back) = &mut self.window else {
-            unreachable!()
-        };
-        let len = back.len();
-        let mut pass = passes.lend(block);
-        let made = back.try_split_to_as(rt, at, &mut pass);
-        passes.give_back(block, pass);
-        let front = match made {
-            Ok(window) => window,
-            Err(e) => return Err(e),
-        };
-        if len == at {
-            self.block = part_block::<L>(block, back.len());
-            let window = Held::Read(front);
-            return Ok(Slot { window, block });
-        }
-        let block = part_block::<L>(block, front.len());
-        let window = Held::Read(front);
-        Ok(Slot { window, block })
     }
 
     /// The window as one that is written, where its block may be written and no other owner of that

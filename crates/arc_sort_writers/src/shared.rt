@@ -4,7 +4,7 @@ ghost use Rattle.std.specs.Prelude.{◌≡◌, ◌==◌, ◌+◌, ◌-◌, ◌^�
 ghost use Rattle.std.specs.Prelude.{length, take, true, false, ◌&&◌, IfOk, IfErr, IfSome, is_ok};
 ghost use Rattle.std.specs.Prelude.{is_some};
 ghost use Rattle.arc_owners.specs.count.Calls.{IsPassFor, IsPassOfNone, IsNewPass, Learns};
-ghost use Rattle.arc_owners.specs.count.Calls.{MakesAnother, FindsFull, Leaves, EndsByItself};
+ghost use Rattle.arc_owners.specs.count.Calls.{FindsFull, Leaves, EndsByItself};
 ghost use Rattle.arc_owners.specs.count.Calls.{EndsShown, AsksAndLeaves};
 ghost use Rattle.arc_sort_writers.specs.NativeWriters.{front_writer, back_writer, joined_writer};
 ghost use Rattle.arc_sort_writers.specs.NativeWriters.{with_writer_items, native_writer_over};
@@ -19,6 +19,7 @@ ghost use Rattle.arc_memory.specs.Sources.{IsPiece};
 ghost use Rattle.arc_memory.specs.LentRanges.{part_range};
 ghost use Rattle.arc_memory.specs.SharedWriters.{writer_owner, writer_value, writer_place};
 ghost use Rattle.arc_memory.specs.SharedWriters.{writer_range, writer_items};
+ghost use Rattle.arc_memory.specs.WriterParts.{SplitsOwner};
 ghost use Rattle.arc_owners.specs.memory.Boxes.{owner_in, value_of, place_in};
 
 use arc_block::block::{MAX_OWNERS, NativeBlock, NativeCount};
@@ -260,8 +261,9 @@ impl<T: Drop, A: Allocator + Copy, H: Mark> SharedNative<T, A, H> {
         self.writer.advance(at);
     }
 
-    /// This writer of the first `at` places, and another one of those behind them: one owner more
-    /// of the same block. Takes no memory.
+    /// The first `at` places, and those behind them: two writers. One of them is this one, of the
+    /// front where `FRONT_STAYS`, else of the back; the other is one owner more of the same block.
+    /// Takes no memory.
     ///
     /// # Errors
     ///
@@ -271,7 +273,7 @@ impl<T: Drop, A: Allocator + Copy, H: Mark> SharedNative<T, A, H> {
     ///
     /// Up, or Full where refused.
     #[tactic(auto, using(crate::proofs::Takes::laid_alike))]
-    pub fn try_split_off_as(
+    pub fn try_split_as<const FRONT_STAYS: bool>(
         self,
         rt: &impl Wait,
         at: usize,
@@ -279,15 +281,17 @@ impl<T: Drop, A: Allocator + Copy, H: Mark> SharedNative<T, A, H> {
     ) -> Result<(Self, Self), (Self, CountFull)>
         requires pass { IsPassFor self.owner pass.old }
         requires at { at ≤ self.capacity }
-        ensures front { IfOk result (λ r. r.0 ≡ front_writer at self) }
+        ensures front { IfOk result (λ r.
+            r.0 ≡ record (front_writer at self) { owner = r.0.owner }) }
         ensures back { IfOk result (λ r.
-            (r.1 ≡ record (back_writer at self) { owner = r.1.owner })
-            × MakesAnother self.owner pass.old pass.new r.1.owner) }
+            r.1 ≡ record (back_writer at self) { owner = r.1.owner }) }
+        ensures owners { IfOk result (λ r. SplitsOwner FRONT_STAYS self.owner
+            pass.old pass.new r.0.owner r.1.owner) }
         ensures full { IfErr result (λ r. (r.0 ≡ self)
             × FindsFull self.owner pass.old pass.new) }
     {
         let SharedNative { writer, head } = self;
-        match writer.try_split_off_as(rt, at, pass) {
+        match writer.try_split_as::<FRONT_STAYS>(rt, at, pass) {
             Ok((front, back)) => {
                 let other = head.again();
                 Ok((
@@ -297,48 +301,6 @@ impl<T: Drop, A: Allocator + Copy, H: Mark> SharedNative<T, A, H> {
                     },
                     SharedNative {
                         writer: back,
-                        head: other,
-                    },
-                ))
-            }
-            Err((writer, e)) => Err((SharedNative { writer, head }, e)),
-        }
-    }
-
-    /// This writer of the places behind the first `at`, and another one of these: one owner more of
-    /// the same block. Takes no memory.
-    ///
-    /// # Errors
-    ///
-    /// `CountFull` exactly where `MAX_OWNERS` owners live; the writer is handed back.
-    ///
-    /// # History
-    ///
-    /// Up, or Full where refused.
-    #[tactic(auto, using(crate::proofs::Takes::laid_alike))]
-    pub fn try_split_to_as(
-        self,
-        rt: &impl Wait,
-        at: usize,
-        pass: &mut Pass<H>,
-    ) -> Result<(Self, Self), (Self, CountFull)>
-        requires pass { IsPassFor self.owner pass.old }
-        requires at { at ≤ self.capacity }
-        ensures back { IfOk result (λ r. r.0 ≡ back_writer at self) }
-        ensures front { IfOk result (λ r.
-            (r.1 ≡ record (front_writer at self) { owner = r.1.owner })
-            × MakesAnother self.owner pass.old pass.new r.1.owner) }
-        ensures full { IfErr result (λ r. (r.0 ≡ self)
-            × FindsFull self.owner pass.old pass.new) }
-    {
-        let SharedNative { writer, head } = self;
-        match writer.try_split_to_as(rt, at, pass) {
-            Ok((back, front)) => {
-                let other = head.again();
-                Ok((
-                    SharedNative { writer: back, head },
-                    SharedNative {
-                        writer: front,
                         head: other,
                     },
                 ))

@@ -60,7 +60,7 @@ impl<
         ensures refused { IfErr result (λ e. (self.new ≡ self.old)
             × RefusesSplitAt self.old.place pass.old pass.new e) }
     {
-        match self.parts.try_split_off_as(rt, at, pass) {
+        match self.parts.try_split_as::<true>(rt, at, pass) {
             Ok(back) => Ok(Self::from_parts(back)),
             Err(e) => Err(e),
         }
@@ -130,7 +130,7 @@ impl<
         ensures refused { IfErr result (λ e. (self.new ≡ self.old)
             × RefusesSplitAt self.old.place pass.old pass.new e) }
     {
-        match self.parts.try_split_to_as(rt, at, pass) {
+        match self.parts.try_split_as::<false>(rt, at, pass) {
             Ok(front) => Ok(Self::from_parts(front)),
             Err(e) => Err(e),
         }
