@@ -56,10 +56,6 @@ with_capacity (sole_writer before) capacity = sole_writer capacity
 with_capacity (one_writer_of_several before) capacity = one_writer_of_several capacity
 with_capacity role capacity = role
 
--- a writer without the last so many of his places
-abbrev pub with_fewer : {N T M : Type 0} → ℕ → RowOf N T M → RowOf N T M
-with_fewer less w = record w { role = with_capacity w.role (capacity_of w.role - less) }
-
 module _ {N M : Type 0} where
   -- where a writer of so many items, which stands here, has room for more of them
   abbrev pub room_at : (drops : Bool) → (first item_size : ℕ) → Place N M → (len additional : ℕ)
