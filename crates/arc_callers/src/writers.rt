@@ -77,12 +77,9 @@ pub fn set(window: &mut ArcBytesMut, at: usize, byte: u8)
 }
 
 /// Room for so many bytes more: whether it was found without memory, and then whether it is there.
-#[tactic(auto, using(crate::proofs::Reclaimed::found_alone))]
 pub fn room_made(window: &mut ArcBytesMut, more: usize) -> (bool, Result<(), TryReserveError>)
-    ensures found { result.0 ≡ true → IsOk result.1 }
-    ensures enough { OnOk result.1 (length window.new.items + more ≤ capacity_of window.new.role) }
+    ensures { OnOk result.1 (length window.new.items + more ≤ capacity_of window.new.role) }
 {
-    window.known_place();
     (window.try_reclaim(more), window.try_reserve(more))
 }
 
