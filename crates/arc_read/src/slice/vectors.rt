@@ -52,9 +52,9 @@ impl<
     }
 
     /// A window over all items of a vector, on a block that is the vector, with its places: no item
-    /// is copied. One without places is as a list of no items, which stands on nothing where the
-    /// layout has static data, else on a native block of no places. The pass, which is of no block,
-    /// becomes the block's; the window is owner 0.
+    /// is copied. A vector without places makes the window that no items make by
+    /// `try_from_slice_as`. The pass, which is of no block, becomes the block's; the window is
+    /// owner 0.
     ///
     /// # Errors
     ///
@@ -83,18 +83,19 @@ impl<
     }
 
     /// A window over all items of a box, on a block that is the box as a vector with exactly a
-    /// place for each. No item is copied, but from a box whose memory has spare places, which is
-    /// cut to its items first, by one copy. No items are as those of `try_from_vec_as` without
-    /// places. The pass, which is of no block, becomes the block's; the window is owner 0.
+    /// place for each. No item is copied, unless the box's memory has spare places: then all are
+    /// first moved to memory without any. A box without items makes the window that no items make
+    /// by `try_from_slice_as`. The pass, which is of no block, becomes the block's; the window is
+    /// owner 0.
     ///
     /// # Errors
     ///
-    /// A box of the same items comes back where memory for the count, or for that copy, is refused;
+    /// A box of the same items comes back where memory for the count or for that move is refused;
     /// the pass is then as before.
     ///
     /// # Allocates
     ///
-    /// Once, where a block is needed, and once more for that copy.
+    /// Once, where a block is needed, and once more for that move.
     pub fn try_from_boxed_as(
         alloc: A,
         items: S::Boxed,
@@ -124,13 +125,13 @@ impl<
     ///
     /// # Errors
     ///
-    /// The window, on another block or none, where another owner lives, and where items that are
-    /// dropped one by one are a part alone.
+    /// The window comes back where it stands on no vector, where items that are dropped one by one
+    /// are only a part of the vector, and where another owner lives.
     ///
     /// # History
     ///
-    /// Taken, Alone and Down. Refused, Alone with no where only the count could decide, and else
-    /// nothing.
+    /// Taken: Alone with yes, then Down. Refused: Alone with no, where only the count could decide;
+    /// else nothing.
     pub fn try_into_vec_as(self, pass: &mut Pass<H>) -> Result<S::Vec, Self>
     where
         S: VecIn<A>,
@@ -149,18 +150,18 @@ impl<
         }
     }
 
-    /// The items as a box, where they are all of a vector that has no places more, and no other
-    /// owner lives. No item is copied.
+    /// The items as a box, where they are all of a vector without spare places, and no other owner
+    /// lives. No item is copied.
     ///
     /// # Errors
     ///
-    /// The window, on another block or none, where another owner lives, and where the items are a
-    /// part of the vector's places alone.
+    /// The window comes back where it stands on no vector, where the items don't fill all places of
+    /// the vector, and where another owner lives.
     ///
     /// # History
     ///
-    /// Taken, Alone and Down. Refused, Alone with no where only the count could decide, and else
-    /// nothing.
+    /// Taken: Alone with yes, then Down. Refused: Alone with no, where only the count could decide;
+    /// else nothing.
     pub fn try_into_boxed_as(self, pass: &mut Pass<H>) -> Result<S::Boxed, Self>
     where
         S: VecIn<A>,
@@ -177,19 +178,19 @@ impl<
         }
     }
 
-    /// Ends the window by one subtraction, where its block is a vector. The last owner gets the
-    /// vector, with the window's items moved to its front; the others get nothing. So of owners
-    /// that all end by this call exactly one gets it. Items that are dropped one by one have to be
-    /// all of the vector.
+    /// Ends the window, where its block is a vector, by one subtraction from the count. The last
+    /// owner gets the vector, with the window's items moved to its front, and every other one
+    /// `None`. So of owners that all end by this call exactly one gets it. Items that are dropped
+    /// one by one have to be all of the vector.
     ///
     /// # Errors
     ///
-    /// The window, exactly on another block or none, and where items that are dropped one by one are
-    /// a part alone. Nothing has happened then.
+    /// The window comes back exactly where it stands on no vector, or where items that are dropped
+    /// one by one are only a part of the vector. Nothing is done then.
     ///
     /// # History
     ///
-    /// Down. Refused, nothing.
+    /// Down; nothing on an error.
     pub fn into_vec_if_last_as(self, pass: &mut Pass<H>) -> Result<Option<S::Vec>, Self>
     where
         S: VecIn<A>,
@@ -209,17 +210,18 @@ impl<
         }
     }
 
-    /// Ends the window by one subtraction, where its items are all of a vector that has no places
-    /// more. The last owner gets them as a box; the others get nothing. No item is copied.
+    /// Ends the window, where its items are all of a vector without spare places, by one
+    /// subtraction from the count. The last owner gets them as a box, and every other one `None`.
+    /// No item is copied.
     ///
     /// # Errors
     ///
-    /// The window, exactly on another block or none, and where the items are a part of the vector's
-    /// places alone. Nothing has happened then.
+    /// The window comes back exactly where it stands on no vector, or where the items don't fill
+    /// all places of the vector. Nothing is done then.
     ///
     /// # History
     ///
-    /// Down. Refused, nothing.
+    /// Down; nothing on an error.
     pub fn into_boxed_if_last_as(self, pass: &mut Pass<H>) -> Result<Option<S::Boxed>, Self>
     where
         S: VecIn<A>,
@@ -237,7 +239,8 @@ impl<
         }
     }
 
-    /// A window over all items of a vector: `try_from_vec_as` with a new pass.
+    /// A window over all items of a vector, of which none is copied: `try_from_vec_as` with a new
+    /// pass.
     ///
     /// # Errors
     ///
@@ -269,11 +272,11 @@ impl<
     ///
     /// # Errors
     ///
-    /// A box of the same items comes back where memory is refused.
+    /// A box of the same items comes back where memory for the count or for that move is refused.
     ///
     /// # Allocates
     ///
-    /// That of `try_from_boxed_as`.
+    /// Once, where a block is needed, and once more for that move.
     pub fn try_from_boxed(alloc: A, items: S::Boxed) -> Result<Self, S::Boxed>
     where
         L: AnyBufferLayout,
@@ -292,15 +295,17 @@ impl<
         made
     }
 
-    /// The items as their block's vector: `try_into_vec_as` with a new pass.
+    /// The items as their block's vector, moved to its front: `try_into_vec_as` with a new pass.
     ///
     /// # Errors
     ///
-    /// Those of `try_into_vec_as`.
+    /// The window comes back where it stands on no vector, where items that are dropped one by one
+    /// are only a part of the vector, and where another owner lives.
     ///
     /// # History
     ///
-    /// That of `try_into_vec_as`.
+    /// Taken: Alone with yes, then Down. Refused: Alone with no, where only the count could decide;
+    /// else nothing.
     pub fn try_into_vec(self) -> Result<S::Vec, Self>
     where
         H: Stepping,
@@ -321,15 +326,17 @@ impl<
         taken
     }
 
-    /// The items as a box: `try_into_boxed_as` with a new pass.
+    /// The items as a box, of which none is copied: `try_into_boxed_as` with a new pass.
     ///
     /// # Errors
     ///
-    /// Those of `try_into_boxed_as`.
+    /// The window comes back where it stands on no vector, where the items don't fill all places of
+    /// the vector, and where another owner lives.
     ///
     /// # History
     ///
-    /// That of `try_into_boxed_as`.
+    /// Taken: Alone with yes, then Down. Refused: Alone with no, where only the count could decide;
+    /// else nothing.
     pub fn try_into_boxed(self) -> Result<S::Boxed, Self>
     where
         H: Stepping,
@@ -348,15 +355,17 @@ impl<
         taken
     }
 
-    /// Ends the window, and the last owner gets the vector: `into_vec_if_last_as` with a new pass.
+    /// Ends the window, and gives the vector to the last owner: `into_vec_if_last_as` with a new
+    /// pass.
     ///
     /// # Errors
     ///
-    /// Those of `into_vec_if_last_as`.
+    /// The window comes back exactly where it stands on no vector, or where items that are dropped
+    /// one by one are only a part of the vector. Nothing is done then.
     ///
     /// # History
     ///
-    /// That of `into_vec_if_last_as`.
+    /// Down; nothing on an error.
     pub fn into_vec_if_last(self) -> Result<Option<S::Vec>, Self>
     where
         H: Stepping,
@@ -377,15 +386,17 @@ impl<
         ended
     }
 
-    /// Ends the window, and the last owner gets the box: `into_boxed_if_last_as` with a new pass.
+    /// Ends the window, and gives the box to the last owner: `into_boxed_if_last_as` with a new
+    /// pass.
     ///
     /// # Errors
     ///
-    /// Those of `into_boxed_if_last_as`.
+    /// The window comes back exactly where it stands on no vector, or where the items don't fill
+    /// all places of the vector. Nothing is done then.
     ///
     /// # History
     ///
-    /// That of `into_boxed_if_last_as`.
+    /// Down; nothing on an error.
     pub fn into_boxed_if_last(self) -> Result<Option<S::Boxed>, Self>
     where
         H: Stepping,
