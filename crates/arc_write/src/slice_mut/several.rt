@@ -27,12 +27,12 @@ impl<
     A: Allocator + Copy,
     H: Mark,
 > ArcSliceMut<S, L, 1, B, M, A, H> {
-    /// The same window, as one of several writers from now on: it may be split, and others may
-    /// write their own places of its block. It adds nothing and takes no memory.
+    /// The same window, as one of several writers: it may be split, and others may then write their
+    /// own places of its block. It adds no entry and takes no memory.
     ///
     /// # Errors
     ///
-    /// The window, exactly where it stands on a caller's buffer.
+    /// The window comes back exactly where it stands on a caller's buffer.
     pub fn into_shared(self) -> Result<ArcSliceMut<S, L, 0, B, M, A, H>, Self>
     where
         S: Shareable,
@@ -78,16 +78,16 @@ impl<
     }
 
     /// The same window, as its block's only writer, where it stands on a block that no other owner
-    /// has. It keeps its places; those behind them come where room is asked for. It takes no
-    /// memory.
+    /// has. It keeps its places; those of the block behind them become its own where room is asked
+    /// for. It takes no memory.
     ///
     /// # Errors
     ///
-    /// The window, on no block, and where another owner lives.
+    /// The window comes back on no block, and where another owner lives.
     ///
     /// # History
     ///
-    /// On a block Alone with the answer.
+    /// On a block: Alone with the answer.
     pub fn try_into_unique_as(
         self,
         pass: &mut Pass<H>,
@@ -107,11 +107,11 @@ impl<
     ///
     /// # Errors
     ///
-    /// Those of `try_into_unique_as`.
+    /// The window comes back on no block, and where another owner lives.
     ///
     /// # History
     ///
-    /// That of `try_into_unique_as`.
+    /// On a block: Alone with the answer.
     pub fn try_into_unique(self) -> Result<ArcSliceMut<S, L, 1, B, M, A, H>, Self>
     where
         H: Stepping,
@@ -126,18 +126,18 @@ impl<
         made
     }
 
-    /// Ends the window by one subtraction, where it stands on a native block. The last owner gets
-    /// the block's memory: a window that is the only writer of the same items and places, on a new
-    /// block, and a pass of that. The others get nothing. It takes no memory.
+    /// Ends the window, where it stands on a native block, by one subtraction from the count. The
+    /// last owner gets the block's memory: a window that is the only writer of the same items and
+    /// places, on a new block, and a pass of that. Every other one gets `None`. It takes no memory.
     ///
     /// # Errors
     ///
-    /// The window, exactly on nothing and on a vector, where it is by itself. Nothing has happened
-    /// then.
+    /// The window comes back exactly on nothing and on a vector, where it has no other owner beside
+    /// it. Nothing is done then.
     ///
     /// # History
     ///
-    /// Down. Refused, nothing.
+    /// Down; nothing on an error.
     pub fn into_unique_if_last_as(
         self,
         pass: &mut Pass<H>,
@@ -158,16 +158,17 @@ impl<
         }
     }
 
-    /// Ends the window, and the last owner gets a window that is the only writer:
+    /// Ends the window, and gives the last owner one that is the only writer:
     /// `into_unique_if_last_as` with a new pass.
     ///
     /// # Errors
     ///
-    /// Those of `into_unique_if_last_as`.
+    /// The window comes back exactly on nothing and on a vector, where it has no other owner beside
+    /// it. Nothing is done then.
     ///
     /// # History
     ///
-    /// That of `into_unique_if_last_as`.
+    /// Down; nothing on an error.
     pub fn into_unique_if_last(self) -> Result<Option<ArcSliceMut<S, L, 1, B, M, A, H>>, Self>
     where
         H: Stepping,
