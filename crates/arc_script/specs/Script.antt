@@ -1,4 +1,4 @@
--- Scripts: the lines of an input, what each is answered, and what is written.
+-- Scripts: the lines of an input, what each of them is answered, and what is written.
 use Rattle.std.specs.Prelude.{◌≡◌, ℕ, Bool, true, false, List, [], ◌∷◌, ◌++◌, Option, Some}
 use Rattle.std.specs.Prelude.{None, map, ◌⊎◌, ⊤}
 use Rattle.std.specs.Prelude.{flat_map, Contains}
@@ -24,7 +24,7 @@ ended lines = flat_map (λ line. line ++ line_feed ∷ []) lines
 abbrev pub HasNoFeed : List ℕ → Type 0
 HasNoFeed line = ¬ Contains line line_feed
 
--- what stands behind the last line feed is a line unless it is empty
+-- what is behind the last line feed: a line, unless it is empty
 abbrev pub last_line : List ℕ → List (List ℕ)
 last_line [] = []
 last_line (byte ∷ bytes) = (byte ∷ bytes) ∷ []
@@ -38,16 +38,16 @@ pub record AreLines (input : List ℕ) (lines : List (List ℕ)) : Type 0 where
   pub last : HasNoFeed rest
   pub are : lines ≡ whole ++ last_line rest
 
--- A byte window may be cut anywhere; an item is one byte and has a zero; the calls are those of
--- plain data, and a window may have a few items in itself.
+-- The setting of byte windows: they may be cut anywhere, an item is one byte and has a zero, the
+-- calls are those of plain data, and a small window may have a few items in itself.
 abbrev pub byte_setting : LayoutFacts → (writes_any : Bool) → (clone_wants : Sort → Bool)
     → Setting ℕ
 byte_setting layout writes_any clone_wants =
     setting_of layout writes_any clone_wants false (λ items at. true) 1 (Some 0)
     (calls_of plain_kind true)
 
--- it goes together with the whole lines of an input, those that end by a line feed; what stands
--- behind the last line feed is left
+-- The text fits the whole lines of an input, those that end by a line feed. What is behind the last
+-- line feed is left out.
 pub record OfWholeLines (fits : List ℕ → List ℕ → Type 0) (input text : List ℕ) : Type 0 where
   pub whole : List (List ℕ)
   pub rest : List ℕ
@@ -55,7 +55,7 @@ pub record OfWholeLines (fits : List ℕ → List ℕ → Type 0) (input text : 
   pub last : HasNoFeed rest
   pub fit : fits (ended whole) text
 
--- static data, and blocks of a caller's making
+-- layouts with static data, and with blocks of a caller's making
 abbrev pub of_any : (by_itself : Bool) → (lone : ℕ → ℕ → Bool) → LayoutFacts
 of_any by_itself lone = record {
   has_static = true;
@@ -64,9 +64,9 @@ of_any by_itself lone = record {
   lone = lone;
 }
 
--- What a script's tables are run under, by its layout: each has static data, and blocks may be of a
--- caller's making, for readers and writers. Clones may want memory on vectors, on an `Arc` that is
--- a block by itself, or on none.
+-- The setting of a script's tables, by its layout. Each has static data, and blocks may be of a
+-- caller's making, for readers and writers. Which clones may be refused for memory is what the
+-- layouts say: on vectors, on an `Arc` that is a block by itself, or none.
 abbrev pub script_setting : ScriptLayout → Setting ℕ
 script_setting under.Arc = byte_setting (of_any false never) true (λ sort. false)
 script_setting under.Boxed =
@@ -78,8 +78,8 @@ script_setting under.Raw = byte_setting (of_any true never) true (clones_want fa
 abbrev pub ByteTable : Type 0
 ByteTable = Table ℕ ℕ
 
--- what a line is answered: one step of the command that it says, or None where it says none and
--- nothing changes
+-- the answer to a line: the reply of one step of the command that it says, or None where it says
+-- none and nothing changes
 abbrev pub AnswersBy : {S : Type 0}
     → (S → ByteCmd → ByteReply → S → Type 0) → S → List ℕ
     → Option ByteReply → S → Type 0
@@ -87,9 +87,9 @@ AnswersBy step old line (Some reply) new = (c : ByteCmd) × Says line c
     × step old c reply new
 AnswersBy step old line None new = IsBad line × (new ≡ old)
 
--- What a fault may leave unwritten of the replies: nothing where a read failed, one reply at most
--- where memory was refused, which may have been refused for that reply, and anything where a write
--- failed.
+-- What a fault may leave unwritten of the replies to the lines that were answered: nothing where a
+-- read failed; at most the last one where memory was refused, perhaps for that reply; anything
+-- where a write failed.
 abbrev pub MayLack : ScriptError → List ℕ → Type 0
 MayLack Read unwritten = unwritten ≡ []
 MayLack Write unwritten = ⊤
@@ -102,8 +102,8 @@ module _ (layout : ScriptLayout) where
   abbrev pub Answers : ByteTable → List ℕ → Option ByteReply → ByteTable → Type 0
   Answers old line answer new = AnswersBy (Step (script_setting layout)) old line answer new
 
-  -- what is written for an input: the replies of a run over its lines, from no window on, each with
-  -- a line feed
+  -- what is written for an input: the replies of a run over its lines from the empty table, each
+  -- with a line feed
   pub record IsReplyText (input text : List ℕ) : Type 0 where
     pub lines : List (List ℕ)
     pub replies : List (Option ByteReply)
@@ -121,8 +121,8 @@ module _ (layout : ScriptLayout) where
     pub rest : List ℕ
     pub whole : IsReplyText input (text ++ rest)
 
-  -- what is written for an input when a fault came: the replies to the first of its lines, but for
-  -- what the fault may have left unwritten
+  -- What is written for an input where a fault came: the replies to some first lines, but for what
+  -- the fault may leave unwritten. How many lines that are, it doesn't say.
   pub record BreaksOff (fault : ScriptError) (input text : List ℕ) : Type 0 where
     pub lines : List (List ℕ)
     pub left : List (List ℕ)

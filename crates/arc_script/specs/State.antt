@@ -18,7 +18,7 @@ module _ (layout : ScriptLayout) where
   CarriesOutSaid old None None new = new ≡ old
   CarriesOutSaid old said answer new = ⊥
 
-  -- what a line is answered, where the command that it says is carried out
+  -- the answer to a line, where the command that it says is carried out
   abbrev pub AnswersLine : ByteState → List ℕ → Option ByteReply → ByteState
       → Type 0
   AnswersLine old line answer new =

@@ -1,5 +1,5 @@
--- A script that is being run: what was read and written so far, what is still held, and what the
--- commands did to the windows and to the histories of their blocks.
+-- A script that is being run: what is read and written, what is still held, and what the commands
+-- did to the windows and to the histories of their blocks.
 use Rattle.std.specs.Prelude.{◌≡◌, ℕ, ◌<◌, Bool, true, false, List, [], ◌∷◌, ◌++◌, map, length}
 use Rattle.std.specs.Prelude.{Option, ◌⊎◌}
 use Rattle.std.specs.List.{AllByRecursion}
@@ -15,15 +15,15 @@ use Rattle.arc_forms.specs.Commands.{ByteCmd, ByteReply}
 use Rattle.arc_script.specs.declared.script.ScriptError.{ScriptError}
 use Rattle.arc_script.specs.declared.layout.ScriptLayout.{ScriptLayout}
 
--- what is held of the line that is coming: all of it, or only that it is too long
+-- what is held of the line that is being read: all of it, or only that it is too long
 abbrev pub Holds : List ℕ → Bool → List ℕ → Type 0
 Holds held false line = held ≡ line
 Holds held true line = longest_line < length line
 
 -- under this layout
 module _ (layout : ScriptLayout) where
-  -- From no window on, a run over the lines of the input, but for those that are left, led to this
-  -- state. Its replies are the text and what is unwritten.
+  -- A run from the empty table over the lines of the input, but for those that are left, led to
+  -- this state. Its replies are the text and what is unwritten.
   pub record HasRun (state : ByteState) (input text : List ℕ) (left : List (List ℕ))
       (unwritten : List ℕ) : Type 0 where
     pub lines : List (List ℕ)
@@ -36,7 +36,7 @@ module _ (layout : ScriptLayout) where
   abbrev pub IsThrough : ByteState → List ℕ → List ℕ → Type 0
   IsThrough state input text = HasRun state input text [] []
 
-  -- it was broken off by this fault
+  -- the run ended by this fault
   abbrev pub IsBrokenOff : ScriptError → ByteState → List ℕ → List ℕ → Type 0
   IsBrokenOff fault state input text = (left : List (List ℕ)) × (unwritten : List ℕ)
       × HasRun state input text left unwritten × MayLack fault unwritten
@@ -47,8 +47,9 @@ module _ (layout : ScriptLayout) where
   ThenEnds ran passes input text = (state : ByteState) × ran state input text
       × EndsWith (script_setting layout) state passes
 
-  -- Since the writer had taken start, this input was read. Each of its whole lines is answered: the
-  -- replies were taken, but for those in out. Behind the whole lines stands what came of the next.
+  -- This input was read since the moment when the writer had taken start. Each of its whole lines
+  -- is answered: the replies were taken, but for those in out. Behind the whole lines is the
+  -- beginning of the next.
   pub record IsUnderway (start input : List ℕ) (writer : Traffic) (out : List ℕ) (state : ByteState)
       (held : List ℕ) (too_long : Bool) : Type 0 where
     pub text : List ℕ
@@ -63,17 +64,17 @@ module _ (layout : ScriptLayout) where
     pub run : RunOf (AnswersLine layout) empty_state whole replies state
     pub written : text ++ out ≡ ended (map answer_text replies)
 
-  -- Since the writer had taken start, this input was read to its end, and all lines are answered:
-  -- the replies were taken, but for those in out.
+  -- This input was read to its end since the moment when the writer had taken start. All lines are
+  -- answered: the replies were taken, but for those in out.
   pub record IsAnswered (start input : List ℕ) (writer : Traffic) (out : List ℕ) (state : ByteState)
       : Type 0 where
     pub text : List ℕ
     pub taken : writer.bytes ≡ start ++ text
     pub all : HasRun state input text [] out
 
-  -- Since the writer had taken start, this input was read, and some first lines were answered, when
-  -- this fault came. A beginning of the replies was taken; behind it come those in out, and then
-  -- what the fault left out of them.
+  -- This input was read since the moment when the writer had taken start, and some first lines were
+  -- answered, when this fault came. A beginning of the replies was taken. Behind it come those in
+  -- out, and then what the fault left out of them.
   pub record IsBegun (fault : ScriptError) (start input : List ℕ) (writer : Traffic) (out : List ℕ)
       (state : ByteState) : Type 0 where
     pub text : List ℕ
@@ -83,27 +84,27 @@ module _ (layout : ScriptLayout) where
     pub begins : HasRun state input text left (out ++ lacking)
     pub lacks : MayLack fault lacking
 
-  -- whatever line was held, it is answered so
+  -- this is the answer to whatever line was held
   abbrev pub AnswersHeld : List ℕ → Bool → ByteState → Option ByteReply → ByteState
       → Type 0
   AnswersHeld held too_long old answer new =
       (line : List ℕ) → Holds held too_long line → AnswersLine layout old line answer new
 
-  -- What a line was read as is carried out, and what it is answered stands in out too.
+  -- The command that a line was read as is carried out, and its reply is in out too.
   pub record AnswersInto (said : Option (ByteCmd)) (old new : ByteState)
       (out out' : List ℕ) : Type 0 where
     pub answer : Option ByteReply
     pub does : CarriesOutSaid layout old said answer new
     pub appended : out' ≡ out ++ (answer_text answer ++ line_feed ∷ [])
 
-  -- The line that was held is answered, in out too.
+  -- The line that was held is answered, and the reply is in out too.
   pub record Ends (held : List ℕ) (too_long : Bool) (old new : ByteState)
       (out out' : List ℕ) : Type 0 where
     pub answer : Option ByteReply
     pub answered : AnswersHeld held too_long old answer new
     pub appended : out' ≡ out ++ (answer_text answer ++ line_feed ∷ [])
 
-  -- The line that was held isn't answered, or is, but not in out.
+  -- The line that was held isn't answered, or it is and the reply isn't in out.
   abbrev pub MayEnd : List ℕ → Bool → ByteState → ByteState → Type 0
   MayEnd held too_long old new =
       (new ≡ old) ⊎ ((answer : Option ByteReply)

@@ -26,15 +26,15 @@ use storms::{run_storm, workers_of};
 
 pub mod storms;
 
-/// How long a word of the program's may be, in bytes: each that it knows is shorter.
+/// How many bytes are read of a word at most. Each word that the program knows is shorter.
 const WORD: usize = 64;
 
-/// What a program was started with.
+/// The arguments with which a program is started.
 pub trait Arguments {
     ghost use Rattle.std.specs.Io.{WritesAtMost};
     ghost use Rattle.arc_script.specs.Arguments.{Answer, filled};
 
-    /// What may be answered for an argument: by its number, and the room that there is for it.
+    /// What `arg` may answer for an argument, by its number and the room that it gets.
     ghost answers: { Self → ℕ → ℕ → Answer → Type 0 };
 
     /// Writes argument `i` to the front of `buf`, and answers its length.
@@ -47,11 +47,11 @@ pub trait Arguments {
         ensures answer { answers self.now i (length buf.new) (filled result buf.new) };
 }
 
-/// The arguments that the system gives. Of them nothing is known: std's contract says no more than
-/// how long an answer is.
+/// The arguments that the system gives. Nothing is known of them but how long an answer is, as
+/// std's contract says.
 #[derive(Clone, Copy)]
 pub struct OfSystem<'a, E> {
-    /// Where the system's arguments are asked for.
+    /// What gives the system's arguments.
     pub env: &'a E,
 }
 
@@ -63,7 +63,7 @@ impl<E: Env> Arguments for OfSystem<'_, E> {
     }
 }
 
-/// The line in which a fault is told.
+/// The line on standard error for a fault.
 fn fault_line(error: ScriptError) -> &'static [u8]
     ensures { result.now ≡ fault_text error }
 {
@@ -74,8 +74,7 @@ fn fault_line(error: ScriptError) -> &'static [u8]
     }
 }
 
-/// Writes a line to standard error, as far as it takes it: whether all of it was written changes
-/// nothing.
+/// Writes a line to standard error. Where a write of it fails nothing is done about that.
 fn tell<F: Sink>(faults: &mut F, line: &[u8])
     ensures told { Tells line.now (F.traffic faults.old) (F.traffic faults.new) }
     ensures line_taken { Takes (F.traffic faults.old) (F.traffic faults.new)
@@ -84,8 +83,8 @@ fn tell<F: Sink>(faults: &mut F, line: &[u8])
     let _ = write_out(faults, line);
 }
 
-/// The status that a fault ends with, and its line on standard error. A failed write of the line
-/// changes no status.
+/// Writes the line of a fault to standard error, and answers the status of the fault. A write of
+/// that line that fails changes no status.
 fn report<F: Sink>(faults: &mut F, error: ScriptError) -> u8
     ensures status { result ≡ status_of (Err error) }
     ensures told { Tells (fault_text error) (F.traffic faults.old) (F.traffic faults.new) }
@@ -100,15 +99,17 @@ fn report<F: Sink>(faults: &mut F, error: ScriptError) -> u8
     }
 }
 
-/// Runs the program on its words, and answers its status.
+/// Runs the program on its words, and answers its status:
 ///
-/// For one word that stands for a layout, `arc`, `boxed`, `vec` or `raw`, it runs the script that
-/// the reader gives with windows under that: 0 where all of it was answered,
-/// 1 where memory was refused, 3 where a read failed, 4 where a write failed or took nothing. For
-/// `storm` with a number from 1 to 64 so many threads clone one window; it writes the vector that
-/// comes back: 0 where that was written, 1 where something was refused, 4 where the write failed;
-/// no input is read. A fault is told to `faults` in one line. For any other words it tells the
-/// usage there, and answers 2 before any input is read.
+/// - For the one word `arc`, `boxed`, `vec` or `raw` it runs the script that the reader gives, with
+///   windows under that layout. 0: all of it is answered. 1: memory is refused. 3: a read fails. 4:
+///   a write fails or takes nothing.
+/// - For `storm` and a number from 1 to 64, as many threads clone one window, and the vector that
+///   comes back is written. No input is read. 0: that is written. 1: something is refused. 4: the
+///   write fails or takes nothing.
+/// - For any other words it writes the usage to `faults`. 2, before any input is read.
+///
+/// With status 1, 3 and 4 it writes one line to `faults`, which says why.
 ///
 /// # Allocates
 ///
@@ -175,7 +176,7 @@ fn word_for(layout: ScriptLayout) -> &'static str
     }
 }
 
-/// The layout for which the words ask, `None` where they are no one word for one.
+/// The layout whose word is the only one of these, or `None`.
 #[tactic(auto, using(crate::proofs::Layouts::asks_for_none))]
 fn layout_of(words: &[String]) -> Option<ScriptLayout>
     ensures { MatchOption result ((layout : ScriptLayout) → ¬ AsksFor layout words.now)
@@ -196,7 +197,7 @@ fn layout_of(words: &[String]) -> Option<ScriptLayout>
     None
 }
 
-/// The text of some bytes, empty where they are none.
+/// The bytes as text; empty where they aren't UTF-8.
 fn text_of(bytes: &[u8]) -> &str
     ensures { IsTextOf bytes.now result.now }
 {
@@ -206,7 +207,7 @@ fn text_of(bytes: &[u8]) -> &str
     }
 }
 
-/// The word of argument `i`, if there is one.
+/// The word of argument `i`, or `None` where there is no such argument.
 fn word<G: Arguments>(given: &G, alloc: Global, i: usize) -> Result<Option<String>, AllocError>
     ensures { IfOk result (λ found. MatchOption found
         (G.answers given.now i WORD (Err NotPresent))
@@ -220,8 +221,8 @@ fn word<G: Arguments>(given: &G, alloc: Global, i: usize) -> Result<Option<Strin
     }
 }
 
-/// The words behind the program's name, each in its order. One that isn't text, or is longer than
-/// each word that the program knows, stands here as an empty word.
+/// The words behind the program's name, in their order. An empty word stands for one that isn't
+/// text, or that is longer than each word that the program knows.
 ///
 /// # Errors
 ///
@@ -229,7 +230,7 @@ fn word<G: Arguments>(given: &G, alloc: Global, i: usize) -> Result<Option<Strin
 ///
 /// # Allocates
 ///
-/// For each word, and for their list.
+/// Once for each word, and for their list.
 pub fn words<G: Arguments>(given: &G, alloc: Global) -> Result<Vec<String>, AllocError>
     ensures { IfOk result (λ words. AreWords (λ i. G.answers given.now i WORD)
         (map string_bytes words.items)) }
@@ -244,8 +245,8 @@ pub fn words<G: Arguments>(given: &G, alloc: Global) -> Result<Vec<String>, Allo
     unreachable!()
 }
 
-/// Runs the program on the words that it was given, as `run_args` says, and answers its status. 1
-/// where memory is refused for them; that is told to `faults` too.
+/// Runs the program on the words that it is started with, as `run_args` says, and answers its
+/// status. Where memory is refused for the words, it writes a line to `faults` and answers 1.
 ///
 /// # Allocates
 ///

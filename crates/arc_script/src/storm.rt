@@ -15,11 +15,11 @@ const CLONES: usize = 1000;
 
 /// What a worker passes between each clone and its release.
 pub trait Gate {
-    /// Returns when this worker may go on; the first one is number 1.
+    /// Returns when this worker may go on. Workers are numbered from 1.
     fn pass(&self, worker: usize);
 }
 
-/// A gate that holds nobody up.
+/// A gate that lets everybody through at once.
 #[derive(Clone, Copy)]
 pub struct OpenGate;
 
@@ -27,13 +27,13 @@ impl Gate for OpenGate {
     fn pass(&self, _worker: usize) {}
 }
 
-/// Why a storm doesn't give its vector.
+/// Why a storm doesn't give its vector back.
 #[derive(Clone, Copy, Debug, PartialEq, Eq, Error)]
 pub enum StormError {
-    /// A clone was refused, or memory for the vector, for its window or for the list of threads.
+    /// A clone is refused, or memory for the vector, for its window or for the list of threads.
     #[error(transparent)]
     Owner(OwnerError),
-    /// A thread could not be started.
+    /// A thread can't be started.
     #[error("no thread")]
     Thread,
     /// Another window stands on the vector.
@@ -73,8 +73,7 @@ fn window_made(alloc: Global) -> Result<Window, StormError>
     }
 }
 
-/// What one worker does: it clones the window, passes the gate and releases the clone, again and
-/// again.
+/// What one worker does, 1,000 times: it clones the window, passes the gate and releases the clone.
 fn work<G: Gate>(
     rt: &impl Wait,
     window: &Window,
@@ -89,7 +88,7 @@ fn work<G: Gate>(
     Ok(())
 }
 
-/// Lets so many workers work, each in a thread of its own, and waits until all have ended.
+/// Starts `workers` threads that work, and waits until all have ended.
 fn work_in_threads<R: Threads + Wait + Sync, G: Gate + Sync>(
     rt: &R,
     alloc: Global,
@@ -113,19 +112,20 @@ fn work_in_threads<R: Threads + Wait + Sync, G: Gate + Sync>(
     })
 }
 
-/// Makes a window of the vector [42], which so many workers, each in a thread of its own, clone
-/// 1,000 times each through one reference, passing the gate between a clone and its release; and
-/// takes the vector back.
+/// Makes a window over the vector [42], lets `workers` threads clone it through one reference, and
+/// takes the vector back. Each thread makes 1,000 clones, and passes the gate between each clone
+/// and its release.
 ///
 /// # Errors
 ///
-/// - `Owner` where a clone is refused, or memory for the vector, its window or the list of threads.
-/// - `Thread` where a thread is refused.
+/// - `Owner` where a clone is refused, or memory for the vector, for its window or for the list of
+///   threads.
+/// - `Thread` where a thread can't be started.
 /// - `Taken` where another window stands on the vector at the end.
 ///
 /// # Allocates
 ///
-/// For the vector, its window and the list of threads; each clone may.
+/// For the vector, for its window and for the list of threads.
 pub fn storm<R: Threads + Wait + Sync, G: Gate + Sync>(
     rt: &R,
     alloc: Global,

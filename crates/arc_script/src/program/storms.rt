@@ -15,10 +15,10 @@ use arc_owners::error::OwnerError;
 use std::sync::Wait;
 use std::thread::Threads;
 
-/// The most workers that the program lets in.
+/// The most threads for which the program may be asked.
 const MOST_WORKERS: usize = 64;
 
-/// The number of workers for which the words ask, `None` where they ask for no storm.
+/// The number of threads for which the words ask, or `None` where they ask for no storm.
 pub(crate) fn workers_of(words: &[String]) -> Option<usize>
     ensures { MatchOption result
         ((workers : ℕ) → ¬ AsksForStorm workers words.now)
@@ -42,7 +42,7 @@ pub(crate) fn workers_of(words: &[String]) -> Option<usize>
     Some(workers)
 }
 
-/// The line in which a refusal is told.
+/// The line on standard error for a refusal.
 fn refusal_line(error: StormError) -> &'static [u8]
     ensures { result.now ≡ storm_fault_text error }
 {
@@ -54,16 +54,16 @@ fn refusal_line(error: StormError) -> &'static [u8]
     }
 }
 
-/// An item as a line: two digits.
+/// An item as a line: its two hex digits, and a line feed.
 fn item_line(item: u8) -> [u8; 3]
     ensures { result ≡ hex (item ∷ []) ++ line_feed ∷ [] }
 {
     [digit_of(item / 16), digit_of(item % 16), b'\n']
 }
 
-/// Lets so many threads clone one window, writes the vector that comes back, and answers the
-/// program's status; a fault is told in one line. The threads pass the gate as `storm` says; the
-/// program's holds nobody up.
+/// Lets `workers` threads clone one window, writes the vector that comes back, and answers the
+/// program's status. A refusal or a write that fails is told in one line. The threads pass the gate
+/// as `storm` says; the program's own gate is open.
 ///
 /// # Allocates
 ///
