@@ -238,7 +238,7 @@ impl<
     }
 
     /// One attempt to make one owner more of the same block, through this one: nothing where
-    /// another thread's step came between, and then no entry is added. Who calls it tries again.
+    /// another thread's step came between, and then no entry is added. The caller tries again.
     ///
     /// Takes no memory and copies no item.
     ///
@@ -248,7 +248,7 @@ impl<
     ///
     /// # History
     ///
-    /// Up, or Full where refused.
+    /// Up, or Full where it is refused.
     #[inline(always)]
     pub fn try_share_once_as(
         &self,
@@ -435,7 +435,7 @@ impl<
     ///
     /// # History
     ///
-    /// But for an `Arc` Alone, with what the count says.
+    /// On a block that is no `Arc`: Alone with what the count says.
     #[inline(always)]
     pub fn is_unique_by_sort_as(&self, pass: &mut Pass<H>) -> bool
         requires pass { IsPassFor self.now.owner pass.old }
@@ -550,7 +550,7 @@ impl<
     const MAX: u64,
     H: Mark,
 > Block<S, B, M, A, MAX, H> {
-    /// The same owner, of items of another kind. Takes no memory and adds nothing.
+    /// The same owner, of items of another kind. It adds no entry and takes no memory.
     pub fn into_kind<K: Slice<Item = S::Item>>(self) -> Block<K, B, M, A, MAX, H>
         requires { K.DROPS ≡ S.DROPS }
         ensures { result ≡ self }

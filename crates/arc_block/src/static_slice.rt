@@ -147,8 +147,8 @@ impl<T> StaticItems<T> {
     }
 }
 
-/// A slice that is there for good, without a lifetime in its type: it may lie in a vector or an
-/// enum, and go to generic functions and other threads. Contracts see its items.
+/// A `'static` slice, without a lifetime in its type: it may lie in a vector or an enum, and go to
+/// generic functions and other threads. Contracts see its items.
 ///
 /// It is three words, a place and a range, whatever its items are. No call takes memory or copies
 /// an item, and a drop does nothing.

@@ -35,7 +35,7 @@ pub fn moved_in(alloc: Global, texts: [String; 2]) -> Result<ArcSlice<Owned<Stri
     ArcSlice::try_from_array(alloc, texts)
 }
 
-/// A window over nothing, one over bytes that are there for good, and one over such a text.
+/// A window over nothing, one over `'static` bytes, and one over such a text.
 pub fn lasting(
     alloc: Global,
     bytes: &'static [u8],

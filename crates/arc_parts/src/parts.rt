@@ -43,7 +43,7 @@ pub type PartsStorage<S, B, M, A, H> = Storage<
 ///
 /// `B` is the type of callers' buffers and `M` that of their metadata.
 ///
-/// Where a call says what it adds on a block, it adds nothing on an `Arc` that is a block by
+/// Where a call says what it adds on a block, it adds no entry on an `Arc` that is a block by
 /// itself: that has no owners of ours, and a pass of none.
 ///
 /// Dropped, parts end as a window does: under the mark `Open` with a new pass; under `Whole` their
@@ -145,7 +145,7 @@ impl<S: Slice, B: Buffer<S::Item> + Drop, M: Drop, A: Allocator + Copy, H: Mark>
         }
     }
 
-    /// A slice that is there for good. No owner has it.
+    /// A `'static` slice. No owner has it.
     pub fn on_static(alloc: A, items: StaticSlice<S::Item>) -> Self
         ensures { result ≡ record { items = items; place = static_data; role = reader } }
     {

@@ -98,8 +98,8 @@ impl<S: Slice, A: Allocator + Copy, const MAX: u64, H: Mark> Drop for NativeBloc
 
 impl<S: Slice, A: Allocator + Copy, const MAX: u64, H: Mark> NativeBlock<S, A, MAX, H> {
     /// One attempt to make one owner more of the same block, through this one, who reads the same
-    /// items: nothing where another thread's step came between, and then no entry is added. Who
-    /// calls it tries again.
+    /// items: nothing where another thread's step came between, and then no entry is added. The
+    /// caller tries again.
     ///
     /// Takes no memory and copies no item.
     ///
@@ -109,7 +109,7 @@ impl<S: Slice, A: Allocator + Copy, const MAX: u64, H: Mark> NativeBlock<S, A, M
     ///
     /// # History
     ///
-    /// Up, or Full where refused.
+    /// Up, or Full where it is refused.
     #[inline(always)]
     #[tactic(auto, using(crate::proofs::Natives::kept_alike, crate::proofs::Natives::laid_alike))]
     pub fn try_share_once_as(
@@ -209,12 +209,12 @@ impl<S: Slice, A: Allocator + Copy, const MAX: u64, H: Mark> NativeBlock<S, A, M
         pass
     }
 
-    /// Ends this owner: it reads the count first, and gives the block back without a further step
+    /// Ends this owner: it reads the count first, and gives the block back without another step
     /// where no other owner lives, else it counts down. Takes no memory.
     ///
     /// # History
     ///
-    /// Alone with what was found, then Down.
+    /// Alone with the answer, then Down.
     #[tactic(auto, using(crate::proofs::Natives::kept_ended, crate::proofs::Natives::kept_alike, crate::proofs::Natives::laid_room, crate::proofs::Natives::laid_alike))]
     pub fn drop_with_unique_hint_as(self, pass: &mut Pass<H>)
         requires pass { IsPassFor self.owner pass.old }
@@ -245,7 +245,7 @@ impl<S: Slice, A: Allocator + Copy, const MAX: u64, H: Mark> NativeBlock<S, A, M
 }
 
 impl<S: Slice, A: Allocator + Copy, const MAX: u64, H: Mark> NativeBlock<S, A, MAX, H> {
-    /// The same owner, of items of another kind. Takes no memory and adds nothing.
+    /// The same owner, of items of another kind. It adds no entry and takes no memory.
     pub fn into_kind<K: Slice<Item = S::Item>>(self) -> NativeBlock<K, A, MAX, H>
         requires { K.DROPS ≡ S.DROPS }
         ensures { result ≡ self }
@@ -449,7 +449,7 @@ impl<S: Slice, A: Allocator + Copy, const MAX: u64, H: Mark> NativeBlock<S, A, M
     ///
     /// # History
     ///
-    /// Taken, Alone and Down. Refused, Alone with no.
+    /// Taken: Alone with yes, then Down. Refused: Alone with no.
     #[tactic(auto, using(crate::proofs::Natives::kept_alike, crate::proofs::Natives::laid_alike, crate::proofs::Natives::laid_room))]
     pub fn try_into_memory_as(
         self,

@@ -68,7 +68,7 @@ impl<S: Slice, B: Buffer<S::Item> + Drop, M: Drop, A: Allocator + Copy, H: Mark>
     }
 
     /// All items of a caller's buffer behind an `Arc`: no item is copied. Where the layout has an
-    /// `Arc` as a block by itself they stand on that, and nothing is added. Else they stand on a
+    /// `Arc` as a block by itself they stand on that, and no entry is added. Else they stand on a
     /// block that keeps the `Arc` and counts its own owners, and the pass, which is of no block,
     /// becomes the block's.
     ///
@@ -167,8 +167,8 @@ impl<S: Slice, B: Buffer<S::Item> + Drop, M: Drop, A: Allocator + Copy, H: Mark>
     ///
     /// # History
     ///
-    /// Taken, Alone and Down. Refused, Alone with no where only the count could decide, and else
-    /// nothing.
+    /// Taken: Alone with yes, then Down. Refused: Alone with no, where only the count could decide;
+    /// else nothing.
     pub fn try_into_buffer_as(self, pass: &mut Pass<H>) -> Result<B, Self>
         requires role { self.role ≡ reader }
         requires pass { IsPassAt self.place pass.old }
@@ -219,7 +219,7 @@ impl<S: Slice, B: Buffer<S::Item> + Drop, M: Drop, A: Allocator + Copy, H: Mark>
     ///
     /// # History
     ///
-    /// Down. Refused, nothing.
+    /// Down; nothing on an error.
     pub fn into_buffer_if_last_as(self, pass: &mut Pass<H>) -> Result<Option<B>, Self>
         requires role { self.role ≡ reader }
         requires pass { IsPassAt self.place pass.old }
@@ -277,8 +277,8 @@ impl<S: Slice, B: Buffer<S::Item> + Drop, M: Drop, A: Allocator + Copy, H: Mark>
     ///
     /// # History
     ///
-    /// Taken, Alone and Down. Refused, Alone with no where only the count could decide, and else
-    /// nothing.
+    /// Taken: Alone with yes, then Down. Refused: Alone with no, where only the count could decide;
+    /// else nothing.
     pub fn try_into_raw_as(self, pass: &mut Pass<H>) -> Result<Arc<B, A>, Self>
         requires role { self.role ≡ reader }
         requires pass { IsPassAt self.place pass.old }
@@ -323,7 +323,7 @@ impl<S: Slice, B: Buffer<S::Item> + Drop, M: Drop, A: Allocator + Copy, H: Mark>
     ///
     /// # History
     ///
-    /// On a block that counts its owners Down. Refused, nothing.
+    /// On a block that counts its owners: Down; nothing on an error.
     pub fn into_raw_if_last_as(self, pass: &mut Pass<H>) -> Result<Option<Arc<B, A>>, Self>
         requires role { self.role ≡ reader }
         requires pass { IsPassAt self.place pass.old }

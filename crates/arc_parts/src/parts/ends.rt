@@ -45,8 +45,8 @@ impl<S: Slice, B: Buffer<S::Item> + Drop, M: Drop, A: Allocator + Copy, H: Mark>
     ///
     /// # History
     ///
-    /// Taken, Alone and Down. Refused, Alone with no where only the count could decide, and else
-    /// nothing.
+    /// Taken: Alone with yes, then Down. Refused: Alone with no, where only the count could decide;
+    /// else nothing.
     pub fn try_into_array_as<const N: usize>(self, pass: &mut Pass<H>) -> Result<[S::Item; N], Self>
         requires role { self.role ≡ reader }
         requires pass { IsPassAt self.place pass.old }
@@ -78,7 +78,7 @@ impl<S: Slice, B: Buffer<S::Item> + Drop, M: Drop, A: Allocator + Copy, H: Mark>
     ///
     /// # History
     ///
-    /// On a block that counts its owners Down.
+    /// On a block that counts its owners: Down.
     #[inline(always)]
     pub fn release_as(self, pass: &mut Pass<H>)
         requires pass { IsPassAt self.place pass.old }
@@ -103,7 +103,7 @@ impl<S: Slice, B: Buffer<S::Item> + Drop, M: Drop, A: Allocator + Copy, H: Mark>
     ///
     /// # History
     ///
-    /// On a block that counts its owners Down under `Open`, and nothing under `Whole`.
+    /// Under `Open`, on a block that counts its owners: Down. Else nothing.
     #[inline(always)]
     pub fn let_go(self) -> Pass<H>
         ensures forgotten { H.whole ≡ true → IsPassOfNone result }
@@ -117,12 +117,12 @@ impl<S: Slice, B: Buffer<S::Item> + Drop, M: Drop, A: Allocator + Copy, H: Mark>
         }
     }
 
-    /// Ends the parts: it reads the count first, and gives the block back without a further step
+    /// Ends the parts: it reads the count first, and gives the block back without another step
     /// where no other owner lives, else it counts down.
     ///
     /// # History
     ///
-    /// On a block Alone with what was found, then Down.
+    /// On a block: Alone with the answer, then Down.
     pub fn drop_with_unique_hint_as(self, pass: &mut Pass<H>)
         requires role { self.role ≡ reader }
         requires pass { IsPassAt self.place pass.old }
@@ -142,7 +142,7 @@ impl<S: Slice, B: Buffer<S::Item> + Drop, M: Drop, A: Allocator + Copy, H: Mark>
         }
     }
 
-    /// The same parts, of items of another kind. It adds nothing.
+    /// The same parts, of items of another kind. It adds no entry.
     pub fn into_kind<K: Slice<Item = S::Item>>(self) -> Parts<K, B, M, A, H>
         requires { K.DROPS ≡ S.DROPS }
         ensures { result ≡ self }
@@ -158,8 +158,8 @@ impl<S: Slice, B: Buffer<S::Item> + Drop, M: Drop, A: Allocator + Copy, H: Mark>
         Parts::over(on, start, end, alloc)
     }
 
-    /// The items as a slice that is there for good, where they stand on one, or on nothing. Else
-    /// the parts come back.
+    /// The items as a `'static` slice, where they stand on one, or on nothing. Else the parts come
+    /// back.
     ///
     /// # Errors
     ///

@@ -55,8 +55,8 @@ impl<S: Slice, B: Buffer<S::Item> + Drop, M: Drop, A: Allocator + Copy, H: Mark>
     /// # Errors
     ///
     /// The parts, where the layout doesn't hold their block or their static data, where memory for
-    /// a new block is refused, and where the `Arc` refuses to be cloned; the pass is then as it
-    /// was.
+    /// a new block is refused, and where the `Arc` refuses to be cloned; the pass is then as
+    /// before.
     ///
     /// # Allocates
     ///
@@ -64,7 +64,7 @@ impl<S: Slice, B: Buffer<S::Item> + Drop, M: Drop, A: Allocator + Copy, H: Mark>
     ///
     /// # History
     ///
-    /// Down where they leave a block that counts an `Arc`, and else nothing.
+    /// Down where they leave a block that counts an `Arc`; else nothing.
     pub fn try_with_layout_as<L: Layout>(self, pass: &mut Pass<H>) -> Result<Self, Self>
         requires role { self.role ≡ reader }
         requires pass { IsPassAt self.place pass.old }

@@ -42,7 +42,7 @@ impl<S: Slice, B: Buffer<S::Item> + Drop, M: Drop, A: Allocator + Copy, H: Mark>
     ///
     /// # History
     ///
-    /// On a block that counts its owners Up, or Full where refused.
+    /// On a block that counts its owners: Up, or Full where it is refused.
     #[inline(always)]
     pub fn try_clone_once_as<L: Layout>(
         &self,
@@ -85,7 +85,7 @@ impl<S: Slice, B: Buffer<S::Item> + Drop, M: Drop, A: Allocator + Copy, H: Mark>
     }
 
     /// One attempt to make another owner, of the items from `start` to `end`. With no items it
-    /// stands on nothing where the layout has static data, and nothing is added. Else as
+    /// stands on nothing where the layout has static data, and no entry is added. Else as
     /// `try_clone_once_as`.
     ///
     /// # Errors
@@ -94,7 +94,7 @@ impl<S: Slice, B: Buffer<S::Item> + Drop, M: Drop, A: Allocator + Copy, H: Mark>
     ///
     /// # History
     ///
-    /// Where the part stands on a block that counts its owners Up, or Full where refused.
+    /// Where the part stands on a block that counts its owners: Up, or Full where it is refused.
     #[inline(always)]
     pub fn try_part_once_as<L: Layout>(
         &self,
@@ -171,7 +171,7 @@ impl<S: Slice, B: Buffer<S::Item> + Drop, M: Drop, A: Allocator + Copy, H: Mark>
     ///
     /// # History
     ///
-    /// On a block, but for an `Arc`, Alone with what the count says.
+    /// On a block that is no `Arc`: Alone with what the count says.
     #[inline(always)]
     pub fn is_unique_as(&self, pass: &mut Pass<H>) -> bool
         requires role { self.now.role ≡ reader }
@@ -187,7 +187,7 @@ impl<S: Slice, B: Buffer<S::Item> + Drop, M: Drop, A: Allocator + Copy, H: Mark>
         }
     }
 
-    /// Afterwards the first pass has seen at least what the other had. It adds nothing.
+    /// Afterwards the first pass has seen at least what the other had. It adds no entry.
     pub fn learn(&self, pass: &mut Pass<H>, other: &Pass<H>)
         requires pass { IsPassAt self.now.place pass.old }
         requires other { IsPassAt self.now.place other.now }
@@ -223,7 +223,7 @@ impl<S: Slice, B: Buffer<S::Item> + Drop, M: Drop, A: Allocator + Copy, H: Stepp
     H,
 > {
     /// A new pass of the block, which has seen at least how this owner became one, and made
-    /// nothing; on no block a pass of none. It adds nothing.
+    /// nothing; on no block a pass of none. It adds no entry.
     pub fn pass(&self) -> Pass<H>
         ensures { at_owner self.now.place (IsPassOfNone result) (λ o. IsNewPass o result) }
     {
