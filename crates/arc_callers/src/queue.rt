@@ -1,6 +1,6 @@
 //! An example: parts of one buffer are handed to threads, which read them where they lie. Whoever
-//! ends last, a thread its part or the queue its own, gets the buffer's vector: so it is never lost,
-//! however they meet. No byte is copied.
+//! ends last, a thread its part or the queue its own, gets the buffer's vector. So it is never
+//! lost, in whatever order they end. No byte is copied.
 ghost use Rattle.std.specs.Prelude.{◌≡◌, ◌≤◌, ◌+◌, take, drop, length, false};
 ghost use Rattle.std.specs.Prelude.{IfOk, IfErr, IfSome, OnErr, is_some};
 ghost use Rattle.arc_parts.specs.Window.{IsVecPart};
@@ -17,13 +17,13 @@ use std::thread::{self, Threads};
 pub struct Queue {
     /// All of the buffer.
     pub whole: ArcBytes,
-    /// How many bytes were handed out.
+    /// How many bytes are handed out.
     pub next: usize,
     ghost within: { next ≤ length whole.items },
 }
 
 impl Queue {
-    /// All of a vector is to be handed out. The vector comes back where memory is refused.
+    /// A queue that hands out all of a vector. The vector comes back where memory is refused.
     pub fn new(alloc: Global, bytes: Vec<u8>) -> Result<Self, Vec<u8>>
         ensures made { IfOk result (λ queue. (queue.whole.items ≡ bytes.items)
             × (queue.next ≡ 0)) }
@@ -34,7 +34,7 @@ impl Queue {
         }
     }
 
-    /// The next bytes, so many or those that are left, as a window on the same block.
+    /// The next `most` bytes, or those that are left, as a window on the same block.
     pub fn take(&mut self, rt: &impl Wait, most: usize) -> Result<ArcBytes, OwnerError>
         ensures taken { IfOk result (λ part.
             (part.items ≡ take most (drop self.old.next self.old.whole.items))
@@ -49,7 +49,7 @@ impl Queue {
         Ok(part)
     }
 
-    /// The vector, where no part of it lives any more; else the queue comes back.
+    /// The vector, where no part of it lives; else the queue comes back.
     pub fn into_buffer(self) -> Result<Vec<u8>, Self>
         ensures buffer { IfOk result (λ bytes. bytes.items ≡ self.whole.items) }
         ensures parts { IfErr result (λ back. (back.whole ≡ self.whole)
@@ -62,7 +62,7 @@ impl Queue {
         }
     }
 
-    /// Ends the queue. It gets the vector, with all bytes, where it is the last one; else the part
+    /// Ends the queue. If it is the last owner it gets the vector, with all bytes; else the part
     /// that ends last gets it. A buffer without places stands on no vector: then the queue comes
     /// back.
     pub fn end(self) -> Result<Option<Vec<u8>>, Self>
@@ -85,7 +85,7 @@ impl Queue {
 pub struct Read {
     /// How many bytes the part had.
     pub len: usize,
-    /// The vector, with the part's bytes, where the part was the last one.
+    /// The vector, with the part's bytes, where the part is the last owner.
     pub buffer: Option<Vec<u8>>,
 }
 
@@ -100,8 +100,9 @@ pub fn read_part(part: ArcBytes) -> Read
     }
 }
 
-/// Two threads read a part each, and end it. Each gets the vector exactly where it was the last one
-/// of all: at most one of them, and neither where the queue or another part outlives both.
+/// Two threads read a part each, and end it. A thread gets the vector exactly where its part is the
+/// last owner of all. So at most one of them does, and neither where the queue or another part
+/// outlives both.
 pub fn read_by_two(rt: &impl Threads, first: ArcBytes, second: ArcBytes) -> (Read, Read)
     ensures first { Reads first result.0 }
     ensures second { Reads second result.1 }

@@ -17,7 +17,8 @@ pub fn learnt(window: &ArcBytesShared) -> Pass<Open> {
     pass
 }
 
-/// The window in two and in one again: whether it was split, and whether both were joined.
+/// Splits the window in two and joins them again: `None` where the split is refused, else whether
+/// both were joined.
 pub fn split_and_joined(rt: &impl Wait, window: &mut ArcBytesShared) -> Option<bool> {
     let at = window.capacity();
     let mut pass = window.pass();
@@ -39,7 +40,7 @@ pub fn front_given(
     window.try_split_to_as(rt, at, &mut pass)
 }
 
-/// A byte more.
+/// Appends a byte.
 pub fn pushed(window: &mut ArcBytesShared, byte: u8) -> Result<(), (TryReserveError, u8)>
     ensures { OnOk result (window.new.items ≡ window.old.items ++ byte ∷ []) }
 {
@@ -47,7 +48,7 @@ pub fn pushed(window: &mut ArcBytesShared, byte: u8) -> Result<(), (TryReserveEr
     window.try_push_as(byte, &mut pass)
 }
 
-/// Bytes more, and a text more.
+/// Appends bytes, and appends a text.
 pub fn extended(
     window: &mut ArcBytesShared,
     text: &mut ArcStrShared,
@@ -62,7 +63,7 @@ pub fn extended(
     (bytes, text.try_extend_from_str_as(more, &mut pass))
 }
 
-/// Room for so many bytes more.
+/// Makes room for so many bytes more.
 pub fn room_made(window: &mut ArcBytesShared, more: usize) -> (bool, Result<(), TryReserveError>)
     ensures { window.new.items ≡ window.old.items }
 {
@@ -72,7 +73,7 @@ pub fn room_made(window: &mut ArcBytesShared, more: usize) -> (bool, Result<(), 
     (found, window.try_reserve_as(more, &mut pass))
 }
 
-/// Leaves a vector for a block of ours, as a split does first; the pass is that block's.
+/// Leaves a vector for a native block, as a split does first, and answers a pass of that block.
 pub fn vector_left(window: &mut ArcBytesShared) -> Option<Pass<Open>> {
     if !window.is_on_vector() {
         return None;
@@ -93,7 +94,7 @@ pub fn sole(window: ArcBytesShared) -> Result<ArcBytesMut, ArcBytesShared>
     window.try_into_unique_as(&mut pass)
 }
 
-/// Ends a writer: the last one is the only writer of a new block then, with a pass of that.
+/// Ends a writer. The last one becomes the only writer of a new block, with a pass of that.
 pub fn sole_if_last(
     window: ArcBytesShared,
 ) -> Result<Option<(ArcBytesMut, Pass<Open>)>, ArcBytesShared>
@@ -104,7 +105,7 @@ pub fn sole_if_last(
     window.into_unique_if_last_as(&mut pass)
 }
 
-/// A window under another layout, and one that is to be read from now on.
+/// A window under another layout, and a window that becomes one that is read.
 pub fn turned(
     window: ArcBytesShared,
     other: ArcBytesShared,
@@ -138,7 +139,7 @@ pub fn vectors(
     (vector, other.try_into_boxed_as(&mut pass))
 }
 
-/// The items of a block of ours. None of several writers stands on a caller's buffer.
+/// The items of a native block as an array. None of several writers stands on a caller's buffer.
 pub fn others(
     window: ArcBytesShared,
     other: ArcBytesShared,
@@ -155,7 +156,7 @@ pub fn others(
     (array, other.try_into_buffer_as(&mut pass))
 }
 
-/// Three ends: the first counts down, the second asks first, the third is a drop that tells its
+/// Three ends: the first counts down, the second asks first, the third is a drop that answers its
 /// pass.
 pub fn ended(first: ArcBytesShared, second: ArcBytesShared, third: ArcBytesShared) -> Pass<Open> {
     let mut pass = first.pass();

@@ -10,8 +10,8 @@ use arc_slice::{ArcBytesMut, ArcSlice, ArcStr};
 use std::alloc::Global;
 use std::boxed::BoxedSlice;
 
-/// A string that is read, and had back: nobody else was given a part of it. The window comes out
-/// where it was, and the string where there was no memory to count it.
+/// A string that is read and taken back, which no other owner has a part of. Where memory for its
+/// count is refused, the string comes back at once.
 pub fn string(alloc: Global, text: String) -> Result<String, ArcStr>
     ensures string { IfOk result (λ back. string_bytes back ≡ string_bytes text) }
     ensures window { IfErr result (λ window. window.items ≡ string_bytes text) }
@@ -41,7 +41,7 @@ pub fn boxed(window: ArcSlice<Owned<String>>) -> Result<BoxedSlice<String>, ArcS
     window.try_into_boxed()
 }
 
-/// Ends a reader of a string, which the last one of all gets.
+/// Ends a reader of a string. The last reader gets the string.
 pub fn string_if_last(window: ArcStr) -> Result<Option<String>, ArcStr>
     ensures string { IfOk result (λ last. IfSome last (λ text.
         string_bytes text ≡ window.items)) }
@@ -51,7 +51,7 @@ pub fn string_if_last(window: ArcStr) -> Result<Option<String>, ArcStr>
     window.into_vec_if_last()
 }
 
-/// Ends a reader of a box, which the last one of all gets.
+/// Ends a reader of a box. The last reader gets the box.
 pub fn boxed_if_last(
     window: ArcSlice<Owned<String>>,
 ) -> Result<Option<BoxedSlice<String>>, ArcSlice<Owned<String>>>
@@ -63,7 +63,7 @@ pub fn boxed_if_last(
     window.into_boxed_if_last()
 }
 
-/// The items of a window on a block of ours, moved out of it.
+/// The items of a window on a native block, moved out of it.
 pub fn array(window: ArcSlice<Owned<String>>) -> Result<[String; 2], ArcSlice<Owned<String>>>
     ensures array { IfOk result (λ texts. texts ≡ window.items) }
     ensures back { IfErr result (λ back. back ≡ window) }

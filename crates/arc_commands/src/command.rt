@@ -7,7 +7,7 @@ pub trait Carried {
     /// A list of items.
     type Items;
 
-    /// A slice that is there for good.
+    /// A `'static` slice.
     type Static;
 
     /// A buffer of a caller's.
@@ -47,7 +47,7 @@ pub enum Cmd<C: Carried> {
     Small(C::Items),
     /// A window over all items of a vector.
     Vec(C::Items),
-    /// A window over a slice that is there for good.
+    /// A window over a `'static` slice.
     Static(C::Static),
     /// A window over all items of a buffer behind an `Arc`.
     Raw(C::Buffer),
@@ -295,7 +295,7 @@ pub trait Given {
     /// An `Arc` of one.
     type Raw;
 
-    /// A slice that is there for good.
+    /// A `'static` slice.
     type Static;
 
     /// Metadata.

@@ -430,7 +430,7 @@ where
     }
 }
 
-/// A window that is read, over a slice that is there for good.
+/// A window that is read, over a `'static` slice.
 fn over_static<
     S: Commands<A>,
     L: Layout,

@@ -129,7 +129,7 @@ impl<T: Drop, A: Allocator> CutMemory<T, A> {
         self.places.as_slice()
     }
 
-    /// The items, to be changed in their places: what is written there they are afterwards.
+    /// The items, to be changed in their places: they are what is written there.
     #[inline(always)]
     pub fn as_mut_slice(&mut self) -> &mut [T]
         ensures* writes_back { sem 𝓛 (LendsCut T.row A.row A.Allocator self.entry result) }

@@ -99,7 +99,7 @@ impl<T, V: Drop, A: Allocator + Copy, const MAX: u64, H: Mark> FrozenReader<T, V
     ///
     /// # History
     ///
-    /// Up, or Full where refused.
+    /// Up, or Full where it is refused.
     #[inline(always)]
     pub fn try_again_once_as(
         &self,

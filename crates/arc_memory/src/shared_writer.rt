@@ -91,8 +91,7 @@ impl<T, V: Drop, A: Allocator + Copy, const MAX: u64, H: Mark> SharedWriter<T, V
         self.places.as_slice()
     }
 
-    /// The items, to be changed in their places: what is written there they are afterwards. It adds
-    /// no entry.
+    /// The items, to be changed in their places: they are what is written there. It adds no entry.
     #[inline(always)]
     pub fn as_mut_slice(&mut self) -> &mut [T]
         ensures* writes_back { sem 𝓛 (LendsWriter T.row V.row A.row MAX.row H.row H.Mark
@@ -163,7 +162,7 @@ impl<T, V: Drop, A: Allocator + Copy, const MAX: u64, H: Mark> SharedWriter<T, V
     ///
     /// # History
     ///
-    /// Up, or Full where refused.
+    /// Up, or Full where it is refused.
     pub fn try_split_as<const FRONT_STAYS: bool>(
         self,
         rt: &impl Wait,

@@ -249,8 +249,8 @@ impl<T: Drop, A: Allocator> WriterMemory<T, A> {
         self.places.truncate(len);
     }
 
-    /// The items from `start` and before `end` among them, to be changed in their places: what is
-    /// written there they are afterwards.
+    /// The items from `start` and before `end` among them, to be changed in their places: they are
+    /// what is written there.
     #[inline(always)]
     pub fn as_mut_part(&mut self, start: usize, end: usize) -> &mut [T]
         requires { (start ≤ end) × (end ≤ length self.old.places.vec.items) }

@@ -101,7 +101,7 @@ impl<T, V: Drop, A: Allocator + Copy, const MAX: u64, H: Mark> WriterPart<T, V, 
     ///
     /// # History
     ///
-    /// Up, or Full where refused.
+    /// Up, or Full where it is refused.
     pub fn try_split_as<const FRONT_STAYS: bool>(
         self,
         rt: &impl Wait,

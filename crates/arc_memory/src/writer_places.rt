@@ -79,7 +79,7 @@ impl<T> WriterPlaces<T> {
         self.vec.as_slice()
     }
 
-    /// The items, to be changed in their places: what is written there they are afterwards.
+    /// The items, to be changed in their places: they are what is written there.
     #[inline(always)]
     pub fn as_mut_slice(&mut self) -> &mut [T]
         ensures* writes_back { sem 𝓛 (LendsPlaces T.row self.entry result) }
@@ -88,8 +88,8 @@ impl<T> WriterPlaces<T> {
         self.vec.as_mut_slice()
     }
 
-    /// The items from `start` and before `end` among them, to be changed in their places: what is
-    /// written there they are afterwards.
+    /// The items from `start` and before `end` among them, to be changed in their places: they are
+    /// what is written there.
     #[inline(always)]
     pub fn as_mut_part(&mut self, start: usize, end: usize) -> &mut [T]
         requires { (start ≤ end) × (end ≤ length self.old.vec.items) }

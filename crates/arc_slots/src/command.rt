@@ -49,7 +49,7 @@ fn is_turning<C: Carried>(command: &Cmd<C>) -> bool
 ///
 /// # History
 ///
-/// On a block that counts its owners Down.
+/// On a block that counts its owners: Down.
 pub fn drop_at<
     S: TableKind,
     L: Layout,

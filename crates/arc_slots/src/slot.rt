@@ -162,7 +162,7 @@ where
     ghost use Rattle.arc_parts.specs.Writers.{Reclaims};
     ghost use Rattle.std.specs.Vec.{vec_capacity};
 
-    /// A window over a slice that is there for good and legal, under a layout with static data.
+    /// A window over a `'static` slice and legal, under a layout with static data.
     pub fn on_static(alloc: A, items: StaticSlice<S::Item>) -> Self
         requires layout { L.STATIC ≡ true }
         requires legal { ∥ S.is_legal items ∥₁ }
@@ -424,7 +424,7 @@ where
     ///
     /// # History
     ///
-    /// On a block that counts its owners Up, or Full where refused.
+    /// On a block that counts its owners: Up, or Full where it is refused.
     #[inline(always)]
     pub fn try_clone(&self, rt: &impl Wait, passes: &mut Passes<A>) -> Result<Self, OwnerError>
         requires cuts { is_writer self.now.role ≡ false }
@@ -461,7 +461,7 @@ where
     ///
     /// # History
     ///
-    /// Where the part stands on a block that counts its owners Up, or Full where refused.
+    /// Where the part stands on a block that counts its owners: Up, or Full where it is refused.
     #[inline(always)]
     pub fn try_subslice(
         &self,
@@ -633,7 +633,7 @@ where
     ///
     /// # History
     ///
-    /// On a block, but for an `Arc`, Alone with what the count says.
+    /// On a block that is no `Arc`: Alone with what the count says.
     pub fn is_unique(&self, passes: &mut Passes<A>) -> bool
         requires reads { self.now.role ≡ reader }
         requires pass { HasPassFor passes.old.of_blocks.items (stand_of (Some self.now)) }
@@ -653,7 +653,7 @@ where
     ///
     /// # History
     ///
-    /// On a block that counts its owners Down, which says whether it was the last.
+    /// On a block that counts its owners: Down, which tells whether the owner was the last one.
     pub fn release(self, passes: &mut Passes<A>)
         requires { HasPassFor passes.old.of_blocks.items (stand_of (Some self)) }
         ensures { Along (stand_of (Some self)) passes.old.of_blocks.items

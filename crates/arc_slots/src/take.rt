@@ -58,8 +58,8 @@ impl Taking {
 ///
 /// # History
 ///
-/// Taken, Alone and Down. Refused, Alone with no where only the count could decide, and else
-/// nothing.
+/// Taken: Alone with yes, then Down. Refused: Alone with no, where only the count could decide;
+/// else nothing.
 fn try_into_reply<S: Commands<A>, B: BufferMut<S::Item> + Drop, M: Drop, A: Allocator + Copy>(
     parts: Parts<S, B, M, A, Whole>,
     what: Taking,
@@ -104,7 +104,7 @@ fn try_into_reply<S: Commands<A>, B: BufferMut<S::Item> + Drop, M: Drop, A: Allo
 ///
 /// # History
 ///
-/// Taken, Down without a step.
+/// Taken: Down, without an atomic step. Refused: nothing.
 fn try_sole_into_reply<S: Commands<A>, B: BufferMut<S::Item> + Drop, M: Drop, A: Allocator + Copy>(
     parts: SoleParts<S, B, M, A, Whole>,
     what: Taking,
@@ -164,8 +164,8 @@ where
     ///
     /// # History
     ///
-    /// Taken, Alone and Down. Refused, Alone with no where only the count could decide, and else
-    /// nothing.
+    /// Taken: Alone with yes, then Down. Refused: Alone with no, where only the count could decide;
+    /// else nothing.
     fn try_take(self, what: Taking, passes: &mut Passes<A>) -> Result<TableReply<S, B, M, A>, Self>
     where
         S: Commands<A>,
@@ -205,7 +205,7 @@ where
     ///
     /// # History
     ///
-    /// Taken, Down without a step.
+    /// Taken: Down, without an atomic step. Refused: nothing.
     fn try_take_written(
         self,
         what: Taking,
@@ -252,8 +252,8 @@ where
     ///
     /// # History
     ///
-    /// Taken, Alone and Down. Refused, Alone with no where only the count could decide, and else
-    /// nothing.
+    /// Taken: Alone with yes, then Down. Refused: Alone with no, where only the count could decide;
+    /// else nothing.
     fn try_take_beside(self, passes: &mut Passes<A>) -> Result<TableReply<S, B, M, A>, Self>
     where
         S: Commands<A>,

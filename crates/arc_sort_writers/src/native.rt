@@ -443,7 +443,7 @@ impl<S: Slice, M: Drop, A: Allocator + Copy, H: Mark> SoleNative<S, M, A, H> {
         }
     }
 
-    /// Makes room for so many items more.
+    /// Makes room for `additional` items more.
     ///
     /// # Errors
     ///
@@ -453,7 +453,7 @@ impl<S: Slice, M: Drop, A: Allocator + Copy, H: Mark> SoleNative<S, M, A, H> {
     /// - `CapacityOverflow` where a block would have to grow to more than 2^63 - 1 places or bytes.
     /// - `AllocError` where memory is refused for a larger block, or for a first one of any size.
     ///
-    /// Everything is then as before.
+    /// Nothing is changed then.
     ///
     /// # Allocates
     ///
@@ -463,8 +463,8 @@ impl<S: Slice, M: Drop, A: Allocator + Copy, H: Mark> SoleNative<S, M, A, H> {
     ///
     /// # History
     ///
-    /// Nothing is added. Where a first block is made, the pass, which was of none, becomes that
-    /// block's.
+    /// Nothing is added. Where a first block is made, the pass, which is of no block before,
+    /// becomes that block's.
     #[inline(always)]
     pub fn try_reserve_as(
         &mut self,

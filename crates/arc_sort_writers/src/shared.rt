@@ -206,7 +206,7 @@ impl<T: Drop, A: Allocator + Copy, H: Mark> SharedNative<T, A, H> {
         self.writer.as_slice()
     }
 
-    /// The items, to be changed in their places: what is written there they are afterwards.
+    /// The items, to be changed in their places: they are what is written there.
     #[inline(always)]
     pub fn as_mut_slice(&mut self) -> &mut [T]
         ensures* writes_back { sem 𝓛 (lends_writer_items T.row A.row H.row H.Mark A.Allocator
@@ -271,7 +271,7 @@ impl<T: Drop, A: Allocator + Copy, H: Mark> SharedNative<T, A, H> {
     ///
     /// # History
     ///
-    /// Up, or Full where refused.
+    /// Up, or Full where it is refused.
     #[tactic(auto, using(crate::proofs::Takes::laid_alike))]
     pub fn try_split_as<const FRONT_STAYS: bool>(
         self,
@@ -387,7 +387,7 @@ impl<T: Drop, A: Allocator + Copy, H: Mark> SharedNative<T, A, H> {
     }
 
     /// Ends this writer: it reads the count first, and where no other owner lives gives the block
-    /// back without a further step.
+    /// back without another step.
     ///
     /// # History
     ///
@@ -429,7 +429,7 @@ impl<T: Drop, A: Allocator + Copy, H: Mark> SharedNative<T, A, H> {
         pass
     }
 
-    /// Afterwards the first pass has seen at least what the other had. It adds nothing.
+    /// Afterwards the first pass has seen at least what the other had. It adds no entry.
     pub fn learn(&self, pass: &mut Pass<H>, other: &Pass<H>)
         requires pass { IsPassFor self.now.owner pass.old }
         requires other { IsPassFor self.now.owner other.now }
@@ -474,7 +474,7 @@ impl<T: Copy + Drop, A: Allocator + Copy, H: Mark> SharedNative<T, A, H> {
 
 impl<T: Drop, A: Allocator + Copy, H: Stepping> SharedNative<T, A, H> {
     /// A new pass of the block, which has seen at least how this owner became one, and made
-    /// nothing. It adds nothing.
+    /// nothing. It adds no entry.
     pub fn pass(&self) -> Pass<H>
         ensures { IsNewPass self.now.owner result }
     {

@@ -105,7 +105,7 @@ pub trait WriterParts<
         ensures capacity { result ≡ capacity_of (seen self.now).role }
         ensures enough { length (seen self.now).items ≤ result };
 
-    /// The items, to be changed in their places: what is written there they are afterwards.
+    /// The items, to be changed in their places: they are what is written there.
     fn as_mut_slice(&mut self) -> &mut [S::Item]
         ensures* writes_back { sem 𝓛 (Lends Self.row (Array S.Item.row 0) self.entry result
             (with_list self.old)) }
@@ -120,7 +120,7 @@ pub trait WriterParts<
     fn truncate(&mut self, len: usize)
         ensures { seen self.new ≡ after_truncate S.DROPS len (seen self.old) };
 
-    /// Makes room for so many items more.
+    /// Makes room for `additional` items more.
     ///
     /// # Errors
     ///
@@ -132,7 +132,7 @@ pub trait WriterParts<
     /// - `CapacityOverflow` where a block would have to grow to more than 2^63 - 1 places or bytes.
     /// - `AllocError` where memory is refused for a larger block, or for a first one of any size.
     ///
-    /// Everything is then as before.
+    /// Nothing is changed then.
     ///
     /// # Allocates
     ///
@@ -142,9 +142,9 @@ pub trait WriterParts<
     ///
     /// # History
     ///
-    /// Of a sole writer nothing is added; of one of several, on a block, where the window hasn't
-    /// the places already, Alone with the answer. Where a first block is made, the pass, which was
-    /// of none, becomes that block's.
+    /// Of a sole writer: nothing. Of one of several, on a block, where it has too few places: Alone
+    /// with the answer. Where a first block is made, the pass, which is of no block before, becomes
+    /// that block's.
     fn try_reserve_as(
         &mut self,
         additional: usize,
@@ -160,12 +160,13 @@ pub trait WriterParts<
             (λ k. AsksForRoom B.list B.places B.grows B.refuses (seen self.old) k
             (size_at (seen self.new).place) result) };
 
-    /// Whether there is room for so many items more without memory; then it is made.
+    /// Makes room for `additional` items more where that takes no memory, and answers whether it
+    /// did.
     ///
     /// # History
     ///
-    /// Of a sole writer nothing is added; of one of several, on a block, where the window hasn't
-    /// the places already, Alone with the answer.
+    /// Of a sole writer: nothing. Of one of several, on a block, where it has too few places: Alone
+    /// with the answer.
     fn try_reclaim_as(&mut self, additional: usize, pass: &mut Pass<H>) -> bool
         requires pass { IsPassAt (seen self.old).place pass.old }
         ensures room { ReclaimsRoom several S.DROPS (type_size S.Item.row) additional
@@ -211,8 +212,8 @@ pub trait WriterParts<
     ///
     /// # History
     ///
-    /// Taken, of a sole writer Down without a step, and of one of several Alone and Down. Refused,
-    /// of one of several Alone with no, where only the count could decide, and else nothing.
+    /// Of a sole writer, taken: Down, without an atomic step. Of one of several, taken: Alone with
+    /// yes, then Down; refused: Alone with no, where only the count could decide. Else nothing.
     fn try_into_vec_as(self, pass: &mut Pass<H>) -> Result<Vec<S::Item, A>, Self>
         requires pass { IsPassAt (seen self).place pass.old }
         ensures taken { IfOk result (λ v. IsVecPart S.DROPS (seen self).items (seen self).place
@@ -244,7 +245,7 @@ pub trait WriterParts<
             (IsBoxWhole (seen self).items (seen self).place) (seen self).place
             pass.old pass.new) };
 
-    /// The same items and places, which others may read from now on. It adds nothing and takes no
+    /// The same items and places, which others may read from now on. It adds no entry and takes no
     /// memory.
     fn freeze(self) -> Parts<S, B, M, A, H>
         ensures { result ≡ as_reader (seen self) };
@@ -278,7 +279,7 @@ pub trait WriterParts<
             × (pass.new ≡ pass.old)) };
 
     /// The same parts, as those of a window under the layout `L`, where that holds their block. It
-    /// adds nothing and takes no memory.
+    /// adds no entry and takes no memory.
     ///
     /// # Errors
     ///
@@ -306,18 +307,18 @@ pub trait WriterParts<
     ///
     /// # History
     ///
-    /// On a block Down; of a sole writer and of a vector without a step.
+    /// On a block: Down; of a sole writer, and on a vector, without an atomic step.
     fn release_as(self, pass: &mut Pass<H>)
         requires pass { IsPassAt (seen self).place pass.old }
         ensures entry { ReleasesAt several (seen self).place pass.old pass.new };
 
     /// Ends the parts: one of several writers reads the count first, and where no other owner lives
-    /// gives the block back without a further step.
+    /// gives the block back without another step.
     ///
     /// # History
     ///
-    /// On a block of a sole writer Down, without a step, and of one of several Alone with the
-    /// answer, then Down.
+    /// On a block, of a sole writer: Down, without an atomic step. On a block, of one of several:
+    /// Alone with the answer, then Down.
     fn release_with_unique_hint_as(self, pass: &mut Pass<H>)
         requires pass { IsPassAt (seen self).place pass.old }
         ensures entry { ReleasesHintedAt several (seen self).place pass.old pass.new };
@@ -329,7 +330,7 @@ pub trait WriterParts<
     ///
     /// # History
     ///
-    /// On a block Down under `Open`, of a sole writer without a step, and nothing under `Whole`.
+    /// Under `Open`, on a block: Down; of a sole writer without an atomic step. Else nothing.
     fn let_go(self) -> Pass<H>
         ensures forgotten { H.whole ≡ true → IsPassOfNone result }
         ensures ended { H.whole ≡ false → EndsAt (seen self).place result };
@@ -338,7 +339,7 @@ pub trait WriterParts<
     fn end(self)
         ensures ended { H.whole ≡ false → EndsShownAt H H.real (seen self).place };
 
-    /// Afterwards the first pass has seen at least what the other had. It adds nothing.
+    /// Afterwards the first pass has seen at least what the other had. It adds no entry.
     fn learn(&self, pass: &mut Pass<H>, other: &Pass<H>)
         requires pass { IsPassAt (seen self.now).place pass.old }
         requires other { IsPassAt (seen self.now).place other.now }
@@ -346,7 +347,7 @@ pub trait WriterParts<
             Learns o.block pass.old other.now pass.new) };
 
     /// A new pass of the block, which has seen at least how this owner became one, and made
-    /// nothing; on no block a pass of none. It adds nothing.
+    /// nothing; on no block a pass of none. It adds no entry.
     fn pass(&self) -> Pass<H>
     where
         H: Stepping,

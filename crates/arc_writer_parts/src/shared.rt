@@ -155,7 +155,7 @@ impl<S: Slice, B: BufferMut<S::Item> + Drop, M: Drop, A: Allocator + Copy, H: Ma
         }
     }
 
-    /// The same parts, of items of another kind. It adds nothing.
+    /// The same parts, of items of another kind. It adds no entry.
     pub fn into_kind<K: Slice<Item = S::Item>>(self) -> SharedParts<K, B, M, A, H>
         requires { K.DROPS ≡ S.DROPS }
         ensures { result ≡ self }

@@ -127,7 +127,7 @@ impl<const MAX: u64, H: Mark> Owners<MAX, H> {
     ///
     /// # History
     ///
-    /// Up, or Full where refused.
+    /// Up, or Full where it is refused.
     pub fn up_as(
         &self,
         rt: &impl Wait,

@@ -17,7 +17,7 @@ use crate::mark::Mark;
 
 impl<const MAX: u64, H: Mark> Owners<MAX, H> {
     /// One attempt of `up_as` on the place of the word: nothing where another thread's step came
-    /// between, and then no entry is added. Who calls it tries again.
+    /// between, and then no entry is added. The caller tries again.
     ///
     /// # Safety
     ///

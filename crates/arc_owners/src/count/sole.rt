@@ -102,7 +102,7 @@ impl<const MAX: u64, H: Mark> Owners<MAX, H> {
 }
 
 impl<H: Mark> Sole<H> {
-    /// Shows a pass the block's whole history so far, in which no other owner lives. It adds no
+    /// Shows a pass the block's whole history up to here, in which no other owner lives. It adds no
     /// entry and takes no memory.
     #[tactic(auto, using(crate::proofs::count::Calls::sees_alone))]
     pub fn only(&self, pass: &mut Pass<H>)

@@ -447,7 +447,7 @@ impl<V: Drop, A: Allocator + Copy, const MAX: u64, H: Mark> CountedBox<V, A, MAX
     ghost use Rattle.arc_owners.specs.memory.Boxes.{place_in};
 
     /// One attempt to make one owner more of the same value, through this one: nothing where
-    /// another thread's step came between, and then no entry is added. Who calls it tries again.
+    /// another thread's step came between, and then no entry is added. The caller tries again.
     ///
     /// Takes no memory, and copies nothing.
     ///
@@ -457,7 +457,7 @@ impl<V: Drop, A: Allocator + Copy, const MAX: u64, H: Mark> CountedBox<V, A, MAX
     ///
     /// # History
     ///
-    /// Up, or Full where refused.
+    /// Up, or Full where it is refused.
     #[inline(always)]
     pub fn try_clone_once_as(
         &self,
@@ -502,7 +502,7 @@ impl<V: Drop, A: Allocator + Copy, const MAX: u64, H: Mark> CountedBox<V, A, MAX
     ///
     /// # History
     ///
-    /// Up, or Full where refused.
+    /// Up, or Full where it is refused.
     pub fn try_clone_as(&self, rt: &impl Wait, pass: &mut Pass<H>) -> Result<Self, CountFull>
         requires pass { IsPassFor (owner_in self.now) pass.old }
         ensures made { IfOk result (λ piece.

@@ -105,7 +105,7 @@ impl<V: Drop, A: Allocator + Copy, const MAX: u64, H: Mark> SoleBox<V, A, MAX, H
         inner.value_mut().value_mut()
     }
 
-    /// Shows a pass the block's whole history so far, in which no other owner lives. It adds no
+    /// Shows a pass the block's whole history up to here, in which no other owner lives. It adds no
     /// entry and takes no memory.
     pub fn only(&self, pass: &mut Pass<H>)
         requires pass { IsPassFor (sole_in self.now) pass.old }

@@ -38,7 +38,7 @@ impl<const MAX: u64, H: Mark> SoleCount<MAX, H> {
         (SoleCount { owners, sole }, pass)
     }
 
-    /// Shows a pass the block's whole history so far, in which no other owner lives. It adds no
+    /// Shows a pass the block's whole history up to here, in which no other owner lives. It adds no
     /// entry and takes no memory.
     pub fn only(&self, pass: &mut Pass<H>)
         requires pass { IsPassFor (count_owner self.now) pass.old }

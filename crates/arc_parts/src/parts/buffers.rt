@@ -31,8 +31,8 @@ impl<S: Slice, B: Buffer<S::Item> + Drop, M: Drop, A: Allocator + Copy, H: Mark>
     A,
     H,
 > {
-    /// All items of a caller's buffer, on a block that keeps the buffer, with its metadata where
-    /// there is some: no item is copied. The pass, which is of no block, becomes the block's.
+    /// All items of a caller's buffer, on a block that keeps the buffer and the metadata, if there
+    /// is some. No item is copied. The pass, which is of no block, becomes the block's.
     ///
     /// # Errors
     ///
@@ -136,7 +136,7 @@ impl<S: Slice, B: Buffer<S::Item> + Drop, M: Drop, A: Allocator + Copy, H: Mark>
         }
     }
 
-    /// The metadata of the block, where it was made with some.
+    /// The metadata that the block was made with, or `None`.
     pub fn metadata(&self) -> Option<&M>
         ensures some { IfSome result (λ m. metadata_at self.now.place ≡ Some m.now) }
         ensures none { IfNone result (metadata_at self.now.place ≡ None) }
@@ -157,13 +157,13 @@ impl<S: Slice, B: Buffer<S::Item> + Drop, M: Drop, A: Allocator + Copy, H: Mark>
         }
     }
 
-    /// The caller's buffer, where the items are all of it, and no other owner lives. Its metadata
-    /// is dropped.
+    /// The caller's buffer, where the items are all of it and no other owner lives. The block's
+    /// metadata is dropped.
     ///
     /// # Errors
     ///
-    /// The parts, on another block or none, where another owner lives, and where the items are a
-    /// part alone.
+    /// The parts come back where they stand on no caller's buffer, where the items are only a part
+    /// of it, and where another owner lives.
     ///
     /// # History
     ///
@@ -209,13 +209,14 @@ impl<S: Slice, B: Buffer<S::Item> + Drop, M: Drop, A: Allocator + Copy, H: Mark>
         }
     }
 
-    /// Ends the parts by one subtraction, where the items are all of a caller's buffer. The last
-    /// owner gets the buffer, and its metadata is dropped; the others get nothing.
+    /// Ends the parts, where the items are all of a caller's buffer, by one subtraction from the
+    /// count. The last owner gets the buffer, and the block's metadata is dropped; every other one
+    /// gets `None`.
     ///
     /// # Errors
     ///
-    /// The parts, exactly on another block or none, and where the items are a part alone. Nothing
-    /// has happened then.
+    /// The parts come back exactly where they stand on no such buffer, or where the items are only
+    /// a part of it. Nothing is done then.
     ///
     /// # History
     ///
@@ -267,13 +268,13 @@ impl<S: Slice, B: Buffer<S::Item> + Drop, M: Drop, A: Allocator + Copy, H: Mark>
         }
     }
 
-    /// The `Arc` of the caller's buffer, where the items are all of that, and no other owner of the
-    /// block lives. Of an `Arc` that is a block by itself nobody is asked.
+    /// The `Arc` of the caller's buffer, where the items are all of the buffer, and no other owner
+    /// of the block lives. Of an `Arc` that is a block by itself no count is read.
     ///
     /// # Errors
     ///
-    /// The parts, on another block or none, where another owner of a block that counts them lives,
-    /// and where the items are a part alone.
+    /// The parts come back where they stand on no `Arc`, where the items are only a part of the
+    /// buffer, and where another owner lives of a block that counts its owners.
     ///
     /// # History
     ///
@@ -312,14 +313,14 @@ impl<S: Slice, B: Buffer<S::Item> + Drop, M: Drop, A: Allocator + Copy, H: Mark>
         }
     }
 
-    /// Ends the parts by one subtraction, where the items are all of a caller's buffer behind an
-    /// `Arc`. The last owner gets the `Arc`; the others get nothing. One that is a block by itself
-    /// is had at once, and nothing is counted.
+    /// Ends the parts, where the items are all of a caller's buffer behind an `Arc`, by one
+    /// subtraction from the count. The last owner gets the `Arc`, and every other one `None`. Where
+    /// the `Arc` is a block by itself, it is given at once, and nothing is counted.
     ///
     /// # Errors
     ///
-    /// The parts, exactly on another block or none, and where the items are a part alone. Nothing
-    /// has happened then.
+    /// The parts come back exactly where they stand on no such buffer, or where the items are only
+    /// a part of it. Nothing is done then.
     ///
     /// # History
     ///
@@ -353,7 +354,8 @@ impl<S: Slice, B: Buffer<S::Item> + Drop, M: Drop, A: Allocator + Copy, H: Mark>
         }
     }
 
-    /// The metadata of the caller's buffer on which the parts stand, behind an `Arc` or not.
+    /// The metadata that lies in the caller's buffer on which the parts stand, behind an `Arc` or
+    /// not, or `None` where they stand on none.
     pub fn borrowed_metadata(&self) -> Option<&B::Metadata>
     where
         B: BorrowMetadata,

@@ -36,12 +36,13 @@ impl<S: Slice, B: Buffer<S::Item> + Drop, M: Drop, A: Allocator + Copy, H: Mark>
         }
     }
 
-    /// The items as an array, where there are `N` of them, which are all places of a native block,
-    /// and no other owner lives. Else the parts come back.
+    /// The items as an array of `N`, where they are all places of a native block, and no other
+    /// owner lives.
     ///
     /// # Errors
     ///
-    /// The parts, on no block always.
+    /// The parts come back where there is another number of items, where these aren't all places of
+    /// a native block, and where another owner lives.
     ///
     /// # History
     ///
@@ -97,9 +98,9 @@ impl<S: Slice, B: Buffer<S::Item> + Drop, M: Drop, A: Allocator + Copy, H: Mark>
         }
     }
 
-    /// What a drop does: under `Open` the owner ends with a new pass, and the last one gives the
-    /// block back; under `Whole` it is forgotten, without a step. The pass is the one that the
-    /// owner ended with; on no block, and under `Whole`, it is of none.
+    /// What a drop does. Under `Open` the owner ends with a new pass, which is the answer, and the
+    /// last one gives the block back. Under `Whole` it is a forgotten owner: no step is made. The
+    /// answer is a pass of no block under `Whole`, and on no block.
     ///
     /// # History
     ///
@@ -117,12 +118,12 @@ impl<S: Slice, B: Buffer<S::Item> + Drop, M: Drop, A: Allocator + Copy, H: Mark>
         }
     }
 
-    /// Ends the parts: it reads the count first, and gives the block back without another step
-    /// where no other owner lives, else it counts down.
+    /// Ends the parts. It reads the count first: where no other owner lives it gives the block back
+    /// without another step, and else it counts down.
     ///
     /// # History
     ///
-    /// On a block: Alone with the answer, then Down.
+    /// On a block that counts its owners: Alone with the answer, then Down.
     pub fn drop_with_unique_hint_as(self, pass: &mut Pass<H>)
         requires role { self.role ≡ reader }
         requires pass { IsPassAt self.place pass.old }
@@ -158,12 +159,11 @@ impl<S: Slice, B: Buffer<S::Item> + Drop, M: Drop, A: Allocator + Copy, H: Mark>
         Parts::over(on, start, end, alloc)
     }
 
-    /// The items as a `'static` slice, where they stand on one, or on nothing. Else the parts come
-    /// back.
+    /// The items as a `'static` slice, where they stand on one, or on nothing.
     ///
     /// # Errors
     ///
-    /// The parts, exactly where they stand on a block.
+    /// The parts come back exactly where they stand on a block.
     pub fn try_into_static(self) -> Result<StaticSlice<S::Item>, Self>
         requires role { self.role ≡ reader }
         ensures taken { IfOk result (λ items. (items ≡ self.items) × ¬ IsOnBlock self.place) }

@@ -40,8 +40,9 @@ impl<S: Slice, B: Buffer<S::Item> + Drop, M: Drop, A: Allocator + Copy, H: Mark>
     A,
     H,
 > {
-    /// All items of a vector, on a block that is the vector: no item is copied. One without places
-    /// is as a list of no items. The pass, which is of no block, becomes the block's.
+    /// All items of a vector, on a block that is the vector: no item is copied. A vector without
+    /// places is as a list of no items by `try_from_slice_as`. The pass, which is of no block,
+    /// becomes the block's.
     ///
     /// # Errors
     ///
@@ -100,8 +101,8 @@ impl<S: Slice, B: Buffer<S::Item> + Drop, M: Drop, A: Allocator + Copy, H: Mark>
     ///
     /// # Errors
     ///
-    /// The parts, on another block or none, where another owner lives, and where items that are
-    /// dropped one by one are a part alone.
+    /// The parts come back where they stand on no vector, where items that are dropped one by one
+    /// are only a part of the vector, and where another owner lives.
     ///
     /// # History
     ///
@@ -122,14 +123,14 @@ impl<S: Slice, B: Buffer<S::Item> + Drop, M: Drop, A: Allocator + Copy, H: Mark>
         self.try_take_memory_as(pass)
     }
 
-    /// Ends the parts by one subtraction, where the block is a vector. The last owner gets it, with
-    /// the items moved to its front; the others get nothing. Items that are dropped one by one have
-    /// to be all of the vector.
+    /// Ends the parts, where the block is a vector, by one subtraction from the count. The last
+    /// owner gets the vector, with the items moved to its front, and every other one `None`. Items
+    /// that are dropped one by one have to be all of the vector.
     ///
     /// # Errors
     ///
-    /// The parts, exactly on another block or none, and where items that are dropped one by one are
-    /// a part alone. Nothing has happened then.
+    /// The parts come back exactly where they stand on no vector, or where items that are dropped
+    /// one by one are only a part of the vector. Nothing is done then.
     ///
     /// # History
     ///
@@ -150,7 +151,7 @@ impl<S: Slice, B: Buffer<S::Item> + Drop, M: Drop, A: Allocator + Copy, H: Mark>
         Ok(self.into_memory_if_last_as(pass))
     }
 
-    /// Whether the list is all of the block's vector, which has no places more.
+    /// Whether the items fill all places of the block's vector.
     fn is_box_whole(&self) -> bool
         ensures { IsTrue result ↔ IsBoxWhole self.now.items self.now.place }
     {
@@ -160,13 +161,13 @@ impl<S: Slice, B: Buffer<S::Item> + Drop, M: Drop, A: Allocator + Copy, H: Mark>
         }
     }
 
-    /// The items as the block's vector, where they are all of it, it has no places more, and no
-    /// other owner lives: so it is a box.
+    /// The items as the block's vector, where they fill all its places, as a box's do, and no other
+    /// owner lives.
     ///
     /// # Errors
     ///
-    /// The parts, on another block or none, where another owner lives, and where the items are a
-    /// part of the vector's places alone.
+    /// The parts come back where they stand on no vector, where the items don't fill all places of
+    /// the vector, and where another owner lives.
     ///
     /// # History
     ///
@@ -187,13 +188,13 @@ impl<S: Slice, B: Buffer<S::Item> + Drop, M: Drop, A: Allocator + Copy, H: Mark>
         self.try_take_memory_as(pass)
     }
 
-    /// Ends the parts by one subtraction, where the items are all of the block's vector, and it has
-    /// no places more. The last owner gets the vector, which so is a box; the others get nothing.
+    /// Ends the parts, where the items fill all places of the block's vector, by one subtraction
+    /// from the count. The last owner gets the vector, and every other one `None`.
     ///
     /// # Errors
     ///
-    /// The parts, exactly on another block or none, and where the items are a part of the vector's
-    /// places alone. Nothing has happened then.
+    /// The parts come back exactly where they stand on no vector, or where the items don't fill all
+    /// places of the vector. Nothing is done then.
     ///
     /// # History
     ///
@@ -217,8 +218,8 @@ impl<S: Slice, B: Buffer<S::Item> + Drop, M: Drop, A: Allocator + Copy, H: Mark>
         Ok(self.into_memory_if_last_as(pass))
     }
 
-    /// Ends the parts, whose block is a vector, by one subtraction. The last owner gets the vector,
-    /// with the items alone.
+    /// Ends the parts, whose block is a vector, by one subtraction from the count. The last owner
+    /// gets the vector, with these items only.
     ///
     /// # History
     ///
@@ -245,11 +246,11 @@ impl<S: Slice, B: Buffer<S::Item> + Drop, M: Drop, A: Allocator + Copy, H: Mark>
         }
     }
 
-    /// The items as the vector of their block, which is one, where no other owner lives.
+    /// The items as the vector that their block is, where no other owner lives.
     ///
     /// # Errors
     ///
-    /// The parts, where another owner lives.
+    /// The parts come back where another owner lives.
     fn try_take_memory_as(self, pass: &mut Pass<H>) -> Result<Vec<S::Item, A>, Self>
         requires pass { IsPassAt self.place pass.old }
         requires sort { IsOfSort vector self.place }

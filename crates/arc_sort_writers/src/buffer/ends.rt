@@ -210,7 +210,7 @@ impl<S: Slice, B: BufferMut<S::Item> + Drop, M: Drop, A: Allocator + Copy, H: Ma
         pass
     }
 
-    /// Shows a pass the block's whole history so far, in which no other owner lives.
+    /// Shows a pass the block's whole history up to here, in which no other owner lives.
     pub fn only(&self, pass: &mut Pass<H>)
         requires pass { IsPassAt self.now.place pass.old }
         ensures { at_owner self.now.place (pass.new ≡ pass.old) (λ o.

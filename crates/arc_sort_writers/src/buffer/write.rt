@@ -48,7 +48,7 @@ impl<S: Slice, B: BufferMut<S::Item> + Drop, M: Drop, A: Allocator + Copy, H: Ma
 > {
     ghost use Rattle.arc_sort_writers.specs.Lends.{lends_buffer_items};
 
-    /// The items, to be changed in their places: what is written there they are afterwards.
+    /// The items, to be changed in their places: they are what is written there.
     pub fn as_mut_slice(&mut self) -> &mut [S::Item]
         ensures* writes_back { sem 𝓛 (lends_buffer_items S.row B.row M.row A.row H.row S.Item.row
             S.TryFromSliceError.row H.Mark S.Slice B.BufferMut.own B.Buffer

@@ -41,7 +41,7 @@ impl<S: Slice, M: Drop, A: Allocator + Copy, H: Mark> SoleNative<S, M, A, H> {
     ///
     /// # History
     ///
-    /// On a block Alone with the answer.
+    /// On a block: Alone with the answer.
     pub fn is_alone_as(&self, pass: &mut Pass<H>) -> bool
         requires pass { IsPassAt self.now.place pass.old }
         ensures { AsksAlone self.now.place pass.old pass.new result }

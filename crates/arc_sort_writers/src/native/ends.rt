@@ -68,7 +68,7 @@ impl<S: Slice, M: Drop, A: Allocator + Copy, H: Mark> SoleNative<S, M, A, H> {
         (count, memory, alloc)
     }
 
-    /// The same items and places, which others may read from now on. It adds nothing and takes no
+    /// The same items and places, which others may read from now on. It adds no entry and takes no
     /// memory.
     pub fn freeze<B: Buffer<S::Item> + Drop>(self) -> Parts<S, B, M, A, H>
         ensures { result ≡ as_reader self }
@@ -197,7 +197,7 @@ impl<S: Slice, M: Drop, A: Allocator + Copy, H: Mark> SoleNative<S, M, A, H> {
     ///
     /// # History
     ///
-    /// Taken off a block, Down without a step.
+    /// Taken off a block: Down, without an atomic step. Else nothing.
     pub fn try_into_array_as<const N: usize>(self, pass: &mut Pass<H>) -> Result<[S::Item; N], Self>
         requires pass { IsPassAt self.place pass.old }
         ensures taken { IfOk result (λ array. IsWholeWriter N self × (array ≡ self.items)) }
@@ -216,7 +216,7 @@ impl<S: Slice, M: Drop, A: Allocator + Copy, H: Mark> SoleNative<S, M, A, H> {
         Ok(whole_of::<S, A>(memory).into_array())
     }
 
-    /// The same parts, of items of another kind. It adds nothing.
+    /// The same parts, of items of another kind. It adds no entry.
     pub fn into_kind<K: Slice<Item = S::Item>>(self) -> SoleNative<K, M, A, H>
         requires { K.DROPS ≡ S.DROPS }
         ensures { result ≡ self }
@@ -234,7 +234,7 @@ impl<S: Slice, M: Drop, A: Allocator + Copy, H: Mark> SoleNative<S, M, A, H> {
     ///
     /// # History
     ///
-    /// On a block Down, without a step.
+    /// On a block: Down, without an atomic step.
     pub fn release_as(self, pass: &mut Pass<H>)
         requires pass { IsPassAt self.place pass.old }
         ensures entry { at_owner self.place (pass.new ≡ pass.old) (λ o.
@@ -253,7 +253,7 @@ impl<S: Slice, M: Drop, A: Allocator + Copy, H: Mark> SoleNative<S, M, A, H> {
     ///
     /// # History
     ///
-    /// On a block Down under `Open`, without a step, and nothing under `Whole`.
+    /// Under `Open`, on a block: Down, without an atomic step. Else nothing.
     pub fn let_go(self) -> Pass<H>
         ensures forgotten { H.whole ≡ true → IsPassOfNone result }
         ensures ended { H.whole ≡ false → EndsAt self.place result }
@@ -269,8 +269,8 @@ impl<S: Slice, M: Drop, A: Allocator + Copy, H: Mark> SoleNative<S, M, A, H> {
         }
     }
 
-    /// Shows a pass the block's whole history so far, in which no other owner lives. It adds
-    /// nothing.
+    /// Shows a pass the block's whole history up to here, in which no other owner lives. It adds no
+    /// entry.
     pub fn only(&self, pass: &mut Pass<H>)
         requires pass { IsPassAt self.now.place pass.old }
         ensures { at_owner self.now.place (pass.new ≡ pass.old) (λ o.
@@ -281,7 +281,7 @@ impl<S: Slice, M: Drop, A: Allocator + Copy, H: Mark> SoleNative<S, M, A, H> {
         }
     }
 
-    /// Afterwards the first pass has seen at least what the other had. It adds nothing.
+    /// Afterwards the first pass has seen at least what the other had. It adds no entry.
     pub fn learn(&self, pass: &mut Pass<H>, other: &Pass<H>)
         requires pass { IsPassAt self.now.place pass.old }
         requires other { IsPassAt self.now.place other.now }
@@ -296,7 +296,7 @@ impl<S: Slice, M: Drop, A: Allocator + Copy, H: Mark> SoleNative<S, M, A, H> {
 
 impl<S: Slice, M: Drop, A: Allocator + Copy, H: Stepping> SoleNative<S, M, A, H> {
     /// A new pass of the block, which has seen at least how this owner became one, and made
-    /// nothing; on no block a pass of none. It adds nothing.
+    /// nothing; on no block a pass of none. It adds no entry.
     pub fn pass(&self) -> Pass<H>
         ensures { at_owner self.now.place (IsPassOfNone result) (λ o. IsNewPass o result) }
     {

@@ -18,7 +18,7 @@ use std::alloc::Allocator;
 impl<S: Slice, M: Drop, A: Allocator + Copy, H: Mark> SoleNative<S, M, A, H> {
     ghost use Rattle.arc_sort_writers.specs.Lends.{lends_native_items};
 
-    /// The items, to be changed in their places: what is written there they are afterwards.
+    /// The items, to be changed in their places: they are what is written there.
     #[inline(always)]
     pub fn as_mut_slice(&mut self) -> &mut [S::Item]
         ensures* writes_back { sem 𝓛 (lends_native_items S.row M.row A.row H.row S.Item.row
@@ -28,7 +28,8 @@ impl<S: Slice, M: Drop, A: Allocator + Copy, H: Mark> SoleNative<S, M, A, H> {
         self.memory.as_mut_slice()
     }
 
-    /// Whether there is room for so many items more without memory; then it is made.
+    /// Makes room for `additional` items more where that takes no memory, and answers whether it
+    /// did.
     pub fn try_reclaim(&mut self, additional: usize) -> bool
         ensures { Reclaims (room_for S.DROPS (type_size S.Item.row) self.old additional)
             self.old self.new result }

@@ -28,8 +28,8 @@ impl<T: Drop, A: Allocator + Copy, H: Mark> SharedNative<T, A, H> {
     ///
     /// # History
     ///
-    /// Taken, Alone and Down. Refused, Alone with no where only the count could decide, and else
-    /// nothing.
+    /// Taken: Alone with yes, then Down. Refused: Alone with no, where only the count could decide;
+    /// else nothing.
     pub fn try_into_array_as<const N: usize>(self, pass: &mut Pass<H>) -> Result<[T; N], Self>
         requires pass { IsPassFor self.owner pass.old }
         ensures whole { IfOk result (λ _. (length self.items ≡ N) × (self.size ≡ N)) }

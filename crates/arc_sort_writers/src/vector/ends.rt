@@ -47,7 +47,7 @@ impl<S: Slice, B: Buffer<S::Item> + Drop, M: Drop, A: Allocator + Copy, H: Mark>
         (count, items, start, end, alloc)
     }
 
-    /// The same items and places, which others may read from now on. It adds nothing and takes no
+    /// The same items and places, which others may read from now on. It adds no entry and takes no
     /// memory.
     pub fn freeze(self) -> Parts<S, B, M, A, H>
         ensures { result ≡ as_reader self }
@@ -131,7 +131,7 @@ impl<S: Slice, B: Buffer<S::Item> + Drop, M: Drop, A: Allocator + Copy, H: Mark>
         self
     }
 
-    /// The same parts, of items of another kind. It adds nothing.
+    /// The same parts, of items of another kind. It adds no entry.
     pub fn into_kind<K: Slice<Item = S::Item>>(self) -> SoleVector<K, B, M, A, H>
         requires { K.DROPS ≡ S.DROPS }
         ensures { result ≡ self }
@@ -150,7 +150,7 @@ impl<S: Slice, B: Buffer<S::Item> + Drop, M: Drop, A: Allocator + Copy, H: Mark>
     ///
     /// # History
     ///
-    /// Down, without a step.
+    /// Down, without an atomic step.
     pub fn release_as(self, pass: &mut Pass<H>)
         requires pass { IsPassAt self.place pass.old }
         ensures entry { at_owner self.place (pass.new ≡ pass.old) (λ o.
@@ -167,7 +167,7 @@ impl<S: Slice, B: Buffer<S::Item> + Drop, M: Drop, A: Allocator + Copy, H: Mark>
     ///
     /// # History
     ///
-    /// Down under `Open`, without a step, and nothing under `Whole`.
+    /// Under `Open`: Down, without an atomic step. Under `Whole`: nothing.
     pub fn let_go(self) -> Pass<H>
         ensures forgotten { H.whole ≡ true → IsPassOfNone result }
         ensures ended { H.whole ≡ false → EndsAt self.place result }
@@ -176,8 +176,8 @@ impl<S: Slice, B: Buffer<S::Item> + Drop, M: Drop, A: Allocator + Copy, H: Mark>
         end_sole(count, items)
     }
 
-    /// Shows a pass the block's whole history so far, in which no other owner lives. It adds
-    /// nothing.
+    /// Shows a pass the block's whole history up to here, in which no other owner lives. It adds no
+    /// entry.
     pub fn only(&self, pass: &mut Pass<H>)
         requires pass { IsPassAt self.now.place pass.old }
         ensures { at_owner self.now.place (pass.new ≡ pass.old) (λ o.
@@ -186,7 +186,7 @@ impl<S: Slice, B: Buffer<S::Item> + Drop, M: Drop, A: Allocator + Copy, H: Mark>
         self.count.only(pass);
     }
 
-    /// Afterwards the first pass has seen at least what the other had. It adds nothing.
+    /// Afterwards the first pass has seen at least what the other had. It adds no entry.
     pub fn learn(&self, pass: &mut Pass<H>, other: &Pass<H>)
         requires pass { IsPassAt self.now.place pass.old }
         requires other { IsPassAt self.now.place other.now }
@@ -205,7 +205,7 @@ impl<S: Slice, B: Buffer<S::Item> + Drop, M: Drop, A: Allocator + Copy, H: Stepp
     H,
 > {
     /// A new pass of the block, which has seen at least how this owner became one, and made
-    /// nothing. It adds nothing.
+    /// nothing. It adds no entry.
     pub fn pass(&self) -> Pass<H>
         ensures { at_owner self.now.place (IsPassOfNone result) (λ o. IsNewPass o result) }
     {

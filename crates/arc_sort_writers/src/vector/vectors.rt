@@ -38,7 +38,7 @@ impl<S: Slice, B: Buffer<S::Item> + Drop, M: Drop, A: Allocator + Copy, H: Mark>
     ///
     /// # History
     ///
-    /// Taken, Down without a step.
+    /// Taken: Down, without an atomic step. Refused: nothing.
     pub fn try_into_vec_as(self, pass: &mut Pass<H>) -> Result<Vec<S::Item, A>, Self>
         requires pass { IsPassAt self.place pass.old }
         ensures taken { IfOk result (λ v. IsVecPart S.DROPS self.items self.place
@@ -71,7 +71,7 @@ impl<S: Slice, B: Buffer<S::Item> + Drop, M: Drop, A: Allocator + Copy, H: Mark>
     ///
     /// # History
     ///
-    /// Taken, Down without a step.
+    /// Taken: Down, without an atomic step. Refused: nothing.
     pub fn try_into_box_vec_as(self, pass: &mut Pass<H>) -> Result<Vec<S::Item, A>, Self>
         requires pass { IsPassAt self.place pass.old }
         ensures taken { IfOk result (λ v. IsBoxWhole self.items self.place

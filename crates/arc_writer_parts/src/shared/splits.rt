@@ -61,8 +61,8 @@ where
     ///
     /// # History
     ///
-    /// On a native block Up, or Full where refused. On a vector Down, without a step, and Up in the
-    /// new block.
+    /// On a native block: Up, or Full where it is refused. On a vector: Down, without an atomic
+    /// step, and Up in the new block.
     pub fn try_split_as<const FRONT_STAYS: bool>(
         &mut self,
         rt: &impl Wait,
@@ -175,7 +175,7 @@ where
     ///
     /// # History
     ///
-    /// Down of the vector's owner, without a step.
+    /// Down of the vector's owner, without an atomic step.
     pub fn try_leave_vector_as(&mut self, pass: &mut Pass<H>) -> Result<Pass<H>, AllocError>
         requires vector { is_vector_at self.old.place ≡ true }
         requires pass { IsPassAt self.old.place pass.old }

@@ -28,8 +28,8 @@ impl<S: Slice, B: BufferMut<S::Item> + Drop, M: Drop, A: Allocator + Copy, H: Ma
     ///
     /// # History
     ///
-    /// Taken off a block, Alone and Down. Refused, Alone with no where only the count could decide,
-    /// and else nothing.
+    /// Taken off a block: Alone with yes, then Down. Refused: Alone with no, where only the count
+    /// could decide; else nothing.
     #[tactic(auto, using(crate::proofs::Takes::asked_taken, crate::proofs::Takes::asked_refused))]
     pub fn try_into_array_as<const N: usize>(self, pass: &mut Pass<H>) -> Result<[S::Item; N], Self>
         requires pass { IsPassAt self.place pass.old }

@@ -34,7 +34,7 @@ impl<S: Slice, B: BufferMut<S::Item> + Drop, M: Drop, A: Allocator + Copy, H: Ma
     ///
     /// # History
     ///
-    /// On a block Alone with the answer.
+    /// On a block: Alone with the answer.
     pub fn try_into_unique_as(self, pass: &mut Pass<H>) -> Result<SoleParts<S, B, M, A, H>, Self>
         requires pass { IsPassAt self.place pass.old }
         ensures entry { AsksAlone self.place pass.old pass.new (is_ok result) }
@@ -77,7 +77,7 @@ impl<S: Slice, B: BufferMut<S::Item> + Drop, M: Drop, A: Allocator + Copy, H: Ma
     ///
     /// # History
     ///
-    /// Down. Refused, nothing.
+    /// Down; nothing on an error.
     pub fn into_unique_if_last_as(
         self,
         pass: &mut Pass<H>,

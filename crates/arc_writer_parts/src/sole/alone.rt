@@ -76,7 +76,7 @@ impl<S: Slice, B: BufferMut<S::Item> + Drop, M: Drop, A: Allocator + Copy, H: Ma
     ///
     /// # History
     ///
-    /// On a block Alone with the answer.
+    /// On a block: Alone with the answer.
     pub(crate) fn is_alone_as(&self, pass: &mut Pass<H>) -> bool
         requires pass { IsPassAt self.now.place pass.old }
         ensures { AsksAlone self.now.place pass.old pass.new result }

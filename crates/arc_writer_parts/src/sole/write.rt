@@ -16,7 +16,8 @@ impl<S: Slice, B: BufferMut<S::Item> + Drop, M: Drop, A: Allocator + Copy, H: Ma
     A,
     H,
 > {
-    /// Whether there is room for so many items more without memory; then it is made.
+    /// Makes room for `additional` items more where that takes no memory, and answers whether it
+    /// did.
     pub fn try_reclaim(&mut self, additional: usize) -> bool
         ensures { Reclaims (room_for S.DROPS (type_size S.Item.row) self.old additional)
             self.old self.new result }
