@@ -173,7 +173,15 @@ impl<
     /// The first owner of a new block of a vector's memory, with its items and its places, and a
     /// pass of the block. No item is copied.
     ///
-    /// Takes memory for the count; refused, the vector comes back. `MAX` is at least 2.
+    /// `MAX` is at least 2.
+    ///
+    /// # Errors
+    ///
+    /// The vector comes back where memory for the count is refused.
+    ///
+    /// # Allocates
+    ///
+    /// Once.
     pub fn try_from_vec(
         alloc: A,
         items: Vec<S::Item, A>,
@@ -194,7 +202,15 @@ impl<
     /// The first owner of a new block of a caller's buffer, with metadata or without, and a pass of
     /// the block. No item is copied.
     ///
-    /// Takes memory for the count and the buffer; refused, both come back. `MAX` is at least 2.
+    /// `MAX` is at least 2.
+    ///
+    /// # Errors
+    ///
+    /// Buffer and metadata come back where memory for the count and the buffer is refused.
+    ///
+    /// # Allocates
+    ///
+    /// Once.
     pub fn try_from_buffer(
         alloc: A,
         buffer: B,
@@ -223,7 +239,15 @@ impl<
     /// The first owner of a new block of an `Arc` of a caller's buffer, and a pass of the block. No
     /// item is copied.
     ///
-    /// Takes memory for the count; refused, the `Arc` comes back. `MAX` is at least 2.
+    /// `MAX` is at least 2.
+    ///
+    /// # Errors
+    ///
+    /// The `Arc` comes back where memory for the count is refused.
+    ///
+    /// # Allocates
+    ///
+    /// Once.
     pub fn try_from_raw(alloc: A, shared: Arc<B, A>) -> Result<(Self, Pass<H>), Arc<B, A>>
         requires { 2 ≤ MAX }
         ensures made { IfOk result (λ r. (r.0 ≡ raw_block (B.list (arc_value shared)) r.0.owner)
@@ -237,8 +261,8 @@ impl<
         }
     }
 
-    /// One attempt to make one owner more of the same block, through this one: nothing where
-    /// another thread's step came between, and then no entry is added. The caller tries again.
+    /// One attempt to make one owner more of the same block, through this one: `None` where another
+    /// thread's step came between, and then no entry is added. The caller tries again.
     ///
     /// Takes no memory and copies no item.
     ///
@@ -301,7 +325,7 @@ impl<
         }
     }
 
-    /// A clone of the `Arc` that the block keeps. Takes no memory and adds no entry.
+    /// A clone of the `Arc` that the block keeps. It adds no entry and takes no memory.
     ///
     /// # Errors
     ///
@@ -421,7 +445,11 @@ impl<
         MAX
     }
 
-    /// Whether no other owner lives, by one load. Adds Alone with the answer. Takes no memory.
+    /// Whether no other owner lives, by one load. It takes no memory.
+    ///
+    /// # History
+    ///
+    /// Alone with the answer.
     #[inline(always)]
     pub fn is_unique_as(&self, pass: &mut Pass<H>) -> bool
         requires pass { IsPassFor self.now.owner pass.old }
@@ -454,7 +482,7 @@ impl<
     }
 
     /// What the block keeps, taken out of it, where no other owner lives: adds Alone, then the Down
-    /// of this one. Else it is handed back, and Alone was added with no. Takes no memory.
+    /// of this one. Else it is handed back, and Alone was added with no. It takes no memory.
     pub fn try_into_content_as(self, pass: &mut Pass<H>) -> Result<Content<S::Item, B, M, A>, Self>
         requires pass { IsPassFor self.owner pass.old }
         ensures content { IfOk result (λ content.
@@ -470,7 +498,8 @@ impl<
         }
     }
 
-    /// Ends this owner by one subtraction. The last one gets what the block keeps. Takes no memory.
+    /// Ends this owner by one subtraction from the count. The last one gets what the block keeps.
+    /// It takes no memory.
     ///
     /// # History
     ///
@@ -492,8 +521,12 @@ impl<
         }
     }
 
-    /// Ends this owner by one subtraction, and answers whether it was the last one: then the block
-    /// is given back. Adds its Down. Takes no memory.
+    /// Ends this owner by one subtraction from the count, and answers whether it is the last one:
+    /// then the block is given back. It takes no memory.
+    ///
+    /// # History
+    ///
+    /// Down.
     #[inline(always)]
     pub fn release_as(self, pass: &mut Pass<H>) -> bool
         requires pass { IsPassFor self.owner pass.old }
@@ -514,8 +547,8 @@ impl<
     }
 
     /// What a drop does: under `Open` this owner ends with a new pass, and the last one gives the
-    /// block back; under `Whole` it is forgotten, without a step. Takes no memory. The pass is the
-    /// one that the owner ended with; under `Whole` it is of no block.
+    /// block back; under `Whole` it is forgotten, without a step. It takes no memory. The pass is
+    /// the one that the owner ended with; under `Whole` it is of no block.
     #[inline(always)]
     pub fn let_go(self) -> Pass<H>
         ensures forgotten { H.whole ≡ true → IsPassOfNone result }
@@ -531,7 +564,7 @@ impl<
         pass
     }
 
-    /// Afterwards the first pass has seen at least what the other had. It adds no entry and takes
+    /// From here on the first pass has seen at least what the other had. It adds no entry and takes
     /// no memory.
     pub fn learn(&self, pass: &mut Pass<H>, other: &Pass<H>)
         requires pass { IsPassFor self.now.owner pass.old }
@@ -568,8 +601,8 @@ impl<
     const MAX: u64,
     H: Stepping,
 > Block<S, B, M, A, MAX, H> {
-    /// A new pass, which has seen at least the entry that made this owner, and made nothing. It
-    /// adds no entry and takes no memory.
+    /// A new pass of the block. It has seen at least the entry that made this owner, and nothing
+    /// was made with it. It adds no entry and takes no memory.
     pub fn pass(&self) -> Pass<H>
         ensures { IsNewPass self.now.owner result }
     {

@@ -45,7 +45,7 @@ impl<T: 'static> StaticShare<T> {
         unsafe { slice::from_raw_parts(base, end) }
     }
 
-    /// The items from `start` to before `end`, for good. `base` is where all begin. Reads no
+    /// The items from `start` to before `end`, for good. `base` is where all begin. It reads no
     /// memory.
     #[inline(always)]
     pub fn as_static(&self, base: *const T, start: usize, end: usize) -> &'static [T]
@@ -67,7 +67,7 @@ impl<T> StaticShare<T> {
         (none.as_ptr(), StaticShare { mark: PhantomData })
     }
 
-    /// The same again.
+    /// A copy of it, for the same items or value.
     #[inline(always)]
     pub fn again(&self) -> StaticShare<T>
         ensures { result ≡ self.now }
@@ -84,7 +84,7 @@ impl<T> StaticShare<T> {
         unsafe { slice::from_raw_parts(base, end) }
     }
 
-    /// The items from `start` to before `end`. `base` is where all begin. Reads no memory.
+    /// The items from `start` to before `end`. `base` is where all begin. It reads no memory.
     #[inline(always)]
     pub fn as_slice(&self, base: *const T, start: usize, end: usize) -> &[T]
         requires place { base ≡ self.now.ptr }
@@ -135,7 +135,7 @@ impl<T> StaticItems<T> {
         self.share.as_slice(self.base.at, start, end)
     }
 
-    /// The same again.
+    /// A copy of it, for the same items or value.
     #[inline(always)]
     pub fn again(&self) -> Self
         ensures { result ≡ self.now }
@@ -248,7 +248,7 @@ impl<T> StaticSlice<T> {
         self.len() == 0
     }
 
-    /// The items from `start` to before `end`. Reads no memory.
+    /// The items from `start` to before `end`. It reads no memory.
     #[inline(always)]
     pub fn range(&self, start: usize, end: usize) -> &[T]
         requires { (start ≤ end) × (end ≤ length self.now) }
@@ -278,7 +278,7 @@ impl<T> StaticSlice<T> {
         }
     }
 
-    /// The same again.
+    /// A copy of it, for the same items or value.
     #[inline(always)]
     pub fn again(&self) -> Self
         ensures { result ≡ self.now }

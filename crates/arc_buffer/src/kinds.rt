@@ -45,7 +45,7 @@ pub trait Slice {
     /// Why a list isn't legal.
     ghost is_refused: { List Self.Item → Self.TryFromSliceError → Type 0 };
 
-    /// Ok exactly where the list is legal. Takes no memory.
+    /// Ok exactly where the list is legal. It takes no memory.
     fn try_from_slice(items: &[Self::Item]) -> Result<(), Self::TryFromSliceError>
         ensures ok { IsOk result ↔ is_legal items.now }
         ensures refused { IfErr result (λ e. is_refused items.now e) };

@@ -129,8 +129,8 @@ impl<T, V: Drop, A: Allocator + Copy, const MAX: u64, H: Mark> FrozenReader<T, V
     }
 
     /// The only owner, where no other owner lives, reader or writer: with the value come the range
-    /// and that the lifetime has ended, for which all places come back. Else it is handed back.
-    /// Takes no memory.
+    /// and that the lifetime has ended, for which all places come back. Else it is handed back. It
+    /// takes no memory.
     ///
     /// # History
     ///
@@ -160,7 +160,7 @@ impl<T, V: Drop, const MAX: u64, H: Mark> FrozenReader<T, V, Lodged, MAX, H> {
     ghost use Rattle.arc_owners.specs.memory.Boxes.{owner_in, value_of, place_in};
 
     /// Ends this reader. The last owner gets the value, the room in which it lay, and that the
-    /// lifetime has ended, for which all places come back. Takes no memory.
+    /// lifetime has ended, for which all places come back. It takes no memory.
     ///
     /// # History
     ///
@@ -179,8 +179,8 @@ impl<T, V: Drop, const MAX: u64, H: Mark> FrozenReader<T, V, Lodged, MAX, H> {
 
     /// What a drop does: under `Open` this reader ends with a new pass, and the last owner gets the
     /// value, the room in which it lay, and that the lifetime has ended; under `Whole` it is
-    /// forgotten, without a step. Takes no memory. The pass is the one that the owner ended with;
-    /// under `Whole` it is of no block.
+    /// forgotten, without a step. It takes no memory. The pass is the one that the owner ended
+    /// with; under `Whole` it is of no block.
     #[inline(always)]
     pub fn let_go(self) -> (Option<(V, HeaderRoom<Header<V>>, EndedLifetime)>, Pass<H>)
         ensures value { IfSome result.0 (λ r. r.0 ≡ value_of self.owner) }

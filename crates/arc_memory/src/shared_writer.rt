@@ -154,7 +154,7 @@ impl<T, V: Drop, A: Allocator + Copy, const MAX: u64, H: Mark> SharedWriter<T, V
 
     /// The first `at` places, and those behind them, with the items that lie there: two writers.
     /// One of them is this one, of the front where `FRONT_STAYS`, else of the back; the other is
-    /// one owner more of the same block. Takes no memory.
+    /// one owner more of the same block. It takes no memory.
     ///
     /// # Errors
     ///
@@ -200,7 +200,7 @@ impl<T, V: Drop, A: Allocator + Copy, const MAX: u64, H: Mark> SharedWriter<T, V
 
     /// The places of both as this writer's: the other's begin where these end, and both are owners
     /// of one block, so it is one memory. These are full, or the others hold nothing. The other
-    /// owner ends. Takes no memory.
+    /// owner ends. It takes no memory.
     ///
     /// # History
     ///
@@ -226,7 +226,8 @@ impl<T, V: Drop, A: Allocator + Copy, const MAX: u64, H: Mark> SharedWriter<T, V
     }
 
     /// The only owner, where no other owner lives: with the value come the part and that the
-    /// lifetime has ended, for which all places come back. Else it is handed back. Takes no memory.
+    /// lifetime has ended, for which all places come back. Else it is handed back. It takes no
+    /// memory.
     ///
     /// # History
     ///
@@ -254,7 +255,7 @@ impl<T, V: Drop, A: Allocator + Copy, const MAX: u64, H: Mark> SharedWriter<T, V
         }
     }
 
-    /// Afterwards the first pass has seen at least what the other had. It adds no entry and takes
+    /// From here on the first pass has seen at least what the other had. It adds no entry and takes
     /// no memory.
     pub fn learn(&self, pass: &mut Pass<H>, other: &Pass<H>)
         requires pass { IsPassFor (writer_owner self.now) pass.old }
@@ -286,7 +287,7 @@ impl<T, V: Drop, const MAX: u64, H: Mark> SharedWriter<T, V, Lodged, MAX, H> {
 
     /// Ends this writer. What lies in its places is forgotten: it is for items that need no drop.
     /// The last owner gets the value, the room in which it lay, and that the lifetime has ended,
-    /// for which all places come back. Takes no memory.
+    /// for which all places come back. It takes no memory.
     ///
     /// # History
     ///
@@ -303,8 +304,8 @@ impl<T, V: Drop, const MAX: u64, H: Mark> SharedWriter<T, V, Lodged, MAX, H> {
 
     /// What a drop does: under `Open` this writer ends with a new pass, and the last owner gets the
     /// value, the room in which it lay, and that the lifetime has ended; under `Whole` it is
-    /// forgotten, without a step. What lies in its places is forgotten. Takes no memory. The pass
-    /// is the one that the owner ended with; under `Whole` it is of no block.
+    /// forgotten, without a step. What lies in its places is forgotten. It takes no memory. The
+    /// pass is the one that the owner ended with; under `Whole` it is of no block.
     pub fn let_go(self) -> (Option<(V, HeaderRoom<Header<V>>, EndedLifetime)>, Pass<H>)
         ensures value { IfSome result.0 (λ r. r.0 ≡ writer_value self) }
         ensures room { IfSome result.0 (λ r. r.1.at ≡ writer_place self) }
@@ -322,8 +323,8 @@ impl<T, V: Drop, A: Allocator + Copy, const MAX: u64, H: Stepping> SharedWriter<
     ghost use Rattle.arc_owners.specs.count.Calls.{IsNewPass};
     ghost use Rattle.arc_memory.specs.SharedWriters.{writer_owner};
 
-    /// A new pass, which has seen at least the entry that made this owner, and made nothing. It
-    /// adds no entry and takes no memory.
+    /// A new pass of the block. It has seen at least the entry that made this owner, and nothing
+    /// was made with it. It adds no entry and takes no memory.
     pub fn pass(&self) -> Pass<H>
         ensures { IsNewPass (writer_owner self.now) result }
     {

@@ -45,7 +45,7 @@ fn is_turning<C: Carried>(command: &Cmd<C>) -> bool
     )
 }
 
-/// The window ends, if there is one, whatever the table is run under. Takes no memory.
+/// The window ends, if there is one, whatever the table is run under. It takes no memory.
 ///
 /// # History
 ///

@@ -87,7 +87,7 @@ where
     }
 
     /// Puts the places of another window behind this one's, with the items that lie there: both are
-    /// of several writers. The other owner ends. Takes no memory.
+    /// of several writers. The other owner ends. It takes no memory.
     ///
     /// # Errors
     ///

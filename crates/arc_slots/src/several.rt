@@ -197,11 +197,11 @@ where
     }
 
     /// The window, which is one of several, as the only one that is written, where it stands on a
-    /// block and no other owner of that lives. Takes no memory.
+    /// block and no other owner of that lives. It takes no memory.
     ///
     /// # Errors
     ///
-    /// The window itself.
+    /// The window itself comes back.
     ///
     /// # History
     ///
@@ -285,11 +285,11 @@ where
     }
 
     /// The window, which is written alone, as one of several, where it stands on no caller's
-    /// buffer. Takes no memory.
+    /// buffer. It takes no memory.
     ///
     /// # Errors
     ///
-    /// The window itself.
+    /// The window itself comes back.
     pub fn try_share(self) -> Result<Self, Self>
         requires writes { is_sole self.role ≡ true }
         requires shares { S.Calls.calls.shares ≡ true }

@@ -496,7 +496,7 @@ where
     }
 
     /// The window as one that is written, where its block may be written and no other owner of that
-    /// lives, or where it has no items and stands on none. Takes no memory.
+    /// lives, or where it has no items and stands on none. It takes no memory.
     ///
     /// # Errors
     ///
@@ -629,7 +629,7 @@ where
     }
 
     /// Whether nobody else has a part of what the window stands on: on a block the count is asked,
-    /// and a caller's buffer after it. `false` on no block, and of an `Arc`. Takes no memory.
+    /// and a caller's buffer after it. `false` on no block, and of an `Arc`. It takes no memory.
     ///
     /// # History
     ///
@@ -649,7 +649,7 @@ where
         alone
     }
 
-    /// Ends the window: the last owner gives its block back. Takes no memory.
+    /// Ends the window: the last owner gives its block back. It takes no memory.
     ///
     /// # History
     ///

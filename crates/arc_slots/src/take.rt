@@ -54,7 +54,7 @@ impl Taking {
 ///
 /// # Errors
 ///
-/// The parts.
+/// The parts come back.
 ///
 /// # History
 ///
@@ -100,7 +100,7 @@ fn try_into_reply<S: Commands<A>, B: BufferMut<S::Item> + Drop, M: Drop, A: Allo
 ///
 /// # Errors
 ///
-/// The parts; the pass is then as before.
+/// The parts come back; the pass is then as before.
 ///
 /// # History
 ///
@@ -160,7 +160,7 @@ where
     ///
     /// # Errors
     ///
-    /// The window itself.
+    /// The window itself comes back.
     ///
     /// # History
     ///
@@ -201,7 +201,7 @@ where
     ///
     /// # Errors
     ///
-    /// The window itself; then nothing was added.
+    /// The window itself comes back. Nothing is added then.
     ///
     /// # History
     ///
@@ -248,7 +248,7 @@ where
     ///
     /// # Errors
     ///
-    /// The window itself.
+    /// The window itself comes back.
     ///
     /// # History
     ///
@@ -285,12 +285,12 @@ where
         }
     }
 
-    /// The items of the window, which is read, for good, where it stands on no block. Takes no
+    /// The items of the window, which is read, for good, where it stands on no block. It takes no
     /// memory.
     ///
     /// # Errors
     ///
-    /// The window itself.
+    /// The window itself comes back.
     fn try_into_static(self) -> Result<StaticSlice<S::Item>, Self>
         requires reads { self.role ≡ reader }
         ensures items { IfOk result (λ items. items ≡ self.window.items) }

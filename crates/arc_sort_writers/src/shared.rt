@@ -120,7 +120,7 @@ impl<T: Drop, A: Allocator + Copy, H: Mark> SharedNative<T, A, H> {
     }
 
     /// The only owner of the same block, with its memory, where no other owner lives: his places
-    /// begin where the writer's did. Else the writer is handed back. Takes no memory.
+    /// begin where the writer's did. Else the writer is handed back. It takes no memory.
     ///
     /// # History
     ///
@@ -157,8 +157,8 @@ impl<T: Drop, A: Allocator + Copy, H: Mark> SharedNative<T, A, H> {
         }
     }
 
-    /// Ends this writer by one subtraction. The last owner gets the block's memory: his places begin
-    /// where the writer's did. Takes no memory.
+    /// Ends this writer by one subtraction from the count. The last owner gets the block's memory:
+    /// his places begin where the writer's did. It takes no memory.
     ///
     /// # History
     ///
@@ -263,7 +263,7 @@ impl<T: Drop, A: Allocator + Copy, H: Mark> SharedNative<T, A, H> {
 
     /// The first `at` places, and those behind them: two writers. One of them is this one, of the
     /// front where `FRONT_STAYS`, else of the back; the other is one owner more of the same block.
-    /// Takes no memory.
+    /// It takes no memory.
     ///
     /// # Errors
     ///
@@ -333,7 +333,7 @@ impl<T: Drop, A: Allocator + Copy, H: Mark> SharedNative<T, A, H> {
     }
 
     /// The places of both as this writer's: the other's begin where these end, and both are owners
-    /// of one block. These are full. The other owner ends. Takes no memory.
+    /// of one block. These are full. The other owner ends. It takes no memory.
     ///
     /// # History
     ///
@@ -370,7 +370,7 @@ impl<T: Drop, A: Allocator + Copy, H: Mark> SharedNative<T, A, H> {
         NativeBlock::of_reader(Base { at }, writer.freeze(), head)
     }
 
-    /// Ends this writer; the last owner gives the block back. Takes no memory.
+    /// Ends this writer; the last owner gives the block back. It takes no memory.
     ///
     /// # History
     ///
@@ -414,8 +414,8 @@ impl<T: Drop, A: Allocator + Copy, H: Mark> SharedNative<T, A, H> {
     }
 
     /// What a drop does: under `Open` this owner ends with a new pass, and the last one gives the
-    /// block back; under `Whole` it is forgotten, without a step. Takes no memory. The pass is the
-    /// one that the owner ended with; under `Whole` it is of no block.
+    /// block back; under `Whole` it is forgotten, without a step. It takes no memory. The pass is
+    /// the one that the owner ended with; under `Whole` it is of no block.
     #[tactic(auto, using(crate::proofs::Takes::kept_until, crate::proofs::Takes::laid_room))]
     pub fn let_go(self) -> Pass<H>
         ensures forgotten { H.whole ≡ true → IsPassOfNone result }
@@ -429,7 +429,7 @@ impl<T: Drop, A: Allocator + Copy, H: Mark> SharedNative<T, A, H> {
         pass
     }
 
-    /// Afterwards the first pass has seen at least what the other had. It adds no entry.
+    /// From here on the first pass has seen at least what the other had. It adds no entry.
     pub fn learn(&self, pass: &mut Pass<H>, other: &Pass<H>)
         requires pass { IsPassFor self.now.owner pass.old }
         requires other { IsPassFor self.now.owner other.now }
@@ -473,8 +473,8 @@ impl<T: Copy + Drop, A: Allocator + Copy, H: Mark> SharedNative<T, A, H> {
 }
 
 impl<T: Drop, A: Allocator + Copy, H: Stepping> SharedNative<T, A, H> {
-    /// A new pass of the block, which has seen at least how this owner became one, and made
-    /// nothing. It adds no entry.
+    /// A new pass of the block. It has seen at least how this owner became one, and nothing was
+    /// made with it. It adds no entry.
     pub fn pass(&self) -> Pass<H>
         ensures { IsNewPass self.now.owner result }
     {

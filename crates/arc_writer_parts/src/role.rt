@@ -339,15 +339,15 @@ pub trait WriterParts<
     fn end(self)
         ensures ended { H.whole ≡ false → EndsShownAt H H.real (seen self).place };
 
-    /// Afterwards the first pass has seen at least what the other had. It adds no entry.
+    /// From here on the first pass has seen at least what the other had. It adds no entry.
     fn learn(&self, pass: &mut Pass<H>, other: &Pass<H>)
         requires pass { IsPassAt (seen self.now).place pass.old }
         requires other { IsPassAt (seen self.now).place other.now }
         ensures { at_owner (seen self.now).place (pass.new ≡ pass.old) (λ o.
             Learns o.block pass.old other.now pass.new) };
 
-    /// A new pass of the block, which has seen at least how this owner became one, and made
-    /// nothing; on no block a pass of none. It adds no entry.
+    /// A new pass of the block. It has seen at least how this owner became one, and nothing was
+    /// made with it. On no block it is a pass of none. It adds no entry.
     fn pass(&self) -> Pass<H>
     where
         H: Stepping,

@@ -98,7 +98,7 @@ impl<S: Slice, A: Allocator + Copy, const MAX: u64, H: Mark> Drop for NativeBloc
 
 impl<S: Slice, A: Allocator + Copy, const MAX: u64, H: Mark> NativeBlock<S, A, MAX, H> {
     /// One attempt to make one owner more of the same block, through this one, who reads the same
-    /// items: nothing where another thread's step came between, and then no entry is added. The
+    /// items: `None` where another thread's step came between, and then no entry is added. The
     /// caller tries again.
     ///
     /// Takes no memory and copies no item.
@@ -165,7 +165,11 @@ impl<S: Slice, A: Allocator + Copy, const MAX: u64, H: Mark> NativeBlock<S, A, M
         MAX
     }
 
-    /// Whether no other owner lives, by one load. Adds Alone with the answer. Takes no memory.
+    /// Whether no other owner lives, by one load. It takes no memory.
+    ///
+    /// # History
+    ///
+    /// Alone with the answer.
     #[inline(always)]
     pub fn is_unique_as(&self, pass: &mut Pass<H>) -> bool
         requires pass { IsPassFor self.now.owner pass.old }
@@ -174,8 +178,12 @@ impl<S: Slice, A: Allocator + Copy, const MAX: u64, H: Mark> NativeBlock<S, A, M
         self.reader.owner.is_unique_as(pass)
     }
 
-    /// Ends this owner by one subtraction, and answers whether it was the last one: then the block
-    /// is given back. Adds its Down. Takes no memory.
+    /// Ends this owner by one subtraction from the count, and answers whether it is the last one:
+    /// then the block is given back. It takes no memory.
+    ///
+    /// # History
+    ///
+    /// Down.
     #[inline(always)]
     #[tactic(auto, using(crate::proofs::Natives::kept_ended, crate::proofs::Natives::laid_room))]
     pub fn release_as(self, pass: &mut Pass<H>) -> bool
@@ -191,8 +199,8 @@ impl<S: Slice, A: Allocator + Copy, const MAX: u64, H: Mark> NativeBlock<S, A, M
     }
 
     /// What a drop does: under `Open` this owner ends with a new pass, and the last one gives the
-    /// block back; under `Whole` it is forgotten, without a step. Takes no memory. The pass is the
-    /// one that the owner ended with; under `Whole` it is of no block.
+    /// block back; under `Whole` it is forgotten, without a step. It takes no memory. The pass is
+    /// the one that the owner ended with; under `Whole` it is of no block.
     #[inline(always)]
     #[tactic(auto, using(crate::proofs::Natives::kept_ended, crate::proofs::Natives::laid_room))]
     pub fn let_go(self) -> Pass<H>
@@ -210,7 +218,7 @@ impl<S: Slice, A: Allocator + Copy, const MAX: u64, H: Mark> NativeBlock<S, A, M
     }
 
     /// Ends this owner: it reads the count first, and gives the block back without another step
-    /// where no other owner lives, else it counts down. Takes no memory.
+    /// where no other owner lives, else it counts down. It takes no memory.
     ///
     /// # History
     ///
@@ -233,7 +241,7 @@ impl<S: Slice, A: Allocator + Copy, const MAX: u64, H: Mark> NativeBlock<S, A, M
         }
     }
 
-    /// Afterwards the first pass has seen at least what the other had. It adds no entry and takes
+    /// From here on the first pass has seen at least what the other had. It adds no entry and takes
     /// no memory.
     pub fn learn(&self, pass: &mut Pass<H>, other: &Pass<H>)
         requires pass { IsPassFor self.now.owner pass.old }
@@ -256,8 +264,8 @@ impl<S: Slice, A: Allocator + Copy, const MAX: u64, H: Mark> NativeBlock<S, A, M
 }
 
 impl<S: Slice, A: Allocator + Copy, const MAX: u64, H: Stepping> NativeBlock<S, A, MAX, H> {
-    /// A new pass, which has seen at least the entry that made this owner, and made nothing. It
-    /// adds no entry and takes no memory.
+    /// A new pass of the block. It has seen at least the entry that made this owner, and nothing
+    /// was made with it. It adds no entry and takes no memory.
     pub fn pass(&self) -> Pass<H>
         ensures { IsNewPass self.now.owner result }
     {
@@ -326,7 +334,15 @@ impl<S: Slice, A: Allocator + Copy, const MAX: u64, H: Mark> NativeBlock<S, A, M
     /// The first owner of a new block with a copy of the items, and exactly a place for each, with
     /// a pass of the block.
     ///
-    /// Takes memory; refused, the answer is `AllocError`. `MAX` is at least 2.
+    /// `MAX` is at least 2.
+    ///
+    /// # Errors
+    ///
+    /// `AllocError` where memory for the block is refused.
+    ///
+    /// # Allocates
+    ///
+    /// Once.
     pub fn try_from_slice(alloc: A, items: &[S::Item]) -> Result<(Self, Pass<H>), AllocError>
     where
         S::Item: Copy,
@@ -347,7 +363,15 @@ impl<S: Slice, A: Allocator + Copy, const MAX: u64, H: Mark> NativeBlock<S, A, M
     /// The first owner of a new block with the items of an array, and exactly a place for each,
     /// with a pass of the block.
     ///
-    /// Takes memory; refused, the array comes back. `MAX` is at least 2.
+    /// `MAX` is at least 2.
+    ///
+    /// # Errors
+    ///
+    /// The array comes back where memory for the block is refused.
+    ///
+    /// # Allocates
+    ///
+    /// Once.
     pub fn try_from_array<const N: usize>(
         alloc: A,
         array: [S::Item; N],
@@ -411,7 +435,7 @@ impl<S: Slice, A: Allocator + Copy, const MAX: u64, H: Mark> NativeBlock<S, A, M
     /// The only owner of the same block, where no other one lives, and the block's memory, with the
     /// items in the places from `start` on and before `end`: those of another place are forgotten,
     /// unless they are dropped one by one, when all items stay. Else the block is handed back. No
-    /// item is moved. Takes no memory.
+    /// item is moved. It takes no memory.
     ///
     /// # History
     ///
@@ -445,7 +469,7 @@ impl<S: Slice, A: Allocator + Copy, const MAX: u64, H: Mark> NativeBlock<S, A, M
 
     /// The block's memory, taken where no other owner lives, with the items in the places from
     /// `start` on and before `end`: those of another place are forgotten, unless they are dropped
-    /// one by one, when all items stay. Else the block is handed back. Takes no memory.
+    /// one by one, when all items stay. Else the block is handed back. It takes no memory.
     ///
     /// # History
     ///

@@ -90,7 +90,7 @@ impl<
     }
 
     /// The only owner of the same block, a vector, and that, where no other one lives. Else the
-    /// block is handed back. Takes no memory.
+    /// block is handed back. It takes no memory.
     ///
     /// # History
     ///
@@ -129,7 +129,7 @@ impl<
     }
 
     /// The only owner of the same block, which keeps its items, where no other one lives. Else the
-    /// block is handed back. Takes no memory.
+    /// block is handed back. It takes no memory.
     ///
     /// # History
     ///

@@ -42,7 +42,7 @@ impl<V: Drop, A: Allocator + Copy> Housed<V, A> {
 
 impl<V: Drop, A: Allocator + Copy> Inner<Housed<V, A>> {
     /// Where the value lies in a block's memory, and that it lies there for as long as all of the
-    /// memory is lent. Reads no memory.
+    /// memory is lent. It reads no memory.
     #[inline(always)]
     pub(crate) fn value_place(
         at: *const Inner<Housed<V, A>>,
@@ -185,7 +185,7 @@ impl<V: Drop, A: Allocator + Copy, const MAX: u64, H: Mark> CountedBox<V, A, MAX
     }
 
     /// Of the slice that the value showed the items from `start` to before `end`. `base` is where
-    /// all begin. Reads no memory.
+    /// all begin. It reads no memory.
     #[inline(always)]
     pub fn range<'a, T>(
         &'a self,
@@ -213,7 +213,7 @@ impl<V: Drop, A: Allocator + Copy, const MAX: u64, H: Mark> CountedBox<V, A, MAX
     }
 
     /// The owner's share of the lifetime for which the value is lent, to read and to freeze what
-    /// else is lent for it. Reads no memory.
+    /// else is lent for it. It reads no memory.
     #[inline(always)]
     pub fn lifetime(&self) -> &LifetimeToken
         ensures { result.now.lifetime ≡ lifetime_in self.now }
@@ -246,7 +246,11 @@ impl<V: Drop, A: Allocator + Copy, const MAX: u64, H: Mark> CountedBox<V, A, MAX
         (rest, lifetime)
     }
 
-    /// Whether no other owner lives, by one load. Adds Alone with the answer. Takes no memory.
+    /// Whether no other owner lives, by one load. It takes no memory.
+    ///
+    /// # History
+    ///
+    /// Alone with the answer.
     #[inline(always)]
     pub fn is_unique_as(&self, pass: &mut Pass<H>) -> bool
         requires pass { IsPassFor (owner_in self.now) pass.old }
@@ -257,7 +261,7 @@ impl<V: Drop, A: Allocator + Copy, const MAX: u64, H: Mark> CountedBox<V, A, MAX
     }
 
     /// The memory back, with the value in it, where no other owner lives: the same owner has both.
-    /// Else it is handed back. Adds Alone with the answer. Takes no memory.
+    /// Else it is handed back. Adds Alone with the answer. It takes no memory.
     pub fn try_into_sole_as(self, pass: &mut Pass<H>) -> Result<SoleBox<V, A, MAX, H>, Self>
         requires pass { IsPassFor (owner_in self) pass.old }
         ensures entry { Asks (owner_in self) pass.old pass.new (is_ok result) }
@@ -313,7 +317,7 @@ impl<V: Drop, A: Allocator + Copy, const MAX: u64, H: Mark> CountedBox<V, A, MAX
     }
 
     /// The value back, and the memory to its allocator, where no other owner lives: adds Alone,
-    /// then the Down of this one. Else it is handed back, and Alone was added with no. Takes no
+    /// then the Down of this one. Else it is handed back, and Alone was added with no. It takes no
     /// memory.
     pub fn try_into_value_as(self, pass: &mut Pass<H>) -> Result<V, Self>
         requires pass { IsPassFor (owner_in self) pass.old }
@@ -353,8 +357,8 @@ impl<V: Drop, A: Allocator + Copy, const MAX: u64, H: Mark> CountedBox<V, A, MAX
         (share, kept)
     }
 
-    /// Ends this owner by one subtraction. Adds its Down. The last one gives the memory back, and
-    /// gets the value. Takes no memory.
+    /// Ends this owner by one subtraction from the count. Adds its Down. The last one gives the
+    /// memory back, and gets the value. It takes no memory.
     #[inline(always)]
     pub fn release_as(self, pass: &mut Pass<H>) -> Option<V>
         requires pass { IsPassFor (owner_in self) pass.old }
@@ -388,8 +392,8 @@ impl<V: Drop, A: Allocator + Copy, const MAX: u64, H: Mark> CountedBox<V, A, MAX
     }
 
     /// What a drop does: under `Open` this owner ends with a new pass, and the last one gets the
-    /// value; under `Whole` it is forgotten, without a step. Takes no memory. The pass is the one
-    /// that the owner ended with; under `Whole` it is of no block.
+    /// value; under `Whole` it is forgotten, without a step. It takes no memory. The pass is the
+    /// one that the owner ended with; under `Whole` it is of no block.
     #[inline(always)]
     pub fn let_go(self) -> (Option<V>, Pass<H>)
         ensures value { IfSome result.0 (λ value. value ≡ value_of self) }
@@ -429,7 +433,7 @@ impl<V: Drop, A: Allocator + Copy, const MAX: u64, H: Mark> CountedBox<V, A, MAX
         }
     }
 
-    /// Afterwards the first pass has seen at least what the other had. It adds no entry and takes
+    /// From here on the first pass has seen at least what the other had. It adds no entry and takes
     /// no memory.
     pub fn learn(&self, pass: &mut Pass<H>, other: &Pass<H>)
         requires pass { IsPassFor (owner_in self.now) pass.old }
@@ -446,8 +450,8 @@ impl<V: Drop, A: Allocator + Copy, const MAX: u64, H: Mark> CountedBox<V, A, MAX
     ghost use Rattle.arc_owners.specs.memory.Boxes.{owner_in, value_of, lifetime_in, note_in};
     ghost use Rattle.arc_owners.specs.memory.Boxes.{place_in};
 
-    /// One attempt to make one owner more of the same value, through this one: nothing where
-    /// another thread's step came between, and then no entry is added. The caller tries again.
+    /// One attempt to make one owner more of the same value, through this one: `None` where another
+    /// thread's step came between, and then no entry is added. The caller tries again.
     ///
     /// Takes no memory, and copies nothing.
     ///
@@ -531,8 +535,8 @@ impl<V: Drop, A: Allocator + Copy, const MAX: u64, H: Stepping> CountedBox<V, A,
     ghost use Rattle.arc_owners.specs.count.Calls.{MakesAnother, Leaves, TakesBlock, EndsByItself};
     ghost use Rattle.arc_owners.specs.memory.Boxes.{owner_in, value_of};
 
-    /// A new pass, which has seen at least the entry that made this owner, and made nothing. It
-    /// adds no entry and takes no memory.
+    /// A new pass of the block. It has seen at least the entry that made this owner, and nothing
+    /// was made with it. It adds no entry and takes no memory.
     pub fn pass(&self) -> Pass<H>
         ensures { IsNewPass (owner_in self.now) result }
     {

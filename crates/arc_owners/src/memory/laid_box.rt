@@ -75,8 +75,8 @@ impl<V: Drop, const MAX: u64, H: Mark> CountedBox<V, Lodged, MAX, H> {
     ghost use Rattle.arc_owners.specs.count.Calls.{IsPassFor, IsPassOfNone, Leaves, EndsByItself};
     ghost use Rattle.arc_owners.specs.memory.Boxes.{owner_in, value_of, lifetime_in, place_in};
 
-    /// Ends this owner by one subtraction. The last one gets the value, the room in which it lay,
-    /// and that the lifetime has ended for which it was lent. Takes no memory.
+    /// Ends this owner by one subtraction from the count. The last one gets the value, the room in
+    /// which it lay, and that the lifetime has ended for which it was lent. It takes no memory.
     ///
     /// # History
     ///
@@ -101,7 +101,7 @@ impl<V: Drop, const MAX: u64, H: Mark> CountedBox<V, Lodged, MAX, H> {
     }
 
     /// What a drop does, for an owner whose last one frees the memory: `let_go`, and with the value
-    /// the room in which it lay, and that the lifetime has ended for which it was lent. Takes no
+    /// the room in which it lay, and that the lifetime has ended for which it was lent. It takes no
     /// memory.
     #[inline(always)]
     pub fn let_go_with_room(self) -> (Option<(V, HeaderRoom<Header<V>>, EndedLifetime)>, Pass<H>)

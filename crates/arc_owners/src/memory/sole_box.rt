@@ -114,8 +114,12 @@ impl<V: Drop, A: Allocator + Copy, const MAX: u64, H: Mark> SoleBox<V, A, MAX, H
         self.sole.only(pass);
     }
 
-    /// Whether no other owner lives, by one load, as an owner asks to whom the value is lent. Adds
-    /// Alone with the answer. Takes no memory.
+    /// Whether no other owner lives, by one load, as an owner asks to whom the value is lent. It
+    /// takes no memory.
+    ///
+    /// # History
+    ///
+    /// Alone with the answer.
     #[tactic(auto, using(crate::proofs::count::Calls::asks_of))]
     pub fn is_unique_as(&self, pass: &mut Pass<H>) -> bool
         requires pass { IsPassFor (sole_in self.now) pass.old }
@@ -160,7 +164,7 @@ impl<V: Drop, A: Allocator + Copy, const MAX: u64, H: Mark> SoleBox<V, A, MAX, H
     }
 
     /// The value, and the memory to its allocator. Adds the Down of this owner, the last one,
-    /// without a step. Takes no memory.
+    /// without a step. It takes no memory.
     pub fn into_value_as(self, pass: &mut Pass<H>) -> V
         requires pass { IsPassFor (sole_in self) pass.old }
         ensures entry { Leaves (sole_in self) pass.old pass.new true }
@@ -175,8 +179,8 @@ impl<V: Drop, A: Allocator + Copy, const MAX: u64, H: Mark> SoleBox<V, A, MAX, H
     }
 
     /// What a drop does: under `Open` this owner ends with a new pass, and the value comes out;
-    /// under `Whole` it is forgotten, with the value and the memory. Takes no memory. The pass is
-    /// the one that the owner ended with; under `Whole` it is of no block.
+    /// under `Whole` it is forgotten, with the value and the memory. It takes no memory. The pass
+    /// is the one that the owner ended with; under `Whole` it is of no block.
     pub fn let_go(self) -> (Option<V>, Pass<H>)
         ensures value { IfSome result.0 (λ value. value ≡ sole_value self) }
         ensures forgotten { H.whole ≡ true → (result.0 ≡ None) × IsPassOfNone result.1 }
@@ -198,7 +202,7 @@ impl<V: Drop, A: Allocator + Copy, const MAX: u64, H: Mark> SoleBox<V, A, MAX, H
         (Some(value.value), pass)
     }
 
-    /// Afterwards the first pass has seen at least what the other had. It adds no entry and takes
+    /// From here on the first pass has seen at least what the other had. It adds no entry and takes
     /// no memory.
     pub fn learn(&self, pass: &mut Pass<H>, other: &Pass<H>)
         requires pass { IsPassFor (sole_in self.now) pass.old }
@@ -213,8 +217,8 @@ impl<V: Drop, A: Allocator + Copy, const MAX: u64, H: Stepping> SoleBox<V, A, MA
     ghost use Rattle.arc_owners.specs.count.Calls.{IsNewPass};
     ghost use Rattle.arc_owners.specs.memory.SoleBoxes.{sole_in};
 
-    /// A new pass, which has seen at least the entry that made this owner, and made nothing. It
-    /// adds no entry and takes no memory.
+    /// A new pass of the block. It has seen at least the entry that made this owner, and nothing
+    /// was made with it. It adds no entry and takes no memory.
     pub fn pass(&self) -> Pass<H>
         ensures { IsNewPass (sole_in self.now) result }
     {

@@ -219,7 +219,7 @@ impl<S: Slice, B: BufferMut<S::Item> + Drop, M: Drop, A: Allocator + Copy, H: Ma
         self.count.only(pass);
     }
 
-    /// Afterwards the first pass has seen at least what the other had.
+    /// From here on the first pass has seen at least what the other had.
     pub fn learn(&self, pass: &mut Pass<H>, other: &Pass<H>)
         requires pass { IsPassAt self.now.place pass.old }
         requires other { IsPassAt self.now.place other.now }

@@ -281,7 +281,7 @@ impl<S: Slice, M: Drop, A: Allocator + Copy, H: Mark> SoleNative<S, M, A, H> {
         }
     }
 
-    /// Afterwards the first pass has seen at least what the other had. It adds no entry.
+    /// From here on the first pass has seen at least what the other had. It adds no entry.
     pub fn learn(&self, pass: &mut Pass<H>, other: &Pass<H>)
         requires pass { IsPassAt self.now.place pass.old }
         requires other { IsPassAt self.now.place other.now }
@@ -295,8 +295,8 @@ impl<S: Slice, M: Drop, A: Allocator + Copy, H: Mark> SoleNative<S, M, A, H> {
 }
 
 impl<S: Slice, M: Drop, A: Allocator + Copy, H: Stepping> SoleNative<S, M, A, H> {
-    /// A new pass of the block, which has seen at least how this owner became one, and made
-    /// nothing; on no block a pass of none. It adds no entry.
+    /// A new pass of the block. It has seen at least how this owner became one, and nothing was
+    /// made with it. On no block it is a pass of none. It adds no entry.
     pub fn pass(&self) -> Pass<H>
         ensures { at_owner self.now.place (IsPassOfNone result) (λ o. IsNewPass o result) }
     {

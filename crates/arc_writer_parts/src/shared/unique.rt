@@ -66,9 +66,9 @@ impl<S: Slice, B: BufferMut<S::Item> + Drop, M: Drop, A: Allocator + Copy, H: Ma
         }
     }
 
-    /// Ends the parts by one subtraction, where they stand on a native block. The last owner gets
-    /// its memory: he is the only writer of the same items and places, on a new block, of which he
-    /// gets a pass too. The others get nothing. It takes no memory.
+    /// Ends the parts by one subtraction from the count, where they stand on a native block. The
+    /// last owner gets its memory: he is the only writer of the same items and places, on a new
+    /// block, of which he gets a pass too. The others get nothing. It takes no memory.
     ///
     /// # Errors
     ///
