@@ -13,7 +13,7 @@ use std::alloc::Allocator;
 
 /// One owner of a counted box, without its share of the lifetime for which the value is lent. It
 /// doesn't read the value, and makes no step, until the share is back. It is neither copied nor
-/// dropped, so no owner is lost on the way.
+/// dropped, so no owner is lost meanwhile.
 pub struct CountedBoxWithoutLifetime<V: Drop, A: Allocator + Copy, const MAX: u64, H: Mark = Open> {
     pub(crate) memory: LentValue<Inner<Housed<V, A>>, A>,
     pub(crate) lodging: WordBorrow,
@@ -38,7 +38,7 @@ impl<V: Drop, A: Allocator + Copy, const MAX: u64, H: Mark> CountedBoxWithoutLif
     ghost use Rattle.arc_owners.specs.memory.Boxes.{lifetime_in_rest, share_taken_from};
     ghost use Rattle.arc_owners.specs.memory.Boxes.{place_in, place_in_rest, note_in_rest};
 
-    /// The owner again, with its share of the lifetime. It takes no memory.
+    /// The owner, with its share of the lifetime again. It takes no memory.
     pub fn with_lifetime(self, lifetime: LifetimeToken) -> CountedBox<V, A, MAX, H>
         requires { (lifetime.lifetime ≡ lifetime_in_rest self)
             × (lifetime.share ≡ share_taken_from self) }

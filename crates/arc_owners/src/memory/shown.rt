@@ -12,8 +12,8 @@ use std::marker::{Model, PhantomData};
 use std::slice;
 
 /// That the items which a value shows lie side by side at a place, for all to read for as long as
-/// the value is lent to the owners of a block. It has no bytes, and can be had again. Contracts see
-/// the place, the items, and the lifetime of the lease.
+/// the value is lent to the owners of a block. It has no bytes, and can be had more than once.
+/// Contracts see the place, the items, and the lifetime of the lease.
 #[derive(Drop)]
 pub struct Shown<T, V> {
     marker: PhantomData<(*const T, *const V)>,

@@ -5,10 +5,10 @@ use crate::count::tokens::{Owners, Pass, Sole};
 use crate::mark::{Mark, Open, Stepping};
 use std::marker::PhantomData;
 
-/// The word of a count and its only owner, who has the block whole: 8 bytes, in no memory of their
-/// own. `MAX` is the greatest count.
+/// The word of a count and its only owner, who has the block whole: 8 bytes by value. `MAX` is the
+/// greatest count.
 ///
-/// Dropped, it is a forgotten owner.
+/// One that is dropped is a forgotten owner.
 #[derive(Drop)]
 pub struct SoleCount<const MAX: u64, H: Mark = Open> {
     pub(crate) owners: Owners<MAX, H>,
@@ -61,7 +61,7 @@ impl<const MAX: u64, H: Mark> SoleCount<MAX, H> {
         self.owners.word.load(&self.sole.right, &mut pass.trace) == 1
     }
 
-    /// Ends this owner, the last one, without a step. It takes no memory.
+    /// Ends this owner, the last one, without an atomic step. It takes no memory.
     ///
     /// # History
     ///
@@ -75,9 +75,13 @@ impl<const MAX: u64, H: Mark> SoleCount<MAX, H> {
         sole.end_as(pass);
     }
 
-    /// What becomes of a sole owner that is dropped: under `Open` it ends with a new pass, and so
-    /// it answers true; under `Whole` it is forgotten. It takes no memory. The pass is the one that
-    /// the owner ended with; under `Whole` it is of no block.
+    /// What becomes of a sole owner that is dropped. Under `Open` it ends with a new pass, which is
+    /// the second answer, and the first is `true`. Under `Whole` it is forgotten, and the pass is
+    /// one of no block. It takes no memory.
+    ///
+    /// # History
+    ///
+    /// Under `Open`: Down, without an atomic step. Under `Whole`: nothing.
     pub fn let_go(self) -> (bool, Pass<H>)
         ensures forgotten { H.whole ≡ true → (result.0 ≡ false) × IsPassOfNone result.1 }
         ensures ended { H.whole ≡ false → (result.0 ≡ true)
