@@ -23,7 +23,7 @@ use std::alloc::Allocator;
 use std::mem;
 use std::sync::Wait;
 
-/// Of two parts the one that stays, the front where `FRONT_STAYS`, and then the other.
+/// The two parts, with the one that stays first: the front where `FRONT_STAYS`, else the back.
 #[inline(always)]
 fn staying_first<N, const FRONT_STAYS: bool>(front: N, back: N) -> (N, N)
     ensures stays { result.0 ≡ (if FRONT_STAYS then front else back) }
@@ -45,19 +45,21 @@ impl<S: Slice, B: BufferMut<S::Item> + Drop, M: Drop, A: Allocator + Copy, H: Ma
 where
     S::Item: Copy,
 {
-    /// Splits the places at `at`, with the items that lie there. Of the front and the back one
-    /// stays, the front where `FRONT_STAYS`, and the other is handed out: another owner of the same
-    /// block. Where the items end before the back, it has none. The places of a vector are moved to
-    /// a native block first, of which the pass becomes one. On nothing both parts stand on nothing.
+    /// Splits the places at `at`, with the items that lie there. One part stays, the front where
+    /// `FRONT_STAYS` and else the back. The other is handed out: another owner of the same block.
+    /// The places of a vector are moved to a native block first, of which the pass becomes one. On
+    /// nothing both parts stand on nothing.
     ///
     /// # Errors
     ///
-    /// On a native block `CountFull`, exactly where `MAX_OWNERS` owners live, and on a vector
-    /// `AllocError`, where memory for the native block is refused. Everything is then as before.
+    /// - `CountFull` on a native block, exactly where `MAX_OWNERS` owners live.
+    /// - `AllocError` on a vector, where memory for the native block is refused.
+    ///
+    /// Nothing is changed then.
     ///
     /// # Allocates
     ///
-    /// On a vector alone.
+    /// Once, on a vector.
     ///
     /// # History
     ///
@@ -90,7 +92,8 @@ where
         }
     }
 
-    /// The same by value: the part that stays, which goes on as this owner, and the other one.
+    /// `try_split_as` by value: the part that stays, which goes on as this owner, and the other
+    /// one.
     fn split_as<const FRONT_STAYS: bool>(
         self,
         rt: &impl Wait,
@@ -128,7 +131,7 @@ where
         }
     }
 
-    /// The same of a vector, whose places are moved first.
+    /// `split_as` of a vector, whose places are moved first.
     fn split_vector_as<const FRONT_STAYS: bool>(
         &mut self,
         rt: &impl Wait,
@@ -155,19 +158,19 @@ where
                 Ok(Self::several(self.alloc, made))
             }
             Err((writer, _)) => {
-                // It isn't reached: a new block has one owner.
+                // This arm isn't reached: a new block has one owner.
                 writer.release_as(&mut new);
                 Err(OwnerError::AllocError)
             }
         }
     }
 
-    /// Moves the places of a vector to a native block, as a split does before it, and hands out a
-    /// pass of that block. So who calls this first has the passes of both blocks.
+    /// Moves the places of a vector to a native block, as a split does first, and hands out a pass
+    /// of that block. So the caller has the passes of both blocks.
     ///
     /// # Errors
     ///
-    /// `AllocError` where memory for the native block is refused. Everything is then as before.
+    /// `AllocError` where memory for the native block is refused. Nothing is changed then.
     ///
     /// # Allocates
     ///
@@ -200,7 +203,7 @@ where
         Ok((writer, new))
     }
 
-    /// This writer goes on in the place of the vector's, who ends as an owner of that.
+    /// Puts this writer in the place of the vector's, which ends as an owner of the vector.
     fn leave_for(&mut self, writer: SharedNative<S::Item, A, H>, pass: &mut Pass<H>)
         requires vector { is_vector_at self.old.place ≡ true }
         requires pass { IsPassAt self.old.place pass.old }

@@ -1,4 +1,4 @@
-//! One of several writers, as the only one.
+//! One of several writers becomes the only one.
 ghost use Rattle.std.specs.Prelude.{◌≡◌, IfOk, IfErr, IfSome, is_ok, is_some};
 ghost use Rattle.arc_owners.specs.count.Calls.{IsFreshPass};
 ghost use Rattle.arc_block.specs.Block.{native};
@@ -25,12 +25,12 @@ impl<S: Slice, B: BufferMut<S::Item> + Drop, M: Drop, A: Allocator + Copy, H: Ma
     H,
 > {
     /// The same items and places, as their only writer, where they stand on a block that no other
-    /// owner has. The places stay as many as they were, also where the block has more behind them:
-    /// those come where room is asked for (`SoleParts::try_reserve_as`). It takes no memory.
+    /// owner has. The number of places stays the same: those of the block behind them become the
+    /// writer's own where room is asked for (`SoleParts::try_reserve_as`). It takes no memory.
     ///
     /// # Errors
     ///
-    /// The parts, on no block, and where another owner lives.
+    /// The parts come back on no block, and where another owner lives.
     ///
     /// # History
     ///
@@ -66,14 +66,14 @@ impl<S: Slice, B: BufferMut<S::Item> + Drop, M: Drop, A: Allocator + Copy, H: Ma
         }
     }
 
-    /// Ends the parts by one subtraction from the count, where they stand on a native block. The
-    /// last owner gets its memory: he is the only writer of the same items and places, on a new
-    /// block, of which he gets a pass too. The others get nothing. It takes no memory.
+    /// Ends the parts, where they stand on a native block, by one subtraction from the count. The
+    /// last owner gets the block's memory: parts of the only writer of the same items and places,
+    /// on a new block, and a pass of that. Every other one gets `None`. It takes no memory.
     ///
     /// # Errors
     ///
-    /// The parts, exactly on nothing and on a vector, where they are by themselves. Nothing has
-    /// happened then.
+    /// The parts come back exactly on nothing and on a vector, where they have no other owner
+    /// beside them. Nothing is done then.
     ///
     /// # History
     ///
