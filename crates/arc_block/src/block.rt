@@ -546,9 +546,9 @@ impl<
         }
     }
 
-    /// What a drop does: under `Open` this owner ends with a new pass, and the last one gives the
-    /// block back; under `Whole` it is forgotten, without a step. It takes no memory. The pass is
-    /// the one that the owner ended with; under `Whole` it is of no block.
+    /// What a drop does. Under `Open` this owner ends with a new pass, which is the answer, and the
+    /// last one gives the block back. Under `Whole` it is a forgotten owner: no step is made, and
+    /// the answer is a pass of no block. It takes no memory.
     #[inline(always)]
     pub fn let_go(self) -> Pass<H>
         ensures forgotten { H.whole ≡ true → IsPassOfNone result }

@@ -160,7 +160,7 @@ pub enum Cmd<C: Carried> {
         window: usize,
         by: usize,
     },
-    /// Leaves the first `len` items of a window, or all where it has no more.
+    /// Keeps the first `len` items of a window, or all where it has no more.
     Trunc {
         window: usize,
         len: usize,

@@ -187,7 +187,7 @@ impl<T: Drop, A: Allocator> CutMemory<T, A> {
         }
     }
 
-    /// An item more, behind the others, where there is a place for it.
+    /// Appends an item. There is a place for it.
     #[inline(always)]
     pub fn push_reserved(&mut self, item: T)
         requires { length self.old.places.vec.items < self.old.places.under.count }
@@ -197,7 +197,7 @@ impl<T: Drop, A: Allocator> CutMemory<T, A> {
         self.places.push_reserved(item);
     }
 
-    /// Leaves the first `len` items. Those behind them are forgotten: it is for items that need no
+    /// Keeps the first `len` items. Those behind them are forgotten: it is for items that need no
     /// drop.
     #[inline(always)]
     pub fn truncate(&mut self, len: usize)
@@ -261,7 +261,7 @@ impl<T: Drop, A: Allocator> CutMemory<T, A> {
         (memory, ())
     }
 
-    /// Leaves the first `len` items, with no other place. Those behind them stay there.
+    /// Keeps the first `len` items, with no other place. Those behind them stay there.
     pub fn keep_back(&mut self, len: usize)
         requires len { len ≤ length self.old.places.vec.items }
         requires all { KeepsAll self.old }
@@ -348,12 +348,12 @@ impl<T: Drop, A: Allocator> CutMemory<T, A> {
         (Self::of(memory, capacity), ())
     }
 
-    /// Makes it memory of so many places, with the writer's items in the same places: he has all
+    /// Grows the memory to `count` places, with the writer's items in the same places: he has all
     /// behind them.
     ///
     /// # Errors
     ///
-    /// `AllocError` as `WriterMemory::new`; everything is then as before.
+    /// `AllocError` as `WriterMemory::new`; nothing is changed then.
     ///
     /// # Allocates
     ///
@@ -389,12 +389,12 @@ impl<T: Drop, A: Allocator> CutMemory<T, A> {
         (Self::of(larger, capacity), ())
     }
 
-    /// Makes it memory of so many places, with all items in the same places, where none lie behind
+    /// Grows the memory to `count` places, with all items in the same places, where none lie behind
     /// the writer's.
     ///
     /// # Errors
     ///
-    /// `AllocError` as `WriterMemory::new`; everything is then as before.
+    /// `AllocError` as `WriterMemory::new`; nothing is changed then.
     ///
     /// # Allocates
     ///
@@ -447,7 +447,7 @@ impl<T: Drop, A: Allocator> CutMemory<T, A> {
 impl<T: Copy + Drop, A: Allocator> CutMemory<T, A> {
     ghost use Rattle.arc_memory.specs.CutMemories.{SameCut};
 
-    /// A copy of these items, behind the others, where there are places for them.
+    /// Appends a copy of these items. There are places for them.
     #[inline(always)]
     pub fn extend_from_slice(&mut self, items: &[T])
         requires { length self.old.places.vec.items + length items.now

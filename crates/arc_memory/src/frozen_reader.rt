@@ -89,8 +89,8 @@ impl<T, V: Drop, A: Allocator + Copy, const MAX: u64, H: Mark> FrozenReader<T, V
         unsafe { self.range.as_slice(self.owner.lifetime(), base, start, end) }
     }
 
-    /// One attempt to make another reader of the same range: one owner more of the same block.
-    /// Nothing where another thread's step came between, and then no entry is added. Takes no
+    /// One attempt to make another reader of the same range: one owner more of the same block. It
+    /// answers `None`, and adds no entry, where another thread's step came between. Takes no
     /// memory, and copies nothing.
     ///
     /// # Errors
@@ -177,10 +177,9 @@ impl<T, V: Drop, const MAX: u64, H: Mark> FrozenReader<T, V, Lodged, MAX, H> {
         owner.release_with_room_as(pass)
     }
 
-    /// What a drop does: under `Open` this reader ends with a new pass, and the last owner gets the
-    /// value, the room in which it lay, and that the lifetime has ended; under `Whole` it is
-    /// forgotten, without a step. It takes no memory. The pass is the one that the owner ended
-    /// with; under `Whole` it is of no block.
+    /// What a drop does. Under `Open` this reader ends with a new pass, and the last owner gets the
+    /// value, the room in which it lay, and that the lifetime has ended. Under `Whole` it is a
+    /// forgotten owner: no step is made, and the pass is one of no block. It takes no memory.
     #[inline(always)]
     pub fn let_go(self) -> (Option<(V, HeaderRoom<Header<V>>, EndedLifetime)>, Pass<H>)
         ensures value { IfSome result.0 (λ r. r.0 ≡ value_of self.owner) }

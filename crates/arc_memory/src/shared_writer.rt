@@ -18,7 +18,7 @@ use std_alloc::vec::Lodged;
 
 /// An owner of a block, with the places of its part, in which a vector lodges: it reads and edits
 /// the items by `places`, as a vector's. For a step on the count it is closed and opened again,
-/// which is no instruction. Neither copied nor dropped.
+/// which compiles to no instruction. It is neither copied nor dropped.
 pub struct SharedWriter<T, V: Drop, A: Allocator + Copy, const MAX: u64, H: Mark> {
     pub rest: OpenWriter<T, V, A, MAX, H>,
     pub places: WriterPlaces<T>,
@@ -101,7 +101,7 @@ impl<T, V: Drop, A: Allocator + Copy, const MAX: u64, H: Mark> SharedWriter<T, V
         self.places.as_mut_slice()
     }
 
-    /// An item more, behind the others, where there is a place for it. It adds no entry.
+    /// Appends an item. There is a place for it. It adds no entry.
     #[inline(always)]
     pub fn push_reserved(&mut self, item: T)
         requires { length (writer_items self.old) < (writer_range self.old).count }
@@ -112,7 +112,7 @@ impl<T, V: Drop, A: Allocator + Copy, const MAX: u64, H: Mark> SharedWriter<T, V
         self.places.push_reserved(item);
     }
 
-    /// Leaves the first `len` items, and all places. The items behind them are forgotten: it is for
+    /// Keeps the first `len` items, and all places. The items behind them are forgotten: it is for
     /// items that need no drop. It adds no entry.
     #[inline(always)]
     pub fn truncate(&mut self, len: usize)
@@ -302,10 +302,10 @@ impl<T, V: Drop, const MAX: u64, H: Mark> SharedWriter<T, V, Lodged, MAX, H> {
         self.into_part().release_as(pass)
     }
 
-    /// What a drop does: under `Open` this writer ends with a new pass, and the last owner gets the
-    /// value, the room in which it lay, and that the lifetime has ended; under `Whole` it is
-    /// forgotten, without a step. What lies in its places is forgotten. It takes no memory. The
-    /// pass is the one that the owner ended with; under `Whole` it is of no block.
+    /// What a drop does. Under `Open` this writer ends with a new pass, and the last owner gets the
+    /// value, the room in which it lay, and that the lifetime has ended. Under `Whole` it is a
+    /// forgotten owner: no step is made, and the pass is one of no block. What lies in its places
+    /// is forgotten. It takes no memory.
     pub fn let_go(self) -> (Option<(V, HeaderRoom<Header<V>>, EndedLifetime)>, Pass<H>)
         ensures value { IfSome result.0 (λ r. r.0 ≡ writer_value self) }
         ensures room { IfSome result.0 (λ r. r.1.at ≡ writer_place self) }
@@ -336,7 +336,7 @@ impl<T: Copy, V: Drop, A: Allocator + Copy, const MAX: u64, H: Mark> SharedWrite
     ghost use Rattle.arc_memory.specs.SharedWriters.{writer_range, writer_items};
     ghost use Rattle.arc_memory.specs.SharedWriters.{IsSameWriter, HasRange};
 
-    /// A copy of these items, behind the others, where there are places for them. It adds no entry.
+    /// Appends a copy of these items. There are places for them. It adds no entry.
     #[inline(always)]
     pub fn extend_from_slice(&mut self, items: &[T])
         requires { length (writer_items self.old) + length items.now

@@ -21,7 +21,7 @@ use std_alloc::vec::Lodged;
 
 /// An owner of a block, and a part of the memory that is lent for the lease of the block's owners,
 /// which no other owner reaches. To edit the items it is opened. V is what the counted box holds;
-/// that the places come back stands there. Neither copied nor dropped.
+/// that the places come back stands there. It is neither copied nor dropped.
 pub struct WriterPart<T, V: Drop, A: Allocator + Copy, const MAX: u64, H: Mark> {
     pub owner: CountedBox<V, A, MAX, H>,
     pub part: LentPlaces<T>,
@@ -72,7 +72,7 @@ impl<T, V: Drop, A: Allocator + Copy, const MAX: u64, H: Mark> WriterPart<T, V, 
     }
 
     /// The owner without its share of the lifetime, and the places, which stay its own meanwhile.
-    /// It adds no entry, takes no memory and is no instruction.
+    /// It adds no entry, takes no memory and compiles to no instruction.
     #[inline(always)]
     pub fn open(self) -> (OpenWriter<T, V, A, MAX, H>, Places<T>)
         ensures owner { (owner_in_rest result.0.rest ≡ owner_in self.owner)
@@ -264,10 +264,10 @@ impl<T, V: Drop, const MAX: u64, H: Mark> WriterPart<T, V, Lodged, MAX, H> {
         owner.release_with_room_as(pass)
     }
 
-    /// What a drop does: under `Open` this writer ends with a new pass, and the last owner gets the
-    /// value, the room in which it lay, and that the lifetime has ended; under `Whole` it is
-    /// forgotten, without a step. What lies in its places is forgotten. It takes no memory. The
-    /// pass is the one that the owner ended with; under `Whole` it is of no block.
+    /// What a drop does. Under `Open` this writer ends with a new pass, and the last owner gets the
+    /// value, the room in which it lay, and that the lifetime has ended. Under `Whole` it is a
+    /// forgotten owner: no step is made, and the pass is one of no block. What lies in its places
+    /// is forgotten. It takes no memory.
     pub fn let_go(self) -> (Option<(V, HeaderRoom<Header<V>>, EndedLifetime)>, Pass<H>)
         ensures value { IfSome result.0 (λ r. r.0 ≡ value_of self.owner) }
         ensures room { IfSome result.0 (λ r. r.1.at ≡ place_in self.owner) }

@@ -395,7 +395,7 @@ where
         }
     }
 
-    /// Leaves the first `len` items of the window, which is no small one. It stays on its block.
+    /// Keeps the first `len` items of the window, which is no small one. It stays on its block.
     pub fn truncate(&mut self, len: usize)
         requires large { is_small self.old.role ≡ false }
         requires at { IsEdge S.boundary self.old.window.items len }

@@ -36,7 +36,7 @@ use std_alloc::vec::Lodged;
 /// One of several writers on a native block: an owner, with places that no other owner reaches. Its
 /// items need no drop.
 ///
-/// Dropped, it ends as a window does.
+/// One that is dropped ends as a window does.
 pub struct SharedNative<T: Drop, A: Allocator + Copy = Global, H: Mark = Open> {
     writer: SharedWriter<T, Kept<T, A>, Lodged, MAX_OWNERS, H>,
     head: HeadSize<Header<Kept<T, A>>>,
@@ -68,8 +68,8 @@ impl<T: Drop, A: Allocator + Copy, H: Mark> Drop for SharedNative<T, A, H> {
     }
 }
 
-/// A writer of the part's places, which these numbers tell. Apart, so that what the unsafe call
-/// asks is proved with no other facts beside it.
+/// A writer of the part's places, of which these are the numbers. It stands apart, so that what the
+/// unsafe call asks is proved without other facts.
 #[inline(always)]
 fn writer_of<T: Drop, A: Allocator + Copy, H: Mark>(
     part: WriterPart<T, Kept<T, A>, Lodged, MAX_OWNERS, H>,
@@ -93,9 +93,8 @@ impl<T: Drop, A: Allocator + Copy, H: Mark> SharedNative<T, A, H> {
     ghost use Rattle.std.specs.Borrow.{sem};
     ghost use Rattle.arc_sort_writers.specs.Lends.{lends_writer_items};
 
-    /// The only owner of a native block, with its memory, as one of several writers from now on: of
-    /// the same items, and the first `capacity` of the memory's places. It adds no entry and takes
-    /// no memory.
+    /// The only owner of a native block, with its memory, as one of several writers of the same
+    /// items and of the first `capacity` of its places. It adds no entry and takes no memory.
     pub fn of_sole(
         count: NativeCount<MAX_OWNERS, H>,
         memory: WriterMemory<T, A>,
@@ -119,8 +118,12 @@ impl<T: Drop, A: Allocator + Copy, H: Mark> SharedNative<T, A, H> {
         SharedNative { writer, head }
     }
 
-    /// The only owner of the same block, with its memory, where no other owner lives: his places
-    /// begin where the writer's did. Else the writer is handed back. It takes no memory.
+    /// The only owner of the same block, with its memory, where no other owner lives. Its places
+    /// begin where the writer's do. It takes no memory.
+    ///
+    /// # Errors
+    ///
+    /// The writer comes back where another owner lives.
     ///
     /// # History
     ///
@@ -158,7 +161,7 @@ impl<T: Drop, A: Allocator + Copy, H: Mark> SharedNative<T, A, H> {
     }
 
     /// Ends this writer by one subtraction from the count. The last owner gets the block's memory:
-    /// his places begin where the writer's did. It takes no memory.
+    /// its places begin where the writer's do. It takes no memory.
     ///
     /// # History
     ///
@@ -235,7 +238,7 @@ impl<T: Drop, A: Allocator + Copy, H: Mark> SharedNative<T, A, H> {
         self.writer.places.start()
     }
 
-    /// An item more, behind the others, where there is a place for it.
+    /// Appends an item. There is a place for it.
     #[inline(always)]
     pub fn push_reserved(&mut self, item: T)
         requires { length self.old.items < self.old.capacity }
@@ -244,7 +247,7 @@ impl<T: Drop, A: Allocator + Copy, H: Mark> SharedNative<T, A, H> {
         self.writer.push_reserved(item);
     }
 
-    /// Leaves the first `len` items, and all places.
+    /// Keeps the first `len` items, and all places.
     #[inline(always)]
     pub fn truncate(&mut self, len: usize)
         ensures { self.new ≡ with_writer_items self.old (take len self.old.items) }
@@ -261,13 +264,13 @@ impl<T: Drop, A: Allocator + Copy, H: Mark> SharedNative<T, A, H> {
         self.writer.advance(at);
     }
 
-    /// The first `at` places, and those behind them: two writers. One of them is this one, of the
-    /// front where `FRONT_STAYS`, else of the back; the other is one owner more of the same block.
-    /// It takes no memory.
+    /// Splits the places at `at`: two writers, of the first `at` places and of those behind them.
+    /// One is this writer, of the front where `FRONT_STAYS`, else of the back. The other is one
+    /// owner more of the same block. It takes no memory.
     ///
     /// # Errors
     ///
-    /// `CountFull` exactly where `MAX_OWNERS` owners live; the writer is handed back.
+    /// `CountFull` exactly where `MAX_OWNERS` owners live; the writer comes back.
     ///
     /// # History
     ///
@@ -309,7 +312,8 @@ impl<T: Drop, A: Allocator + Copy, H: Mark> SharedNative<T, A, H> {
         }
     }
 
-    /// Whether the other's places begin where these end, and these are full: of one block.
+    /// Whether the other writer's places begin where these end, and each of these has an item. Both
+    /// are of one block.
     pub fn can_join(&self, other: &Self) -> bool
         ensures { result ≡ ((length self.now.items == self.now.capacity)
             && (self.now.start + self.now.capacity == other.now.start)) }
@@ -317,23 +321,24 @@ impl<T: Drop, A: Allocator + Copy, H: Mark> SharedNative<T, A, H> {
         self.len() == self.capacity() && self.start() + self.capacity() == other.start()
     }
 
-    /// Who has a block to himself is of another one than this writer. Does nothing: its contract is
-    /// the law.
+    /// An owner that has a block to itself is of another one than this writer. Does nothing: its
+    /// contract is the law.
     pub fn apart_from<V: Drop>(&self, sole: &SoleBox<V, A, MAX_OWNERS, H>)
         ensures { ¬ (self.now.owner.block ≡ (sole_in sole.now).block) }
     {
         sole.apart_from_rest(&self.writer.rest.rest);
     }
 
-    /// The same of who has a native block to himself. Does nothing: its contract is the law.
+    /// The same of an owner that has a native block to itself. Does nothing: its contract is the
+    /// law.
     pub fn apart_from_count(&self, sole: &NativeCount<MAX_OWNERS, H>)
         ensures { ¬ (self.now.owner.block ≡ (count_owner sole.now).block) }
     {
         sole.apart_from_rest(&self.writer.rest.rest);
     }
 
-    /// The places of both as this writer's: the other's begin where these end, and both are owners
-    /// of one block. These are full. The other owner ends. It takes no memory.
+    /// The places of both as this writer's. The other's begin where these end, both are owners of
+    /// one block, and each of these places has an item. The other owner ends. It takes no memory.
     ///
     /// # History
     ///
@@ -358,8 +363,8 @@ impl<T: Drop, A: Allocator + Copy, H: Mark> SharedNative<T, A, H> {
         }
     }
 
-    /// A reader of the items, which nobody changes again, while other owners write their own
-    /// places. Those behind the items are given up. It adds no entry and takes no memory.
+    /// A reader of the items. Other owners may still write their own places. The places behind the
+    /// items are given up. It adds no entry and takes no memory.
     #[tactic(auto, using(crate::proofs::Takes::kept_frozen))]
     pub fn freeze<S: Slice<Item = T>>(self) -> NativeBlock<S, A, MAX_OWNERS, H>
         requires { S.DROPS ≡ false }
@@ -386,7 +391,7 @@ impl<T: Drop, A: Allocator + Copy, H: Mark> SharedNative<T, A, H> {
         }
     }
 
-    /// Ends this writer: it reads the count first, and where no other owner lives gives the block
+    /// Ends this writer. It reads the count first: where no other owner lives it gives the block
     /// back without another step.
     ///
     /// # History
@@ -413,9 +418,9 @@ impl<T: Drop, A: Allocator + Copy, H: Mark> SharedNative<T, A, H> {
         }
     }
 
-    /// What a drop does: under `Open` this owner ends with a new pass, and the last one gives the
-    /// block back; under `Whole` it is forgotten, without a step. It takes no memory. The pass is
-    /// the one that the owner ended with; under `Whole` it is of no block.
+    /// What a drop does. Under `Open` this owner ends with a new pass, which is the answer, and the
+    /// last one gives the block back. Under `Whole` it is a forgotten owner: no step is made, and
+    /// the answer is a pass of no block. It takes no memory.
     #[tactic(auto, using(crate::proofs::Takes::kept_until, crate::proofs::Takes::laid_room))]
     pub fn let_go(self) -> Pass<H>
         ensures forgotten { H.whole ≡ true → IsPassOfNone result }
@@ -440,8 +445,8 @@ impl<T: Drop, A: Allocator + Copy, H: Mark> SharedNative<T, A, H> {
 }
 
 impl<T: Copy + Drop, A: Allocator + Copy, H: Mark> SharedNative<T, A, H> {
-    /// A writer with a copy of the items, on a new native block with so many places, all of them
-    /// his, and a pass of the block.
+    /// A writer with a copy of the items, on a new native block of `capacity` places, all of them
+    /// the writer's, and a pass of the block.
     ///
     /// # Errors
     ///
@@ -462,7 +467,7 @@ impl<T: Copy + Drop, A: Allocator + Copy, H: Mark> SharedNative<T, A, H> {
         Ok((Self::of_sole(count, memory, capacity), pass))
     }
 
-    /// A copy of these items, behind the others, where there are places for them.
+    /// Appends a copy of these items. There are places for them.
     #[inline(always)]
     pub fn extend_reserved(&mut self, items: &[T])
         requires { length self.old.items + length items.now ≤ self.old.capacity }

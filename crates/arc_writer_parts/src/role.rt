@@ -100,7 +100,7 @@ pub trait WriterParts<
     fn as_slice(&self) -> &[S::Item]
         ensures { result.now ≡ (seen self.now).items };
 
-    /// How many places there are for items, from the first of them on.
+    /// How many places there are, from the first item on.
     fn capacity(&self) -> usize
         ensures capacity { result ≡ capacity_of (seen self.now).role }
         ensures enough { length (seen self.now).items ≤ result };

@@ -198,9 +198,9 @@ impl<S: Slice, A: Allocator + Copy, const MAX: u64, H: Mark> NativeBlock<S, A, M
         give_back(reader.release_as(pass), head)
     }
 
-    /// What a drop does: under `Open` this owner ends with a new pass, and the last one gives the
-    /// block back; under `Whole` it is forgotten, without a step. It takes no memory. The pass is
-    /// the one that the owner ended with; under `Whole` it is of no block.
+    /// What a drop does. Under `Open` this owner ends with a new pass, which is the answer, and the
+    /// last one gives the block back. Under `Whole` it is a forgotten owner: no step is made, and
+    /// the answer is a pass of no block. It takes no memory.
     #[inline(always)]
     #[tactic(auto, using(crate::proofs::Natives::kept_ended, crate::proofs::Natives::laid_room))]
     pub fn let_go(self) -> Pass<H>
@@ -391,8 +391,8 @@ impl<S: Slice, A: Allocator + Copy, const MAX: u64, H: Mark> NativeBlock<S, A, M
         }
     }
 
-    /// The same owner of the same block, whose memory is lent anew: it may be shared from now on.
-    /// It adds no entry and takes no memory.
+    /// The same owner of the same block, whose memory is lent anew: it may be shared. It adds no
+    /// entry and takes no memory.
     #[inline(always)]
     pub fn of_sole(count: NativeCount<MAX, H>, memory: WriterMemory<S::Item, A>) -> Self
         requires limited { IsLimited MAX H.whole (count_owner count) }

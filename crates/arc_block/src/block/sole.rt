@@ -50,9 +50,9 @@ pub fn new_count<T: Drop, B: Drop, M: Drop, A: Allocator + Copy, const MAX: u64,
     }
 }
 
-/// What a drop does: under `Open` the owner ends with a new pass, and its items are dropped; under
-/// `Whole` it is forgotten, and so are its items, which stay where they are. The pass is the one
-/// that the owner ended with; under `Whole` it is of no block.
+/// What a drop does. Under `Open` the owner ends with a new pass, which is the answer, and its
+/// items are dropped. Under `Whole` owner and items are forgotten: the items stay where they are,
+/// and the answer is a pass of no block.
 pub fn end_sole<T: Drop, B: Drop, M: Drop, A: Allocator + Copy, const MAX: u64, H: Mark>(
     count: SoleCount<T, B, M, A, MAX, H>,
     items: Vec<T, A>,
@@ -77,8 +77,8 @@ impl<
     const MAX: u64,
     H: Mark,
 > Block<S, B, M, A, MAX, H> {
-    /// The same owner of the same block, a vector, which may be shared from now on. It adds no
-    /// entry and takes no memory.
+    /// The same owner of the same block, a vector, which may be shared. It adds no entry and takes
+    /// no memory.
     pub fn of_sole(count: SoleCount<S::Item, B, M, A, MAX, H>, items: Vec<S::Item, A>) -> Self
         requires { IsLimited MAX H.whole (sole_in count) }
         ensures { result ≡ held_as vector S.DROPS (sole_in count) items }
@@ -118,8 +118,8 @@ impl<
         }
     }
 
-    /// The same owner of the same block, a caller's buffer, which may be shared from now on. It
-    /// adds no entry and takes no memory.
+    /// The same owner of the same block, a caller's buffer, which may be shared. It adds no entry
+    /// and takes no memory.
     pub fn of_sole_buffer(count: SoleCount<S::Item, B, M, A, MAX, H>) -> Self
         requires { IsLimited MAX H.whole (sole_in count) }
         ensures { result

@@ -47,8 +47,7 @@ impl<S: Slice, B: Buffer<S::Item> + Drop, M: Drop, A: Allocator + Copy, H: Mark>
         (count, items, start, end, alloc)
     }
 
-    /// The same items and places, which others may read from now on. It adds no entry and takes no
-    /// memory.
+    /// The same items and places, as those of a reader. It adds no entry and takes no memory.
     pub fn freeze(self) -> Parts<S, B, M, A, H>
         ensures { result ≡ as_reader self }
     {
@@ -61,7 +60,12 @@ impl<S: Slice, B: Buffer<S::Item> + Drop, M: Drop, A: Allocator + Copy, H: Mark>
         )
     }
 
-    /// `try_freeze_as` of a sole writer's parts.
+    /// The same items, as parts of a window under the layout `L` that is read. It adds no entry and
+    /// takes no memory.
+    ///
+    /// # Errors
+    ///
+    /// The parts come back exactly where the layout doesn't hold the block.
     pub fn try_freeze_as<L: Layout>(self, pass: &mut Pass<H>) -> Result<Parts<S, B, M, A, H>, Self>
         requires pass { IsPassAt self.place pass.old }
         ensures frozen { IfOk result (λ parts.
@@ -84,7 +88,7 @@ impl<S: Slice, B: Buffer<S::Item> + Drop, M: Drop, A: Allocator + Copy, H: Mark>
         Ok(self.freeze())
     }
 
-    /// Whether a layout holds the block, which says whether one may be of a caller's making.
+    /// Whether a layout holds the block: whether blocks may be of a caller's making.
     pub fn is_held<L: Layout>(&self) -> bool
         ensures { IsTrue result ↔ IsBlockHeld (layout_facts L.Layout) self.now.place }
     {
@@ -101,7 +105,7 @@ impl<S: Slice, B: Buffer<S::Item> + Drop, M: Drop, A: Allocator + Copy, H: Mark>
         self
     }
 
-    /// None: a vector has no metadata.
+    /// `None`: a vector has no metadata.
     pub fn metadata(&self) -> Option<&M>
         ensures some { IfSome result (λ m. metadata_at self.now.place ≡ Some m.now) }
         ensures none { IfNone result (metadata_at self.now.place ≡ None) }
@@ -110,7 +114,7 @@ impl<S: Slice, B: Buffer<S::Item> + Drop, M: Drop, A: Allocator + Copy, H: Mark>
         None
     }
 
-    /// None: nothing of a caller's lies there.
+    /// `None`: no caller's buffer is there.
     pub fn borrowed_metadata(&self) -> Option<&B::Metadata>
     where
         B: BorrowMetadata,
@@ -161,9 +165,9 @@ impl<S: Slice, B: Buffer<S::Item> + Drop, M: Drop, A: Allocator + Copy, H: Mark>
         drop(items);
     }
 
-    /// What a drop does: under `Open` the owner ends with a new pass, and the block is given back
-    /// with its items; under `Whole` it is forgotten, without a step, and its items stay. The pass
-    /// is the one that the owner ended with; under `Whole` it is of none.
+    /// What a drop does. Under `Open` the owner ends with a new pass, which is the answer, and the
+    /// block is given back with its items. Under `Whole` it is a forgotten owner: no step is made,
+    /// and its items stay. The answer is a pass of no block under `Whole`.
     ///
     /// # History
     ///

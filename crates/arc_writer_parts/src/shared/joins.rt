@@ -52,7 +52,7 @@ impl<S: Slice, B: BufferMut<S::Item> + Drop, M: Drop, A: Allocator + Copy, H: Ma
         }
     }
 
-    /// The same by value.
+    /// The same for parts by value.
     fn unsplit_as(self, other: Self, pass: &mut Pass<H>) -> Result<Self, (Self, Self)>
         requires block { IsOneBlock self.place other.place }
         requires pass { IsPassAt self.place pass.old }

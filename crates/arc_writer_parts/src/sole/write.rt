@@ -29,7 +29,7 @@ impl<S: Slice, B: BufferMut<S::Item> + Drop, M: Drop, A: Allocator + Copy, H: Ma
         }
     }
 
-    /// An item more, behind the others, where there is a place for it.
+    /// Appends an item. There is a place for it.
     #[inline(always)]
     pub(crate) fn push_reserved(&mut self, item: S::Item)
         requires { length self.old.items + 1 ≤ capacity_of self.old.role }
