@@ -1,5 +1,5 @@
-//! Blocks of a caller's making: a vector, a buffer or an `Arc` of one, which stays where it is
-//! while a window stands on it.
+//! Blocks of a caller's making: a vector, a buffer or an `Arc` of one. It stays where it is while a
+//! window stands on it.
 ghost use Rattle.std.specs.Prelude.{◌≡◌, ◌≤◌, ◌↔◌, length, true, false, Bool, IsTrue};
 ghost use Rattle.std.specs.Prelude.{IfOk, IfErr, OnErr, IfSome, IfNone, is_some};
 ghost use Rattle.std.specs.Vec.{vec_capacity};
@@ -45,7 +45,7 @@ use std::sync::Arc;
 /// How many owners a window's block may have at once: 9,223,372,036,854,775,807.
 pub const MAX_OWNERS: u64 = 9223372036854775807;
 
-/// `MAX_OWNERS`, told as a number.
+/// `MAX_OWNERS` as a number.
 pub fn max_owners() -> u64
     ensures { result ≡ 9223372036854775807 }
 {
@@ -53,12 +53,12 @@ pub fn max_owners() -> u64
 }
 
 /// An owner of a block of a caller's making, which at most `MAX` owners share: a vector, a caller's
-/// buffer, or an `Arc` of one. The block is given back with its last owner.
+/// buffer, or an `Arc` of one. The last owner gives the block back.
 ///
 /// `B` is the type of callers' buffers and `M` that of their metadata.
 ///
-/// Dropped, it ends with a new pass under the mark `Open`. Under `Whole` it is a forgotten owner:
-/// the block stays for good.
+/// One that is dropped ends with a new pass under the mark `Open`. Under `Whole` it is a forgotten
+/// owner: the block stays for good.
 pub struct Block<
     S: Slice,
     B: Buffer<S::Item> + Drop,
@@ -69,7 +69,7 @@ pub struct Block<
 > {
     base: Base<S::Item>,
     piece: CountedBox<Content<S::Item, B, M, A>, A, MAX, H>,
-    // That the items lie at the base for as long as an owner lives, so that no read asks the block.
+    // That the items lie at the base for as long as an owner lives: so no read asks the block.
     shown: Shown<S::Item, Content<S::Item, B, M, A>>,
 }
 
@@ -117,16 +117,16 @@ impl<
     }
 }
 
-/// The items of a vector in one that has exactly a place for each: the same one where it has no
-/// more.
+/// The items of a vector in one that has exactly a place for each: the same vector, where it has no
+/// spare places.
 ///
 /// # Errors
 ///
-/// The vector, which then has items, where memory for the other one is refused.
+/// The vector comes back where memory for the other one is refused. It has items then.
 ///
 /// # Allocates
 ///
-/// Only where there are more places than items.
+/// Once, where there are more places than items.
 pub fn exact<T: Drop, A: Allocator + Copy>(
     alloc: A,
     items: Vec<T, A>,
@@ -261,14 +261,13 @@ impl<
         }
     }
 
-    /// One attempt to make one owner more of the same block, through this one: `None` where another
-    /// thread's step came between, and then no entry is added. The caller tries again.
-    ///
-    /// Takes no memory and copies no item.
+    /// One attempt to make one owner more of the same block, through this one. It answers `None`,
+    /// and adds no entry, where another thread's step came between; the caller tries again. It
+    /// takes no memory and copies no item.
     ///
     /// # Errors
     ///
-    /// `CountFull` exactly where `MAX` owners live, and no other.
+    /// `CountFull` exactly where `MAX` owners live, and no other error.
     ///
     /// # History
     ///
@@ -314,7 +313,7 @@ impl<
         self.piece.range(self.base.at, &self.shown, start, end)
     }
 
-    /// Where an owner of the block goes that is to be a window under the layout `L`.
+    /// Where an owner of the block goes that becomes a window under the layout `L`.
     pub fn move_to<L: Layout>(&self) -> Move
         ensures { result ≡ counted_move (layout_facts L.Layout) self.now.facts.sort }
     {
@@ -356,8 +355,8 @@ impl<
         }
     }
 
-    /// Whether its only owner may write the block under a layout that holds it: where blocks may be
-    /// of a caller's making, a vector, or a buffer that came in as writable.
+    /// Whether the only owner may write the block, under a layout that holds blocks of a caller's
+    /// making if `has_any`: a vector may be written, and a buffer that was given to be written.
     pub fn may_write(&self, has_any: bool) -> bool
         ensures { IsTrue result ↔ MayWrite has_any self.now.facts.sort }
     {
@@ -368,7 +367,7 @@ impl<
         }
     }
 
-    /// Whether the block is a vector; else it is a caller's buffer, where it may be written.
+    /// Whether the block is a vector. One that may be written and isn't is a caller's buffer.
     pub fn is_vector(&self) -> bool
         ensures answer { IsTrue result ↔ (self.now.facts.sort ≡ vector) }
         ensures other { result ≡ false → IsWritable self.now.facts.sort
@@ -425,7 +424,7 @@ impl<
         }
     }
 
-    /// The metadata with which the block was made.
+    /// The metadata that the block was made with, or `None`.
     pub fn metadata(&self) -> Option<&M>
         ensures some { IfSome result (λ m. self.now.facts.metadata ≡ Some m.now) }
         ensures none { IfNone result (self.now.facts.metadata ≡ None) }
@@ -436,7 +435,7 @@ impl<
         }
     }
 
-    /// How many owners the block may have at once, and under which mark it is.
+    /// How many owners the block may have at once. The contract says too under which mark it is.
     pub fn max_owners(&self) -> u64
         ensures answer { result ≡ MAX }
         ensures block { IsLimited MAX H.whole self.now.owner }
@@ -458,8 +457,8 @@ impl<
         self.piece.is_unique_as(pass)
     }
 
-    /// Whether nobody else has a part of the block: of a caller's buffer the count is asked, and
-    /// then the buffer; of an `Arc` nobody is, and the answer is no.
+    /// Whether no other owner has a part of the block. The count is read, and of a caller's buffer
+    /// the buffer is asked too. Of an `Arc` no count is read, and the answer is no.
     ///
     /// # History
     ///
@@ -481,8 +480,15 @@ impl<
         }
     }
 
-    /// What the block keeps, taken out of it, where no other owner lives: adds Alone, then the Down
-    /// of this one. Else it is handed back, and Alone was added with no. It takes no memory.
+    /// What the block keeps, where no other owner lives. It takes no memory.
+    ///
+    /// # Errors
+    ///
+    /// The owner comes back where another one lives.
+    ///
+    /// # History
+    ///
+    /// Taken: Alone with yes, then Down. Refused: Alone with no.
     pub fn try_into_content_as(self, pass: &mut Pass<H>) -> Result<Content<S::Item, B, M, A>, Self>
         requires pass { IsPassFor self.owner pass.old }
         ensures content { IfOk result (λ content.

@@ -1,4 +1,4 @@
-//! Slices that are there for good, without a lifetime in their type.
+//! `'static` slices, without a lifetime in their type.
 ghost use Rattle.std.specs.Prelude.{◌≡◌, ◌≤◌, ◌==◌, List, [], length, take};
 ghost use denote.RawPtr.{Ptr};
 ghost use Rattle.arc_buffer.specs.Slice.{sub};
@@ -9,7 +9,7 @@ use std::marker::{Model, PhantomData};
 use std::slice;
 
 /// That items lie side by side at a place for good, for all to read. It has no bytes, and can be
-/// had again. Contracts see the place and the items.
+/// had more than once. Contracts see the place and the items.
 #[derive(Drop)]
 pub struct StaticShare<T> {
     mark: PhantomData<*const T>,
@@ -97,8 +97,8 @@ impl<T> StaticShare<T> {
 
 /// Items that lie side by side for good, with the place where they begin. Contracts see the items.
 ///
-/// It is one word, for who keeps a range himself, as `Parts` do: a read is one sum and one
-/// difference, and reads no memory. Windows have none: it is made and read by parts alone.
+/// It is one word, for a value that keeps a range itself, as `Parts` do. A read of a range is one
+/// sum and one difference, and reads no memory. Only parts make and read one.
 #[derive(Drop)]
 pub struct StaticItems<T> {
     base: Base<T>,
@@ -147,7 +147,7 @@ impl<T> StaticItems<T> {
     }
 }
 
-/// A `'static` slice, without a lifetime in its type: it may lie in a vector or an enum, and go to
+/// A `'static` slice, without a lifetime in its type. It may lie in a vector or an enum, and go to
 /// generic functions and other threads. Contracts see its items.
 ///
 /// It is three words, a place and a range, whatever its items are. No call takes memory or copies
@@ -182,7 +182,7 @@ impl<T: 'static> StaticSlice<T> {
         }
     }
 
-    /// The items, for good: also after this value is gone.
+    /// The items as a `'static` slice, which lives on when this value is gone.
     #[inline(always)]
     pub fn as_static(&self) -> &'static [T]
         ensures { result.now ≡ self.now }
@@ -191,7 +191,7 @@ impl<T: 'static> StaticSlice<T> {
         share.as_static(base.at, self.start, self.end)
     }
 
-    /// The items, for good.
+    /// The items as a `'static` slice.
     #[inline(always)]
     pub fn into_static(self) -> &'static [T]
         ensures { result.now ≡ self }

@@ -19,12 +19,12 @@ use arc_read::slice::ArcSlice;
 use std::alloc::Allocator;
 use std::sync::Wait;
 
-/// What of a window that is split is handed out as another one.
+/// Which part of a split window is handed out as another one.
 #[derive(Clone, Copy)]
 pub enum Part {
-    /// The items from this place on, which the window then has no more.
+    /// The items from this place on, which the window loses.
     Back(usize),
-    /// The items up to this place, which the window then has no more.
+    /// The items before this place, which the window loses.
     Front(usize),
 }
 
@@ -38,7 +38,7 @@ impl Part {
         }
     }
 
-    /// Whether a window with so many items is split at the end of which that leaves nothing.
+    /// Whether the split is at the end of a window with `len` items at which nothing is left.
     fn is_end(self, len: usize) -> bool
         ensures { result ≡ is_end len self }
     {
@@ -95,21 +95,18 @@ where
     ghost use Rattle.arc_slots.specs.Splits.{IsSplit};
     ghost use Rattle.arc_slots.specs.Stands.{HasPassFor};
 
-    /// Splits the window, which is read, and hands out the part: at an end that is the window
-    /// itself, and what was made stays under its number. Refused, the window is as before.
+    /// Splits a window that is read, and hands out the part. At an end that is the window itself,
+    /// and the new one stays under its number.
     ///
     /// # Errors
     ///
-    /// Those of `try_clone`; none where one part has no items and the layout has static data.
-    ///
-    /// # Allocates
-    ///
-    /// Only where `try_clone` does.
+    /// Those of `try_clone`; none where one part has no items and the layout has static data. The
+    /// window is then as before.
     ///
     /// # History
     ///
-    /// On a block that counts its owners Up, or Full where refused; none where one part has no
-    /// items and the layout has static data.
+    /// On a block that counts its owners: Up, or Full where it is refused. Nothing where one part
+    /// has no items and the layout has static data.
     pub fn try_part(
         &mut self,
         rt: &impl Wait,

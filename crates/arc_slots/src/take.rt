@@ -39,7 +39,7 @@ pub enum Taking {
 }
 
 impl Taking {
-    /// Whether it is for windows that are written too.
+    /// Whether it may be taken of windows that are written too.
     fn for_writers(self) -> bool
         ensures { result ≡ is_writers self }
     {
@@ -50,7 +50,7 @@ impl Taking {
     }
 }
 
-/// What parts that are read stand on, taken out, as a reply.
+/// What the parts of a reader stand on, taken out, as a reply.
 ///
 /// # Errors
 ///
@@ -155,8 +155,8 @@ where
     ghost use Rattle.arc_slots.specs.Taking.{can_have};
     ghost use Rattle.arc_slots.specs.declared.take.Taking.TheVariants.{Vector as vector_of};
 
-    /// What the window stands on, which is read, taken out, as a reply: where it can be had so, and
-    /// no other owner lives.
+    /// What a window that is read stands on, taken out, as a reply: where it is of the sort that is
+    /// asked for, and no other owner lives.
     ///
     /// # Errors
     ///
@@ -197,7 +197,7 @@ where
         }
     }
 
-    /// The same of a window that is written, whose owner is alone.
+    /// The same of a sole writer's window.
     ///
     /// # Errors
     ///
@@ -243,8 +243,8 @@ where
         }
     }
 
-    /// The vector on which the window stands, which is one of several, taken out, as a reply: where
-    /// it can be had so, and no other owner lives.
+    /// The vector on which a window of one of several writers stands, taken out, as a reply: where
+    /// it stands on one, and no other owner lives.
     ///
     /// # Errors
     ///
@@ -285,8 +285,8 @@ where
         }
     }
 
-    /// The items of the window, which is read, for good, where it stands on no block. It takes no
-    /// memory.
+    /// The items of a window that is read, as a `'static` slice, where it stands on no block. It
+    /// takes no memory.
     ///
     /// # Errors
     ///
@@ -348,7 +348,7 @@ where
         }
     }
 
-    /// Takes out the vector on which the window stands, which is one of several, if it can be had;
+    /// Takes out the vector on which a window of one of several writers stands, if that can be had;
     /// then the window is gone. Nothing else is taken out of such a window.
     fn take_beside(
         self,
@@ -371,8 +371,8 @@ where
         }
     }
 
-    /// Takes out what the window stands on, if it is for its role and can be had; then the window
-    /// is gone.
+    /// Takes out what the window stands on, if that is for a window of its role and can be had;
+    /// then the window is gone.
     pub(crate) fn take(
         self,
         what: Taking,

@@ -1,9 +1,9 @@
 //! Native blocks: items in memory of this crate's own making, which is lent for the lease of the
 //! block's owners.
 //!
-//! What its counted box keeps is that the memory comes back at the end. The box lies in front of
-//! the items, in the same piece of memory. An owner reads by where the items begin, and touches
-//! neither the count nor what is kept.
+//! The counted box keeps what gives the memory back at the end. It lies in front of the items, in
+//! the same piece of memory. An owner reads the items by where they begin, and reads neither the
+//! count nor what is kept.
 ghost use Rattle.std.specs.Prelude.{◌≡◌, ◌≤◌, ◌+◌, ◌-◌, ◌↔◌, Bool, true, false, IsTrue};
 ghost use Rattle.std.specs.Prelude.{IfOk, IfErr, IfSome, IfNone, is_some};
 ghost use Rattle.arc_owners.specs.count.Calls.{IsPassFor, IsNewPass, Learns, Asks};
@@ -39,19 +39,18 @@ use std_alloc::vec::Lodged;
 /// The count of a native block by value, with its only owner.
 pub type NativeCount<const MAX: u64, H> = SoleCount<MAX, H>;
 
-/// An owner of a native block, which at most `MAX` owners share, and who reads items that lie side
-/// by side in the block. Its memory is given back with its last owner.
+/// An owner of a native block, which at most `MAX` owners share. It reads items that lie side by
+/// side in the block. The last owner gives the memory back.
 ///
-/// Dropped, it ends with a new pass under the mark `Open`. Under `Whole` it is a forgotten owner:
-/// the block stays for good.
+/// One that is dropped ends with a new pass under the mark `Open`. Under `Whole` it is a forgotten
+/// owner: the block stays for good.
 pub struct NativeBlock<S: Slice, A: Allocator + Copy, const MAX: u64, H: Mark = Open> {
     base: Base<S::Item>,
     reader: FrozenReader<S::Item, Kept<S::Item, A>, Lodged, MAX, H>,
     head: HeadSize<Header<Kept<S::Item, A>>>,
 }
 
-/// Gives the block back that the last owner had, where it was the last one, and says whether it
-/// was.
+/// Gives the block back where there was a last owner who had it, and answers whether there was.
 #[inline(always)]
 fn give_back<T: Drop, A: Allocator>(
     last: Option<(Kept<T, A>, HeaderRoom<Header<Kept<T, A>>>, EndedLifetime)>,
@@ -97,15 +96,13 @@ impl<S: Slice, A: Allocator + Copy, const MAX: u64, H: Mark> Drop for NativeBloc
 }
 
 impl<S: Slice, A: Allocator + Copy, const MAX: u64, H: Mark> NativeBlock<S, A, MAX, H> {
-    /// One attempt to make one owner more of the same block, through this one, who reads the same
-    /// items: `None` where another thread's step came between, and then no entry is added. The
-    /// caller tries again.
-    ///
-    /// Takes no memory and copies no item.
+    /// One attempt to make one owner more of the same block, through this one, which reads the same
+    /// items. It answers `None`, and adds no entry, where another thread's step came between; the
+    /// caller tries again. It takes no memory and copies no item.
     ///
     /// # Errors
     ///
-    /// `CountFull` exactly where `MAX` owners live, and no other.
+    /// `CountFull` exactly where `MAX` owners live, and no other error.
     ///
     /// # History
     ///
@@ -156,7 +153,7 @@ impl<S: Slice, A: Allocator + Copy, const MAX: u64, H: Mark> NativeBlock<S, A, M
         self.reader.owner.get().count() == size
     }
 
-    /// How many owners the block may have at once, and under which mark it is.
+    /// How many owners the block may have at once. The contract says too under which mark it is.
     pub fn max_owners(&self) -> u64
         ensures answer { result ≡ MAX }
         ensures block { IsLimited MAX H.whole self.now.owner }
@@ -217,8 +214,8 @@ impl<S: Slice, A: Allocator + Copy, const MAX: u64, H: Mark> NativeBlock<S, A, M
         pass
     }
 
-    /// Ends this owner: it reads the count first, and gives the block back without another step
-    /// where no other owner lives, else it counts down. It takes no memory.
+    /// Ends this owner. It reads the count first: where no other owner lives it gives the block
+    /// back without another step, and else it counts down. It takes no memory.
     ///
     /// # History
     ///
@@ -273,8 +270,8 @@ impl<S: Slice, A: Allocator + Copy, const MAX: u64, H: Stepping> NativeBlock<S, 
     }
 }
 
-/// What the counted box of a block keeps of these places, which are frozen: all `len` of its full
-/// ones, where their items are dropped one by one.
+/// What the counted box of a block keeps of these places, which are frozen. Where items are dropped
+/// one by one, that is all `len` that hold an item.
 #[inline(always)]
 fn kept_of<S: Slice, A: Allocator>(
     kept: KeptPlaces<S::Item, A>,
@@ -432,10 +429,14 @@ impl<S: Slice, A: Allocator + Copy, const MAX: u64, H: Mark> NativeBlock<S, A, M
         NativeBlock { base, reader, head }
     }
 
-    /// The only owner of the same block, where no other one lives, and the block's memory, with the
-    /// items in the places from `start` on and before `end`: those of another place are forgotten,
-    /// unless they are dropped one by one, when all items stay. Else the block is handed back. No
-    /// item is moved. It takes no memory.
+    /// The only owner of the same block and the block's memory, where no other owner lives, with
+    /// the items in the places from `start` on and before `end`. Items in other places are
+    /// forgotten, but items that are dropped one by one all stay. No item is moved. It takes no
+    /// memory.
+    ///
+    /// # Errors
+    ///
+    /// The owner comes back where another one lives.
     ///
     /// # History
     ///
@@ -467,9 +468,13 @@ impl<S: Slice, A: Allocator + Copy, const MAX: u64, H: Mark> NativeBlock<S, A, M
         }
     }
 
-    /// The block's memory, taken where no other owner lives, with the items in the places from
-    /// `start` on and before `end`: those of another place are forgotten, unless they are dropped
-    /// one by one, when all items stay. Else the block is handed back. It takes no memory.
+    /// The block's memory, where no other owner lives, with the items in the places from `start` on
+    /// and before `end`. Items in other places are forgotten, but items that are dropped one by one
+    /// all stay. It takes no memory.
+    ///
+    /// # Errors
+    ///
+    /// The owner comes back where another one lives.
     ///
     /// # History
     ///
