@@ -109,8 +109,8 @@ split_answer boundary items capacity at =
     if nat_lt capacity at then Err OutOfRange else
     if nat_lt at (length items) then edge_answer boundary items at else Ok tt
 
--- This owner ended, and that was added behind what the pass had seen. The pass goes on as another
--- block's: what it was then is one that is there.
+-- This owner ended, and its Down was added after what the pass had seen. The pass then became
+-- another block's. That there was a pass which saw the Down is kept as a fact.
 pub record LeavesShown (H : Type 0) (real : BlockId → ℕ → List Line → Type 0) (o : Owner)
     (before : Pass H) : Type 0 where
   pub left : Pass H
@@ -162,8 +162,8 @@ module _ {T M : Type 0} where
     StandsToSplitAt drops one_pass w v before after (on_block owner offset info) =
         StandsToSplit drops one_pass w v before after info.sort
 
-    -- A writer's places were split in two, where he stood then. The window keeps one part, and the
-    -- other was made, as another owner of the block; without a block both stand on nothing.
+    -- A writer's places were split in two where it stood. The window keeps one part. The other was
+    -- made as another owner of the block; without a block both stand on nothing.
     pub record SplitsWriter (drops one_pass : Bool)
         (keeps makes : PartsView T M → PartsView T M) (w kept made : PartsView T M)
         (before after : Pass H) : Type 0 where
@@ -219,7 +219,7 @@ module _ {M H : Type 0} where
   RefusesSplitAt (on_block (Some o) offset info) before after e =
       RefusesSplit info.sort o before after e
 
-  -- One of several writers is alone, as he was told where he asked; or he isn't. On no block nobody
+  -- One of several writers asked whether it is alone, and this was the answer. On no block no count
   -- is asked, and the answer is no.
   abbrev pub AsksAlone : Place (Option Owner) M → (before after : Pass H) → (found : Bool) → Type 0
   AsksAlone place before after found = at_owner place

@@ -28,7 +28,7 @@ module _ {M H : Type 0} where
   EndsAt place after =
       at_owner place (IsPassOfNone after) (λ o. (last : Bool) × EndsByItself o after last)
 
-  -- An attempt was lost through the owner that stands at a place. On no block none is lost.
+  -- An attempt failed of the owner that stands at a place. On no block none fails.
   abbrev pub MayJoinAt : Place (Option Owner) M → Pass H → Pass H → Type 0
   MayJoinAt place old new = at_owner place ⊥ (λ o. MayJoin o old new)
 
@@ -41,8 +41,8 @@ module _ {M H : Type 0} where
   Shares (on_block (Some o) offset facts) old new there = (other : Owner)
       × MakesAnother o old new other × (there ≡ on_block (Some other) offset facts)
 
-  -- no window was made: the count was found at its greatest, or the layout's clones want memory on
-  -- a block of this sort, which was refused, and nothing was added
+  -- No window was made. Either the count was at its greatest; or the layout lets a clone on a block
+  -- of this sort be refused for memory, and it was, and nothing was added.
   abbrev pub Refuses : (Sort → Bool) → Place (Option Owner) M → Pass H → Pass H → OwnerError
       → Type 0
   Refuses wants nowhere old new e = ⊥
@@ -99,7 +99,7 @@ module _ {M H : Type 0} where
   abbrev pub TakesAt : Place (Option Owner) M → Pass H → Pass H → Type 0
   TakesAt place old new = at_owner place (new ≡ old) (λ o. TakesBlock o old new)
 
-  -- It was refused: where all but the count was as wanted, that was asked and said no, and else
+  -- It was refused. Where all but the count was as wanted, the count was asked and said no. Else
   -- nothing was asked.
   pub record RefusesTaking (wanted : Type 0) (place : Place (Option Owner) M) (old new : Pass H)
       : Type 0 where
@@ -108,7 +108,8 @@ module _ {M H : Type 0} where
 
 module _ {M H : Type 0} where
   -- The owner that stands at a place ended by one step, and was the last one or not. An `Arc` that
-  -- is a block by itself has no owner: nothing is added, and its window has it as a last one does.
+  -- is a block by itself has no owner: nothing is added, and its window gets it, as a last owner
+  -- does.
   abbrev pub LeavesLastAt : Place (Option Owner) M → (old new : Pass H) → (last : Bool) → Type 0
   LeavesLastAt place old new last =
       at_owner place ((last ≡ true) × (new ≡ old)) (λ o. Leaves o old new last)
