@@ -28,7 +28,7 @@ impl<T, V: Drop, A: Allocator + Copy, const MAX: u64, H: Mark> OpenWriter<T, V, 
     ghost use Rattle.arc_owners.specs.memory.Boxes.{owner_in_rest, value_of_rest, place_in_rest};
     ghost use Rattle.arc_memory.specs.Allocations.{IsPartOfLent};
 
-    /// The writer again, with what lies in its places now. It adds no entry, takes no memory and
+    /// The writer again, with what lies in its places. It adds no entry, takes no memory and
     /// compiles to no instruction.
     #[inline(always)]
     pub fn close(self, places: Places<T>) -> WriterPart<T, V, A, MAX, H>

@@ -362,7 +362,8 @@ impl<T: Drop, A: Allocator> WriterMemory<T, A> {
 
     /// All places of a piece, lent for a lifetime: the part of those that are the writer's, with
     /// the items, what is kept, and the room for the piece's header, with its size. Those before
-    /// the writer's are given up, to come back with the rest. No item is moved, and no memory read.
+    /// the writer's are given up, to come back with the rest. No item is moved, and no memory is
+    /// read.
     #[inline(always)]
     pub fn lend(
         self,

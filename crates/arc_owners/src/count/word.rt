@@ -411,7 +411,7 @@ impl WordBorrow {
         unsafe { &*(place as *const Word) }
     }
 
-    /// A copy of it, for the same items or value.
+    /// A copy of it, for the same word.
     pub fn again(&self) -> WordBorrow
         ensures { (result.block ≡ self.now.block) × (result.at ≡ self.now.at)
             × (result.lifetime ≡ self.now.lifetime) }

@@ -63,11 +63,11 @@ fn item_line(item: u8) -> [u8; 3]
 
 /// Lets `workers` threads clone one window, writes the vector that comes back, and answers the
 /// program's status. A refusal or a write that fails is told in one line. The threads pass the gate
-/// as `storm` says; the program's own gate is open.
+/// as `storm` says.
 ///
 /// # Allocates
 ///
-/// As `storm`.
+/// For the vector, for its window and for the list of threads.
 pub fn run_storm<R: Threads + Wait + Sync + AllocGlobal, G: Gate + Sync, W: Sink, F: Sink>(
     rt: &R,
     gate: &G,
