@@ -457,8 +457,8 @@ where
             }
             // Nothing is written behind a write that failed.
             Err(ScriptError::Write) => Err(ScriptError::Write),
-            // Where memory is refused and then a write fails, the fault is `Write`: `Alloc` says
-            // that every reply which is held was written.
+            // A write that fails is the fault, also where memory was refused before: `Alloc` says
+            // that every reply that had room is written.
             Err(fault) => {
                 self.flush(writer)?;
                 Err(fault)
