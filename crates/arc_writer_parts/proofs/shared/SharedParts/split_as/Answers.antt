@@ -1,7 +1,7 @@
 -- The places of a native block's writer were split where he stood; without a block both parts stand
 -- on nothing.
 use Rattle.std.proofs.Common.{◌≡◌, ◌≤◌, true, not, eqb, sym, ap, ◌∙◌, subst, rules}
-use Rattle.arc_writer_parts.specs.PartsOn.{shared_on}
+use Rattle.arc_writer_parts.specs.PartsOn.{shared_on, IsSharedOn}
 use Rattle.arc_block.specs.Place.{IsOnBlock}
 use Rattle.arc_parts.specs.Shared.{as_shared, is_vector_at}
 use Rattle.arc_parts.specs.Window.{PartsView}
@@ -34,4 +34,6 @@ pub split_vector_as-requires-clause-vector : goal.split_vector_as-requires-claus
 split_vector_as-requires-clause-vector g c =
     let on : IsOnBlock c.in-Alone.parts.place = search rules in
     subst (λ (w : PartsView g.row.S-Item.Denot g.row.M.Denot). is_vector_at w.place ≡ true)
-    (sym c.alone-whole.ensures) (alone_vector c.in-Alone.parts.place (search rules) on)
+    (sym c.alone-whole.ensures)
+    (alone_vector c.in-Alone.parts.place
+    (subst (λ on. IsSharedOn on) c.in-Alone.is c.self.invariant.1) on)

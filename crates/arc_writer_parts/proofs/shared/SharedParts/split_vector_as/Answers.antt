@@ -2,7 +2,6 @@
 use Rattle.std.proofs.Common.{not, eqb, sym, subst}
 use Rattle.arc_memory.specs.WriterParts.{SplitsOwner}
 use Rattle.arc_writer_parts.proofs.Splits.{left_shown, moves_to_split, parts_split}
-use Rattle.arc_writer_parts.proofs.Splits.{vector_refused}
 use Rattle.arc_sort_writers.specs.NativeWriters.{native_row}
 use Rattle.arc_writer_parts.proofs.shared.SharedParts.split_vector_as.Goals as goal
 
