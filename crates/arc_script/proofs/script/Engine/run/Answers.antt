@@ -1,5 +1,6 @@
 -- Pieces are taken one after another; at the end of the input the engine finishes.
 use Rattle.std.proofs.Common.{◌∙◌, arith, refl}
+use Rattle.arc_script.specs.Script.{feeds}
 use Rattle.arc_script.specs.declared.script.ScriptError.TheVariants.{Alloc}
 use Rattle.arc_script.proofs.Going.{if_err_is, on_ok, on_ok_then, if_err_then, run_begins}
 use Rattle.arc_script.proofs.Going.{nothing_exchanged, exchange_answered, exchange_begun}
@@ -26,7 +27,7 @@ returns-then-not-branch-clause-ok g c =
     let run = c.in_ok-take_piece.ensures.ok _ _ c.pieces.invariant.running in
     let w = g.W.Sink.traffic c.args.writer.now in
     on_ok_then c.finish.result c.finish.ensures.ok (λ h.
-    exchange_answered _ _ w _ _ run.input run.given (h w.bytes run.input run.read))
+    exchange_answered _ _ w _ _ run.input run.given (h (feeds run.input) w.bytes run.input run.read))
 
 pub returns-then-not-branch-clause-end : goal.returns-then-not-branch-clause-end
 returns-then-not-branch-clause-end g c =
@@ -44,7 +45,8 @@ returns-then-not-branch-clause-begun g c =
     let run = c.in_ok-take_piece.ensures.ok _ _ c.pieces.invariant.running in
     let w = g.W.Sink.traffic c.args.writer.now in
     if_err_then c.finish.result c.finish.ensures.err (λ fault h.
-    exchange_begun fault _ _ w _ _ run.input run.given (h w.bytes run.input run.read))
+    exchange_begun fault _ _ w _ _ run.input run.given
+    (h (feeds run.input) w.bytes run.input run.read) (omega arith))
 
 pub returns-then-not-branch-clause-fault : goal.returns-then-not-branch-clause-fault
 returns-then-not-branch-clause-fault g c =
