@@ -1,6 +1,7 @@
 -- How the engine's calls follow one another.
 use Rattle.std.proofs.Common.{◌≡◌, ℕ, ◌≤◌, ◌+◌, Bool, false, List, [], ◌∷◌, ◌++◌, Result, Ok, Err}
-use Rattle.std.proofs.Common.{OnErr, OnOk, IfErr, IsErrAnd, refl, sym, ap, ◌∙◌, subst, append_assoc, arith}
+use Rattle.std.proofs.Common.{OnErr, OnOk, IfErr, IsErrAnd, length, refl, sym, ap, ◌∙◌, subst}
+use Rattle.std.proofs.Common.{append_assoc, arith}
 use Rattle.std.proofs.lemmas.List.{append-nil}
 use Rattle.arc_commands.specs.State.{empty_state}
 use Rattle.arc_script.specs.declared.layout.NamedLayout as Named
@@ -21,7 +22,7 @@ use Rattle.arc_script.proofs.Underway.{nothing_read, more_held, line_ended, went
 use Rattle.arc_script.proofs.Underway.{begun_front, answered_begun, still_begun, line_broken}
 use Rattle.arc_script.proofs.Underway.{all_settled, begun_cut, begun_nothing, stand_many}
 use Rattle.arc_script.proofs.Underway.{whole_answered}
-use Rattle.arc_script.proofs.Splits.{feeds-append, feeds_none}
+use Rattle.arc_script.proofs.Splits.{feeds-append}
 
 -- what holds whatever is answered
 pub on_ok : {T E P : Type 0} (r : Result T E) → P → OnOk r P
@@ -248,13 +249,23 @@ more_parts piece front rest line behind parts cut =
     parts ∙ ap (λ xs. front ++ xs) (line_parts line behind rest cut)
     ∙ sym (append_assoc front (line ++ line_feed ∷ []) behind)
 
+-- more than so many are at least so many
+pub no_fewer : (some more : ℕ) → some ≤ some + more
+no_fewer some more = omega arith
+
+raised : (all early whole last : ℕ) → all ≤ early + last → early ≤ whole → all ≤ whole + last
+raised all early whole last enough many = omega (arith, enough, many)
+
+summed : (all first here there : ℕ) → all ≡ first + here → there ≡ here → all ≤ first + there
+summed all first here there sum same = omega (arith, sum, same)
+
 -- What was read and what was written go together, where so many first replies were taken: at least
 -- one for each line that had ended before the reader's last call.
 pub exchange_begun : {layout : ScriptLayout} {early : ℕ} (fault : ScriptError)
     (r r' w w' : Traffic) (state : ByteState) (input : List ℕ) → r'.bytes ≡ r.bytes ++ input
     → IsBegun layout fault early w.bytes input w' [] state → feeds input ≤ early + feeds r'.last
     → Exchanges (IsBrokenOff layout fault r'.last state) r r' w w'
-exchange_begun fault r r' w w' state input given b enough = record {
+exchange_begun {early = early} fault r r' w w' state input given b enough = record {
   input = input;
   text = b.text;
   given = given;
@@ -269,14 +280,17 @@ exchange_begun fault r r' w w' state input given b enough = record {
     run = b.run;
     written = sym (append-nil b.text) ∙ b.written;
     lacks = b.lacks;
-    early = omega (arith, enough, stand_many b.settled);
+    early = raised (feeds input) early (length b.whole) (feeds r'.last) enough
+        (stand_many b.settled);
   };
 }
 
 -- lines end in what was read before, or in the last call
 ends_in : (input bytes last : List ℕ) → last ≡ bytes
     → feeds (input ++ bytes) ≤ feeds input + feeds last
-ends_in input bytes last is = omega (arith, feeds-append input bytes, ap feeds is)
+ends_in input bytes last is =
+    summed (feeds (input ++ bytes)) (feeds input) (feeds bytes) (feeds last)
+    (feeds-append input bytes) (ap (λ (xs : List ℕ). feeds xs) is)
 
 -- where a write failed, what is held then is lacking too
 unwritten : {layout : ScriptLayout} {early : ℕ} (start input : List ℕ) (w : Traffic)
@@ -294,7 +308,7 @@ module _ {layout : ScriptLayout} {L A W : Type 0} {N : Named.Ghosts L W}
       exchange_begun fault r r2 w w1 e.table run.input (same ∙ run.given)
       (subst (λ o. IsBegun layout fault (feeds run.input) w.bytes run.input w1 o e.table)
       run.none_held (begun_at_end fault w1 e (feeds run.input) w.bytes run.input run.read))
-      (omega arith)
+      (no_fewer (feeds run.input) (feeds r2.last))
 
   -- then each whole line is answered
   pub run_answered : (r r1 r2 w w1 : Traffic) (e : Engine L A W N G K)
@@ -382,12 +396,12 @@ module _ {layout : ScriptLayout} {L A W : Type 0} {N : Named.Ghosts L W}
       begun_front (begun early start input w read) w' front
 
 -- nothing was read and nothing written
-pub nothing_exchanged : {layout : ScriptLayout} (fault : ScriptError) (r w : Traffic)
+pub nothing_exchanged : (layout : ScriptLayout) (fault : ScriptError) (r w : Traffic)
     (state : ByteState)
     → state ≡ empty_state → Exchanges (IsBrokenOff layout fault r.last state) r r w w
-nothing_exchanged fault r w state empty =
+nothing_exchanged layout fault r w state empty =
     exchange_begun fault r r w w state [] (sym (append-nil r.bytes))
-    (begun_nothing fault w state empty) (omega (arith, feeds_none))
+    (begun_nothing fault w state empty) (no_fewer 0 (feeds r.last))
 
 -- a run that has answered all
 pub exchange_answered : {layout : ScriptLayout} {early : ℕ} (r r' w w' : Traffic)

@@ -51,7 +51,7 @@ module _ (s : Setting ℕ) (t : ByteTable) (i : ℕ) where
       → (option_map_or (λ row. changed t i (answer_any s no_shortage (around_of 0 t row) (Show i)
       row)) found (reply.NoWindow, t)).0 ≢ reply.Alloc
   shown_at None is = of_none _ refl is
-  shown_at (Some row) is = shown row (is_allowed s.calls (Show i) row.role) is
+  shown_at (Some row) is = shown row (is_allowed {T = ℕ} {M = ℕ} s.calls (Show i) row.role) is
 
 asks : false ≡ true → ⊥
 asks e = cc

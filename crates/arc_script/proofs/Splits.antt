@@ -123,14 +123,14 @@ lines_once input lines lines' a b =
 -- ---- how many lines have ended
 
 -- 1 for a line feed, else 0
-is_one : ℕ → ℕ
+abbrev is_one : ℕ → ℕ
 is_one byte = cond (eqb byte line_feed) 1 0
 
 pub feeds-append : (xs ys : List ℕ) → feeds (xs ++ ys) ≡ feeds xs + feeds ys
 feeds-append = sum_by-append is_one
 
-pub feeds_none : feeds [] ≡ 0
-feeds_none = refl
+added : (a b m n : ℕ) → a ≡ m → b ≡ n → a + b ≡ m + n
+added a b m n p q = omega (arith, p, q)
 
 no_one : (byte : ℕ) (test : Bool) → eqb byte line_feed ≡ test → byte ≢ line_feed → is_one byte ≡ 0
 no_one byte true is other = absurd (other (eqb-true byte line_feed is))
@@ -143,7 +143,13 @@ no_feeds_in (byte ∷ bytes) plain =
     (λ is. plain (0, omega arith, is)) in
     let behind : feeds bytes ≡ 0 = no_feeds_in bytes
     (λ has. plain (Contains-append_right (byte ∷ []) bytes line_feed has)) in
-    omega (arith, sum_by-cons is_one byte bytes, here, behind)
+    sum_by-cons is_one byte bytes ∙ added (is_one byte) (feeds bytes) 0 0 here behind
+
+one_first : (n : ℕ) → (0 + 1) + n ≡ suc n
+one_first n = omega arith
+
+none_last : (n : ℕ) → n + 0 ≡ n
+none_last n = omega arith
 
 -- as many as whole lines
 feeds_ended : (lines : List (List ℕ)) → AllByRecursion HasNoFeed lines
@@ -151,12 +157,18 @@ feeds_ended : (lines : List (List ℕ)) → AllByRecursion HasNoFeed lines
 feeds_ended [] each = refl
 feeds_ended (line ∷ lines) each =
     let one : feeds (line_feed ∷ []) ≡ 1 = refl in
-    omega (arith, feeds-append (line ++ line_feed ∷ []) (ended lines),
-    feeds-append line (line_feed ∷ []), one, no_feeds_in line each.0, feeds_ended lines each.1)
+    let here : feeds (line ++ line_feed ∷ []) ≡ 0 + 1 =
+    feeds-append line (line_feed ∷ [])
+    ∙ added (feeds line) (feeds (line_feed ∷ [])) 0 1 (no_feeds_in line each.0) one in
+    feeds-append (line ++ line_feed ∷ []) (ended lines)
+    ∙ added (feeds (line ++ line_feed ∷ [])) (feeds (ended lines)) (0 + 1) (length lines) here
+    (feeds_ended lines each.1)
+    ∙ one_first (length lines)
 
 pub feeds_cut : (input : List ℕ) (whole : List (List ℕ)) (rest : List ℕ)
     → input ≡ ended whole ++ rest → AllByRecursion HasNoFeed whole → HasNoFeed rest
     → feeds input ≡ length whole
 feeds_cut input whole rest cut each last =
-    omega (arith, ap feeds cut, feeds-append (ended whole) rest, feeds_ended whole each,
-    no_feeds_in rest last)
+    ap (λ (bytes : List ℕ). feeds bytes) cut ∙ feeds-append (ended whole) rest
+    ∙ added (feeds (ended whole)) (feeds rest) (length whole) 0 (feeds_ended whole each)
+    (no_feeds_in rest last) ∙ none_last (length whole)

@@ -1,6 +1,6 @@
 -- What commands do to the windows as a whole, and what of it the table and the texts see.
 use Rattle.std.proofs.Common.{◌≡◌, ◌≢◌, ℕ, Bool, List, ◌++◌, Option, Some, None}
-use Rattle.std.proofs.Common.{true, false, ap, sym, ◌∙◌, subst, inr}
+use Rattle.std.proofs.Common.{true, false, refl, ap, sym, ◌∙◌, subst, inr}
 use Rattle.std.proofs.lemmas.List.{append-nil}
 use Rattle.std.specs.Option.{option_map}
 use Rattle.arc_commands.specs.Changes.{Setting, no_shortage, of_table}
@@ -32,7 +32,8 @@ pub line_carried_out : (layout : ScriptLayout) {C A : Type 0} (old : ByteState)
     → CarriesOutSaid layout old (option_map line_command said) answer new
     → (line : List ℕ) → IsReadAs line said → AnswersLine layout old line answer new
 line_carried_out layout old None None new same line bad = (bad, same)
-line_carried_out layout old (Some c) (Some answer) new does line says = (line_command c, says, does)
+line_carried_out layout old (Some c) (Some answer) new does line says =
+    (line_command c, says, does.0, does.1)
 line_carried_out layout old None (Some answer) new does line read = absurd does
 line_carried_out layout old (Some c) None new does line read = absurd does
 
@@ -67,7 +68,7 @@ line_may_end layout held too_long old new said read does = inr (
 table_answers : (layout : ScriptLayout) (old : ByteState) (line : List ℕ)
     (answer : Option ByteReply) (new : ByteState)
     → AnswersLine layout old line answer new → Answers layout old.table line answer new.table
-table_answers layout old line (Some answer) new does = (does.0, does.1, does.2.0.rows, does.2.1)
+table_answers layout old line (Some answer) new does = (does.0, does.1, does.2.rows, does.3)
 table_answers layout old line None new bad = (bad.0, ap (λ (s : ByteState). s.table) bad.1)
 
 table_run : (layout : ScriptLayout) (old : ByteState) (lines : List (List ℕ))
@@ -100,10 +101,10 @@ broken_text {layout} fault last state input text h =
     (all_would_be text h.part more.0 h.whole h.others h.written more.1)
 
 -- it is the replies to some first lines, but for what the fault may have left unwritten
-pub breaks_text : {layout : ScriptLayout} (fault : ScriptError) (last : List ℕ) (state : ByteState)
-    (input text : List ℕ)
+pub breaks_text : (layout : ScriptLayout) (fault : ScriptError) (last : List ℕ)
+    (state : ByteState) (input text : List ℕ)
     → IsBrokenOff layout fault last state input text → BreaksOff layout fault last input text
-breaks_text {layout} fault last state input text h = (
+breaks_text layout fault last state input text h = (
   state.table,
   record {
     lines = h.lines;
@@ -150,6 +151,12 @@ may_need c answer asks only_lends = absurd (both (sym asks ∙ only_lends))
   where
     both : false ≡ true → ⊥
     both e = cc
+
+-- a command in memory that isn't a show may ask for memory
+pub not_lends : {C A : Type 0} (c : LineCmd C A) → ((window : ℕ) → c ≡ Show window → ⊥)
+    → lends (line_command c) ≡ false
+not_lends (Show i) other = absurd (other i refl)
+not_lends c other = refl
 
 -- an answer that tells of no want of memory is no refusal
 not_refused : (i : ℕ) (answer : ByteReply) → shortage answer (Show i) ≡ no_shortage

@@ -1,5 +1,5 @@
 -- How a script that is being run goes on.
-use Rattle.std.proofs.Common.{◌≡◌, ◌≤◌, ℕ, Bool, true, false, List, [], ◌∷◌, ◌++◌, map, Option}
+use Rattle.std.proofs.Common.{◌≡◌, ◌≤◌, ℕ, suc, Bool, true, false, List, [], ◌∷◌, ◌++◌, map, Option}
 use Rattle.std.proofs.Common.{length, refl, sym, ap, ◌∙◌, subst, append_assoc, arith, inl, inr}
 use Rattle.std.proofs.lemmas.List.{append_cancel_left, append-nil, length-append, map-append}
 use Rattle.std.proofs.lemmas.Grind.{flat_map-append}
@@ -93,7 +93,7 @@ run_length : {S A B : Type 0} (step : S → A → B → S → Type 0) (old : S) 
     (new : S) → RunOf step old xs us new → length xs ≡ length us
 run_length step old [] [] new run = refl
 run_length step old (x ∷ xs) (u ∷ us) new run =
-    let others = run_length step run.0 xs us new run.2 in omega (arith, others)
+    ap (λ n. suc n) (run_length step run.0 xs us new run.2)
 run_length step old [] (u ∷ us) new run = absurd run
 run_length step old (x ∷ xs) [] new run = absurd run
 

@@ -35,7 +35,7 @@ returns-clause-broken g c =
     exchange_as
     (ThenEnds g.L.NamedLayout.named (IsBrokenOff g.L.NamedLayout.named fault last) passes)
     (BreaksOff g.L.NamedLayout.named fault last) _ _ _ _
-    (λ input text h. breaks_text fault last h.0 input text h.1))
+    (λ input text h. breaks_text g.L.NamedLayout.named fault last h.0 input text h.1))
 
 pub returns-clause-answered : goal.returns-clause-answered
 returns-clause-answered g c =

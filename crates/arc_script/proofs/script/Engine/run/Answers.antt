@@ -4,6 +4,7 @@ use Rattle.arc_script.specs.Script.{feeds}
 use Rattle.arc_script.specs.declared.script.ScriptError.TheVariants.{Alloc}
 use Rattle.arc_script.proofs.Going.{if_err_is, on_ok, on_ok_then, if_err_then, run_begins}
 use Rattle.arc_script.proofs.Going.{nothing_exchanged, exchange_answered, exchange_begun}
+use Rattle.arc_script.proofs.Going.{no_fewer}
 use Rattle.arc_script.proofs.Going.{why_is_cause, why_no_read}
 use Rattle.arc_script.proofs.Devices.{gives_nothing, gives_on, gives_all, takes_nothing, takes_on}
 use Rattle.arc_script.proofs.script.Engine.run.Goals as goal
@@ -11,7 +12,7 @@ use Rattle.arc_script.proofs.script.Engine.run.Goals as goal
 pub returns-in_err-piece-clause-begun : goal.returns-in_err-piece-clause-begun
 returns-in_err-piece-clause-begun g c =
     if_err_is _ c.from_residual.result Alloc c.from_residual.ensures.1
-    (nothing_exchanged Alloc _ _ _ c.requires.windows)
+    (nothing_exchanged g.L.NamedLayout.named Alloc _ _ _ c.requires.windows)
 
 pub pieces-init : goal.pieces-init
 pieces-init g c = record {
@@ -46,7 +47,8 @@ returns-then-not-branch-clause-begun g c =
     let w = g.W.Sink.traffic c.args.writer.now in
     if_err_then c.finish.result c.finish.ensures.err (λ fault h.
     exchange_begun fault _ _ w _ _ run.input run.given
-    (h (feeds run.input) w.bytes run.input run.read) (omega arith))
+    (h (feeds run.input) w.bytes run.input run.read)
+    (no_fewer (feeds run.input) (feeds (g.R.Source.traffic c.take_piece.new.reader).last)))
 
 pub returns-then-not-branch-clause-fault : goal.returns-then-not-branch-clause-fault
 returns-then-not-branch-clause-fault g c =
