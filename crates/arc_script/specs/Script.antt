@@ -151,7 +151,7 @@ module _ (layout : ScriptLayout) where
     pub rest : List ℕ
     pub whole : IsReplyText input (text ++ rest)
 
-  -- what is written for an input when a fault came behind a call that gave the last bytes of it: the
+  -- what is written for an input when a fault came behind a call that gave its last bytes: the
   -- replies to first lines, at least to those that had ended before that call, but for what the
   -- fault may lack
   abbrev pub BreaksOff : ScriptError → (last input text : List ℕ) → Type 0
