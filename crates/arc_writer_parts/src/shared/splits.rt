@@ -131,7 +131,8 @@ where
         }
     }
 
-    /// `split_as` of a vector, whose places are moved first.
+    /// The same of a vector, whose places are moved first.
+    #[tactic(auto, using(crate::proofs::Splits::vector_refused))]
     fn split_vector_as<const FRONT_STAYS: bool>(
         &mut self,
         rt: &impl Wait,

@@ -1,5 +1,5 @@
 -- Both are owners of the block, each with its own places.
-use Rattle.std.proofs.Common.{sym, ap, ◌∙◌, subst, refl}
+use Rattle.std.proofs.Common.{not, eqb, sym, ap, ◌∙◌, subst, refl}
 use Rattle.arc_block.specs.declared.block.TheConstants.{MAX_OWNERS}
 use Rattle.arc_memory.specs.SharedWriters.{writer_owner, writer_value, writer_place}
 use Rattle.arc_memory.specs.WriterParts.{SplitsOwner}
@@ -12,8 +12,8 @@ pub invariant_of-result : goal.invariant_of-result
 invariant_of-result g c =
     let v = c.self.inside.writer in let w = c.in-Ok.front in let h = c.self.inside.head in
     let r = c.in-Ok.ensures in let is = c.self.invariant in (
-      (limited_both MAX_OWNERS g.H.Mark.whole g.row.FRONT_STAYS (writer_owner v) (writer_owner w)
-          (writer_owner c.in-Ok.back) _ _ r.owners is.0).0,
+      (limited_both MAX_OWNERS g.H.Mark.whole (not (eqb g.row.FRONT_STAYS 0)) (writer_owner v)
+          (writer_owner w) (writer_owner c.in-Ok.back) _ _ r.owners is.0).0,
       kept_alike v w r.value.0 _ r.front.0 refl is.1,
       laid_alike (writer_value v) (writer_value w) r.value.0 (writer_place v) h.size is.2
           (writer_place w) h.size r.place.0 refl,
@@ -23,7 +23,7 @@ pub invariant_of-result-in-Ok : goal.invariant_of-result-in-Ok
 invariant_of-result-in-Ok g c =
     let v = c.self.inside.writer in let w = c.in-Ok.back in let h = c.self.inside.head in
     let r = c.in-Ok.ensures in let is = c.self.invariant in (
-      (limited_both MAX_OWNERS g.H.Mark.whole g.row.FRONT_STAYS (writer_owner v)
+      (limited_both MAX_OWNERS g.H.Mark.whole (not (eqb g.row.FRONT_STAYS 0)) (writer_owner v)
           (writer_owner c.in-Ok.front) (writer_owner w) _ _ r.owners is.0).1,
       kept_alike v w r.value.1 _ r.back.0 refl is.1,
       laid_alike (writer_value v) (writer_value w) r.value.1 (writer_place v) h.size is.2
@@ -42,8 +42,9 @@ returns-in-Ok-clause-back g c = let o = writer_owner c.in-Ok.back in
 
 pub returns-in-Ok-clause-owners : goal.returns-in-Ok-clause-owners
 returns-in-Ok-clause-owners g c =
-    subst (λ w. SplitsOwner g.row.FRONT_STAYS w.owner c.args.pass.now c.try_split_as.new.pass
-    (writer_owner c.in-Ok.front) (writer_owner c.in-Ok.back)) c.self.view_is c.in-Ok.ensures.owners
+    subst (λ w. SplitsOwner (not (eqb g.row.FRONT_STAYS 0)) w.owner c.args.pass.now
+    c.try_split_as.new.pass (writer_owner c.in-Ok.front) (writer_owner c.in-Ok.back))
+    c.self.view_is c.in-Ok.ensures.owners
 
 pub returns-in-Err-clause-full : goal.returns-in-Err-clause-full
 returns-in-Err-clause-full g c = let kept = c.in-Err.ensures.kept in (

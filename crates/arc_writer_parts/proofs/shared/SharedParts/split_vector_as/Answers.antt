@@ -1,8 +1,7 @@
 -- The writer moved first, and its places were split on the new block.
-use Rattle.std.proofs.Common.{sym, subst}
+use Rattle.std.proofs.Common.{not, eqb, sym, subst}
 use Rattle.arc_memory.specs.WriterParts.{SplitsOwner}
 use Rattle.arc_writer_parts.proofs.Splits.{left_shown, moves_to_split, parts_split}
-use Rattle.arc_writer_parts.proofs.Splits.{vector_refused}
 use Rattle.arc_sort_writers.specs.NativeWriters.{native_row}
 use Rattle.arc_writer_parts.proofs.shared.SharedParts.split_vector_as.Goals as goal
 
@@ -22,9 +21,10 @@ returns-in-Ok-try_split_as-clause-made g c =
       pass = c.in-Ok.ensures.pass;
       left = left;
     }) in
-    let owners = subst (λ p. SplitsOwner g.row.FRONT_STAYS v.owner between p front.owner back.owner)
+    let stays = not (eqb g.row.FRONT_STAYS 0) in
+    let owners = subst (λ p. SplitsOwner stays v.owner between p front.owner back.owner)
     (sym c.replace.ensures.after) split.owners in
-    parts_split real whole g.row.FRONT_STAYS c.args.at v front back c.staying_first.result.0
+    parts_split real whole stays c.args.at v front back c.staying_first.result.0
     c.staying_first.result.1 w c.leave_for.new.self c.several.result before between
     c.replace.new.dest stands c.leave_for.ensures.moved c.several.ensures
     c.staying_first.ensures.stays c.staying_first.ensures.leaves split.front split.back owners
