@@ -673,13 +673,13 @@ where
 ///
 /// # Errors
 ///
-/// - `Read` where a read failed: what was written are the replies to each whole line that came, and
-///   to nothing behind the last line feed.
-/// - `Write` where a write failed or took nothing: what was written is a beginning of the replies.
-/// - `Alloc` where memory was refused: all but the last at most of the replies to the lines that
-///   were carried out were written.
+/// - `Read` where a read fails: written are the replies to all lines whose line feed was read, and
+///   no other.
+/// - `Write` where a write fails or takes nothing: written is a beginning of the replies.
+/// - `Alloc` where memory is refused: written are the replies to the lines that were carried out,
+///   but perhaps not the last one.
 ///
-/// On each of them every line that had ended before the last read has its whole reply.
+/// On each error, every line that ended before the last read has its whole reply.
 ///
 /// # Allocates
 ///
