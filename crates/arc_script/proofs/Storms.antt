@@ -1,11 +1,20 @@
 -- Words that ask for a storm of clones.
 use Rattle.std.proofs.Common.{◌≡◌, ℕ, ◌<◌, ◌≤◌, List, [], ◌∷◌, map, length, get_or, String}
-use Rattle.std.proofs.Common.{string_bytes, Some, None, sym, ap, ◌∙◌, subst, arith}
+use Rattle.std.proofs.Common.{string_bytes, Some, None, refl, sym, ap, ◌∙◌, subst, arith}
 use Rattle.std.specs.Prelude.{codes}
 use Rattle.std.specs.declared.alloc.Global.{Global}
 use Rattle.arc_forms.specs.Reading.{number_of}
 use Rattle.arc_forms.proofs.Words.{number_is, number_again}
-use Rattle.arc_script.specs.Storms.{AsksForStorm}
+use Rattle.arc_script.specs.Storms.{AllPassed, AsksForStorm, StormPasses, refused}
+use Rattle.arc_script.specs.declared.storm.StormError.{StormError}
+use Rattle.arc_script.specs.declared.storm.StormError.TheVariants.{Owner, Thread, Taken}
+
+-- where a storm was refused, each worker has passed if another window was found
+pub refused_passes : (error : StormError) (passed : ℕ → Type 0) (workers : ℕ)
+    → (error ≡ Taken → AllPassed passed workers) → StormPasses (refused error) passed workers
+refused_passes Taken passed workers found = found refl
+refused_passes (Owner error) passed workers found = tt
+refused_passes Thread passed workers found = tt
 
 -- the texts of two words
 pub two_texts : (words : List (String Global)) (word number : String Global) → 2 ≤ length words

@@ -67,22 +67,22 @@ module _ (layout : ScriptLayout) where
     pub line : MatchResult outcome
         (λ done. faults' ≡ faults) (λ error. Tells (fault_text error) faults faults')
 
--- what the program does for these words
-pub record Runs (words : List (String Global)) (reader reader' writer writer' : Traffic)
-    (faults faults' : Traffic) (status : ℕ) : Type 0 where
+-- what the program does for these words; of workers that have passed its gate this is known
+pub record Runs (passed : ℕ → Type 0) (words : List (String Global))
+    (reader reader' writer writer' faults faults' : Traffic) (status : ℕ) : Type 0 where
   pub script : (layout : ScriptLayout) → AsksFor layout words
       → IsRun layout reader reader' writer writer' faults faults' status
   pub storm : (workers : ℕ) → AsksForStorm workers words
-      → (reader' ≡ reader) × IsStorm writer writer' faults faults' status
+      → (reader' ≡ reader) × IsStorm passed workers writer writer' faults faults' status
   pub usage : AsksForNone words → (status ≡ 2) × (reader' ≡ reader) × (writer' ≡ writer)
       × Tells usage_text faults faults'
 
--- It does so for the words that it was given, or memory was refused for them, before anything was
--- read or written, and that was told.
+-- It does so for the words that it was given, through a gate that holds nobody up, or memory was
+-- refused for them, before anything was read or written, and that was told.
 abbrev pub RunsGiven : (ℕ → Answer → Type 0) → Traffic → Traffic → Traffic → Traffic → Traffic
     → Traffic → ℕ → Type 0
 RunsGiven answers reader reader' writer writer' faults faults' status =
     ((words : List (String Global)) × AreWords answers (map string_bytes words)
-    × Runs words reader reader' writer writer' faults faults' status)
+    × Runs (λ worker. Unit {0}) words reader reader' writer writer' faults faults' status)
     ⊎ ((status ≡ 1) × (reader' ≡ reader) × (writer' ≡ writer)
     × Tells (fault_text Alloc) faults faults')

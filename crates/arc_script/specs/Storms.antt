@@ -1,6 +1,6 @@
 -- What the program does with its word for a storm of clones.
-use Rattle.std.specs.Prelude.{◌≡◌, ◌≤◌, ◌+◌, ℕ, List, [], ◌∷◌, ◌++◌, map, String, string_bytes}
-use Rattle.std.specs.Prelude.{codes, decimal}
+use Rattle.std.specs.Prelude.{◌≡◌, ◌<◌, ◌≤◌, ◌+◌, ℕ, List, [], ◌∷◌, ◌++◌, map, String, string_bytes}
+use Rattle.std.specs.Prelude.{codes, decimal, ⊤}
 use Rattle.std.specs.declared.alloc.Global.{Global}
 use Rattle.arc_owners.specs.declared.error.OwnerError.TheVariants.{AllocError, CountFull}
 use Rattle.arc_forms.specs.Text.{hex, line_feed}
@@ -15,6 +15,10 @@ pub record AsksForStorm (workers : ℕ) (words : List (String Global)) : Type 0 
   pub said : map string_bytes words ≡ codes "storm" ∷ decimal workers ∷ []
   pub some : 1 ≤ workers
   pub most : workers ≤ 64
+
+-- so many workers have passed, the first of which is number 1
+abbrev pub AllPassed : (passed : ℕ → Type 0) → (workers : ℕ) → Type 0
+AllPassed passed workers = (before : ℕ) → before < workers → passed (before + 1)
 
 -- how a storm ends: the vector was written, something was refused, or the write went wrong
 pub data StormEnd : Type 0 where
@@ -38,6 +42,14 @@ storm_fault_text (Owner CountFull) = codes "count full" ++ line_feed ∷ []
 storm_fault_text Thread = codes "no thread" ++ line_feed ∷ []
 storm_fault_text Taken = codes "not alone" ++ line_feed ∷ []
 
+-- Each worker has passed, unless something was refused before all had ended. That another window
+-- stands on the vector is found after that.
+abbrev pub StormPasses : StormEnd → (passed : ℕ → Type 0) → (workers : ℕ) → Type 0
+StormPasses written passed workers = AllPassed passed workers
+StormPasses (refused Taken) passed workers = AllPassed passed workers
+StormPasses (refused error) passed workers = ⊤
+StormPasses unwritten passed workers = AllPassed passed workers
+
 -- what the writer took
 abbrev pub StormWrites : StormEnd → (writer writer' : Traffic) → Type 0
 StormWrites written writer writer' =
@@ -52,9 +64,11 @@ StormTells written told told' = told' ≡ told
 StormTells (refused error) told told' = Tells (storm_fault_text error) told told'
 StormTells unwritten told told' = Tells (fault_text Write) told told'
 
--- a storm, its status, and what is written and told
-pub record IsStorm (writer writer' told told' : Traffic) (status : ℕ) : Type 0 where
+-- a storm of so many workers, its status, and what is written and told
+pub record IsStorm (passed : ℕ → Type 0) (workers : ℕ) (writer writer' told told' : Traffic)
+    (status : ℕ) : Type 0 where
   pub end : StormEnd
+  pub through : StormPasses end passed workers
   pub answered : status ≡ storm_status end
   pub took : StormWrites end writer writer'
   pub line : StormTells end told told'

@@ -142,7 +142,7 @@ pub fn run_args<
         ⊎ GivesAll (R.traffic reader.old) (R.traffic reader.new) (R.remaining reader.old) }
     ensures storm { (workers : ℕ) → AsksForStorm workers words.now
         → (R.traffic reader.new ≡ R.traffic reader.old)
-        × IsStorm (W.traffic writer.old) (W.traffic writer.new)
+        × IsStorm (G.passed gate.now) workers (W.traffic writer.old) (W.traffic writer.new)
         (F.traffic faults.old) (F.traffic faults.new) result }
     ensures usage { AsksForNone words.now → (result ≡ 2)
         × (R.traffic reader.new ≡ R.traffic reader.old)

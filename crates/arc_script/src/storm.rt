@@ -1,6 +1,8 @@
 //! A storm of clones: threads that clone one window through one reference, and release each clone.
-ghost use Rattle.std.specs.Prelude.{◌≡◌, ◌≤◌, ◌∷◌, [], IfErr, IfOk};
+ghost use Rattle.std.specs.Prelude.{◌≡◌, ◌≢◌, ◌≤◌, ◌<◌, ◌+◌, ◌∷◌, [], ℕ, IfErr, IfOk, OnOk};
+ghost use Rattle.std.specs.Prelude.{get_or, vec_len};
 ghost use Rattle.arc_owners.specs.declared.error.OwnerError.TheVariants as owner;
+ghost use Rattle.arc_script.specs.Storms.{AllPassed};
 ghost use Rattle.arc_script.specs.declared.storm.StormError.TheVariants as storm_error;
 
 use arc_block::layout::VecLayout;
@@ -9,7 +11,7 @@ use arc_owners::error::OwnerError;
 use arc_read::slice::ArcSlice;
 use std::alloc::{self, Global};
 use std::sync::Wait;
-use std::thread::{self, Threads};
+use std::thread::{self, Promise, PromisedHandle, Scope, Threads};
 use thiserror::Error;
 
 /// How many clones each worker makes.
@@ -17,8 +19,13 @@ const CLONES: usize = 1000;
 
 /// What a worker passes between each clone and its release.
 pub trait Gate {
+    /// What is known of a worker, by its number, that has passed. A body that is generic in the gate
+    /// knows it by `pass` alone.
+    ghost passed: { Self → ℕ → Type 0 };
+
     /// Returns when this worker may go on; the first one is number 1.
-    fn pass(&self, worker: usize);
+    fn pass(&self, worker: usize)
+        ensures { passed self.now worker };
 }
 
 /// A gate that holds nobody up.
@@ -26,6 +33,8 @@ pub trait Gate {
 pub struct OpenGate;
 
 impl Gate for OpenGate {
+    ghost passed = { λ _ worker. Unit {0} };
+
     fn pass(&self, _worker: usize) {}
 }
 
@@ -89,11 +98,80 @@ fn work<G: Gate>(
     window: &Window,
     gate: &G,
     worker: usize,
-) -> Result<(), OwnerError> {
-    for _ in 0..CLONES {
+) -> Result<(), OwnerError>
+    ensures passed { OnOk result (G.passed gate.now worker) }
+{
+    'clones: for made in 0..CLONES {
         let clone = window.try_clone(rt)?;
         gate.pass(worker);
         drop(clone);
+    }
+    Ok(())
+}
+
+/// What is known of a worker's thread that has ended: it has passed the gate, unless a clone was
+/// refused.
+struct Works<'a, G> {
+    gate: &'a G,
+    worker: usize,
+}
+
+impl<G> Drop for Works<'_, G> {
+    fn drop(self) {
+        let Self { gate: _, worker: _ } = self;
+    }
+}
+
+impl<G: Gate> Promise<Result<(), OwnerError>> for Works<'_, G> {
+    ghost kept_by = { λ it result. OnOk result (G.passed it.gate.now it.worker) };
+}
+
+/// A worker's thread.
+type Worker<'a, G> = PromisedHandle<Result<(), OwnerError>, Works<'a, G>>;
+
+/// Starts so many workers, each in a thread of its own, in the order of their numbers.
+fn started_in<'s, E, R: Wait + Sync, G: Gate + Sync>(
+    scope: &Scope<'s, E>,
+    rt: &'s R,
+    alloc: Global,
+    window: &'s Window,
+    gate: &'s G,
+    workers: usize,
+) -> Result<Vec<Worker<'s, G>>, StormError>
+    ensures len { IfOk result (λ started. vec_len started ≡ workers) }
+    ensures gates { IfOk result (λ started. (k : ℕ) (d : _) → k < vec_len started
+        → (get_or started.items k d).promise.gate.now ≡ gate.now) }
+    ensures numbers { IfOk result (λ started. (k : ℕ) (d : _) → k < vec_len started
+        → (get_or started.items k d).promise.worker ≡ k + 1) }
+    ensures refused { IfErr result (λ e. e ≢ storm_error.Taken) }
+{
+    let mut started = Vec::new(alloc);
+    for before in 0..workers {
+        let worker = before + 1;
+        let works = Works { gate, worker };
+        match scope.spawn_with(works, move || work(rt, window, gate, worker)) {
+            Ok(thread) => started.push(thread)?,
+            Err(_) => return Err(StormError::Thread),
+        }
+    }
+    Ok(started)
+}
+
+/// Waits until these workers have ended, in the order of their numbers.
+fn ended<'a, R: Threads, G: Gate>(
+    rt: &R,
+    gate: &G,
+    started: Vec<Worker<'a, G>>,
+) -> Result<(), StormError>
+    requires gates { (k : ℕ) (d : _) → k < vec_len started
+        → (get_or started.items k d).promise.gate.now ≡ gate.now }
+    requires numbers { (k : ℕ) (d : _) → k < vec_len started
+        → (get_or started.items k d).promise.worker ≡ k + 1 }
+    ensures passed { OnOk result (AllPassed (G.passed gate.now) (vec_len started.entry)) }
+    ensures refused { IfErr result (λ e. e ≢ storm_error.Taken) }
+{
+    for thread in started {
+        thread.join(rt)?;
     }
     Ok(())
 }
@@ -105,21 +183,21 @@ fn work_in_threads<R: Threads + Wait + Sync, G: Gate + Sync>(
     window: &Window,
     gate: &G,
     workers: usize,
-) -> Result<(), StormError> {
-    thread::scope(thread::scope_env(), rt, |scope| {
-        let mut started = Vec::new(alloc);
-        for before in 0..workers {
-            let worker = before + 1;
-            match scope.spawn(move || work(rt, window, gate, worker)) {
-                Ok(thread) => started.push(thread)?,
-                Err(_) => return Err(StormError::Thread),
-            }
-        }
-        for thread in started {
-            thread.join(rt)?;
-        }
-        Ok(())
-    })
+) -> Result<(), StormError>
+    ensures passed { OnOk result (AllPassed (G.passed gate.now) workers) }
+    ensures refused { IfErr result (λ e. e ≢ storm_error.Taken) }
+{
+    thread::scope(
+        thread::scope_env(),
+        rt,
+        |scope| -> Result<(), StormError>
+            ensures passed { OnOk result (AllPassed (G.passed gate.entry.now) workers) }
+            ensures refused { IfErr result (λ e. e ≢ storm_error.Taken) }
+        {
+            let started = started_in(scope, rt, alloc, window, gate, workers)?;
+            ended(rt, gate, started)
+        },
+    )
 }
 
 /// Makes a window of the vector [42], which so many workers, from 1 to 64, each in a thread of its
@@ -130,7 +208,7 @@ fn work_in_threads<R: Threads + Wait + Sync, G: Gate + Sync>(
 ///
 /// - `Owner` where a clone is refused, or memory for the vector, its window or the list of threads.
 /// - `Thread` where a thread is refused.
-/// - `Taken` where another window stands on the vector at the end.
+/// - `Taken` where another window stands on the vector at the end, when all workers have passed.
 ///
 /// # Allocates
 ///
@@ -144,6 +222,8 @@ pub fn storm<R: Threads + Wait + Sync, G: Gate + Sync>(
     requires some { 1 ≤ workers }
     requires most { workers ≤ 64 }
     ensures vector { IfOk result (λ bytes. bytes.items ≡ 42 ∷ []) }
+    ensures passed { OnOk result (AllPassed (G.passed gate.now) workers) }
+    ensures taken { IfErr result (λ e. e ≡ storm_error.Taken → AllPassed (G.passed gate.now) workers) }
 {
     let window = window_made(alloc)?;
     work_in_threads(rt, alloc, &window, gate, workers)?;

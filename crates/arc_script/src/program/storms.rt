@@ -77,7 +77,7 @@ pub fn run_storm<R: Threads + Wait + Sync + AllocGlobal, G: Gate + Sync, W: Sink
 ) -> u8
     requires some { 1 ≤ workers }
     requires most { workers ≤ 64 }
-    ensures ran { IsStorm (W.traffic writer.old) (W.traffic writer.new)
+    ensures ran { IsStorm (G.passed gate.now) workers (W.traffic writer.old) (W.traffic writer.new)
         (F.traffic faults.old) (F.traffic faults.new) result }
     ensures taken { Takes (W.traffic writer.old) (W.traffic writer.new)
         (W.contents writer.old) (W.contents writer.new) }

@@ -37,6 +37,8 @@ impl Meeting {
 }
 
 impl Gate for Meeting {
+    ghost passed = { λ _ worker. Unit {0} };
+
     fn pass(&self, worker: usize) {
         if worker == 2 {
             self.second.fetch_add(1, SeqCst);
