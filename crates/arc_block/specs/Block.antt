@@ -7,11 +7,11 @@ use Rattle.std.specs.Vec.{vec_capacity}
 
 -- how a block keeps its items
 pub data Sort : Type 0 where
-  -- items and count are of our own making
+  -- items and count are of the library's own making
   native : Sort
   -- a vector
   vector : Sort
-  -- a caller's buffer, which came in as writable or not
+  -- a caller's buffer, which was given to be written or not
   buffer : (writable : Bool) → Sort
   -- the language's `Arc` of a caller's buffer
   raw : Sort
@@ -63,8 +63,8 @@ native_facts drops size = memory_info native drops size size
 abbrev pub partly_full : {M : Type 0} → Bool → (size full : ℕ) → BlockInfo M
 partly_full drops size full = memory_info native drops size full
 
--- what is seen of a block through one of its owners: who that is, the items, and what is known of
--- the block
+-- what contracts see of a block through one of its owners: who that is, the items, and what is
+-- known of the block
 pub record BlockView (T M : Type 0) : Type 0 where
   pub owner : Owner
   pub items : List T

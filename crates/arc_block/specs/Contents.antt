@@ -40,7 +40,7 @@ module _ {T B M A : Type 0} (list : B → List T) (places : B → ℕ) where
       buffer_info held.writable (places held.buffer) (length (list held.buffer)) held.metadata
   content_info drops (Raw shared) = raw_info (length (list (arc_value shared)))
 
-  -- what is seen of a block through an owner
+  -- what contracts see of a block through an owner
   abbrev pub held_in : (drops : Bool) → Owner → Content T B M A → BlockView T M
   held_in drops owner content = record {
     owner = owner;

@@ -14,11 +14,10 @@ pub record LayoutFacts : Type 0 where
   pub has_any : Bool
   -- an `Arc` is a block by itself, and isn't counted once more
   pub by_itself : Bool
-  -- a vector of this length and capacity that stands alone
+  -- whether a vector of this length and capacity may be without a count (`is_lone`)
   pub lone : ℕ → ℕ → Bool
 
--- which vectors stand alone until their window is cloned, by length and capacity: none, all, or
--- those that are full
+-- what `is_lone` says of vectors by length and capacity: no, yes, or yes of those that are full
 abbrev pub never : ℕ → ℕ → Bool
 never length capacity = false
 
@@ -28,34 +27,34 @@ always length capacity = true
 abbrev pub where_full : ℕ → ℕ → Bool
 where_full length capacity = length == capacity
 
--- how the word of a block begins of which this is known, and which holds so many items, under a
--- layout with these lone vectors: with a count, whatever the block is
+-- how the word of a block begins of which this is known, and which holds so many items: with a
+-- count, whatever the block and the layout are
 abbrev pub begins_as : {M : Type 0} → (lone : ℕ → ℕ → Bool) → BlockInfo M → (length : ℕ)
     → Beginning
 begins_as lone info length = Counted
 
--- that of a vector of so many places, with these items
+-- how the word of a vector of so many places with these items begins
 abbrev pub vector_begins : {T : Type 0} → (lone : ℕ → ℕ → Bool) → (drops : Bool) → (places : ℕ)
     → List T → Beginning
 vector_begins lone drops places items =
     begins_as {M = Unit {0}} lone (memory_info vector drops places (length items)) (length items)
 
--- The sorts of blocks on which a clone may want memory: a vector that stood alone gets a count, and
--- an `Arc` that is a block by itself may refuse to be cloned.
+-- The sorts of blocks on which a clone may be refused for memory: a vector, under a layout whose
+-- `is_lone` may say yes, and an `Arc` that is a block by itself, which may refuse to be cloned.
 abbrev pub clones_want : (lone : Bool) → (raw_by_itself : Bool) → Sort → Bool
 clones_want lone raw_by_itself native = false
 clones_want lone raw_by_itself vector = lone
 clones_want lone raw_by_itself (buffer writable) = false
 clones_want lone raw_by_itself raw = raw_by_itself
 
--- where no vector stands alone and no `Arc` is a block by itself, no clone wants memory
+-- where `is_lone` says no and no `Arc` is a block by itself, no clone is refused for memory
 pub never_wanted : (sort : Sort) → false ≡ clones_want false false sort
 never_wanted native = refl
 never_wanted vector = refl
 never_wanted (buffer writable) = refl
 never_wanted raw = refl
 
--- a layout under which no `Arc` is a block by itself may hold what it will
+-- what holds of a layout under which an `Arc` is a block by itself, where none is
 pub never_by_itself : {any : Bool} → false ≡ true → any ≡ true
 never_by_itself same = absurd (false≢true same)
 

@@ -1,4 +1,4 @@
--- What a block's content ends as, where its buffer is lent to be changed.
+-- What a block's content is once a borrow of its buffer has ended.
 use Rattle.std.specs.Prelude.{◌≡◌}
 use Rattle.std.specs.Borrow.{Lends, Fml, RattleType, MutBor}
 use Rattle.std.specs.declared.alloc.Allocator as allocator

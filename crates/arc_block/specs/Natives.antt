@@ -14,9 +14,9 @@ use Rattle.arc_memory.specs.declared.writer_memory.WriterMemory.{WriterMemory}
 use Rattle.arc_buffer.specs.Slice.{sub}
 use Rattle.arc_block.specs.Block.{BlockInfo, native, full_places}
 
--- What is seen of a native block through one of its owners: who that is, the items that it reads,
--- the number of the place where the first of them lies, how many places the block has, and how many
--- of them are full, where that is counted.
+-- What contracts see of a native block through one of its owners: who that is, the items that it
+-- reads, the number of the place where the first of them lies, how many places the block has, and
+-- how many of them are full, where that is counted.
 pub record NativeView (T : Type 0) : Type 0 where
   pub owner : Owner
   pub items : List T
@@ -80,7 +80,7 @@ module _ {T A : Type 0} where
   IsLaidFor place head kept = (place ≡ (kept_in kept).piece.right.place)
       × (head ≡ (kept_in kept).piece.right.head)
 
--- what is seen of a block through an owner who reads these places
+-- what contracts see of a block through an owner who reads these places
 abbrev pub range_seen : {T : Type 0} → (drops : Bool) → Owner → FrozenPlaces T → NativeView T
 range_seen drops owner range =
     native_view drops owner range.items range.start range.memory.whole

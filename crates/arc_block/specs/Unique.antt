@@ -1,4 +1,4 @@
--- Whether nobody else has a part of a block, by its sort.
+-- Whether no other owner has a part of a block, by its sort.
 use Rattle.std.specs.Prelude.{◌≡◌, ◌+◌, Bool, true, false, Option, Some, None, List, length}
 use Rattle.arc_owners.specs.declared.count.tokens.Pass.{Pass}
 use Rattle.arc_owners.specs.count.Calls.{Owner, Asks}
@@ -9,7 +9,7 @@ use Rattle.arc_block.specs.Place.{offset_at}
 
 module _ {H : Type 0} where
   -- The count is asked. A caller's buffer is asked after it, and may say no though the owner is
-  -- alone; of an `Arc` nobody is asked, and the answer is no.
+  -- alone; of an `Arc` no count is asked, and the answer is no.
   abbrev pub AsksUnique : Sort → Owner → Pass H → Pass H → Bool → Type 0
   AsksUnique native o old new answer = Asks o old new answer
   AsksUnique vector o old new answer = Asks o old new answer

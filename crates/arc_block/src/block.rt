@@ -1,7 +1,7 @@
-//! Blocks of a caller's making: a vector, a buffer or an `Arc` of one, which stays where it is
-//! while a window stands on it.
+//! Blocks of a caller's making: a vector, a buffer or an `Arc` of one. It stays where it is while a
+//! window stands on it.
 ghost use Rattle.std.specs.Prelude.{◌≡◌, ◌≤◌, ◌↔◌, length, true, false, Bool, IsTrue};
-ghost use Rattle.std.specs.Prelude.{IfOk, IfErr, OnErr, IfSome, IfNone};
+ghost use Rattle.std.specs.Prelude.{IfOk, IfErr, OnErr, IfSome, IfNone, is_some};
 ghost use Rattle.std.specs.Vec.{vec_capacity};
 ghost use Rattle.arc_owners.specs.count.Calls.{IsFirst, IsPassFor, IsFreshPass, IsNewPass, Learns};
 ghost use Rattle.arc_owners.specs.count.Calls.{Asks, RefusesOwner, MakesAnother, Leaves};
@@ -45,7 +45,7 @@ use std::sync::Arc;
 /// How many owners a window's block may have at once: 9,223,372,036,854,775,807.
 pub const MAX_OWNERS: u64 = 9223372036854775807;
 
-/// `MAX_OWNERS`, told as a number.
+/// `MAX_OWNERS` as a number.
 pub fn max_owners() -> u64
     ensures { result ≡ 9223372036854775807 }
 {
@@ -53,12 +53,12 @@ pub fn max_owners() -> u64
 }
 
 /// An owner of a block of a caller's making, which at most `MAX` owners share: a vector, a caller's
-/// buffer, or an `Arc` of one. The block is given back with its last owner.
+/// buffer, or an `Arc` of one. The last owner gives the block back.
 ///
 /// `B` is the type of callers' buffers and `M` that of their metadata.
 ///
-/// Dropped, it ends with a new pass under the mark `Open`. Under `Whole` it is a forgotten owner:
-/// the block stays for good.
+/// One that is dropped ends with a new pass under the mark `Open`. Under `Whole` it is a forgotten
+/// owner: the block stays for good.
 pub struct Block<
     S: Slice,
     B: Buffer<S::Item> + Drop,
@@ -69,7 +69,7 @@ pub struct Block<
 > {
     base: Base<S::Item>,
     piece: CountedBox<Content<S::Item, B, M, A>, A, MAX, H>,
-    // That the items lie at the base for as long as an owner lives, so that no read asks the block.
+    // That the items lie at the base for as long as an owner lives: so no read asks the block.
     shown: Shown<S::Item, Content<S::Item, B, M, A>>,
 }
 
@@ -117,16 +117,16 @@ impl<
     }
 }
 
-/// The items of a vector in one that has exactly a place for each: the same one where it has no
-/// more.
+/// The items of a vector in one that has exactly a place for each: the same vector, where it has no
+/// spare places.
 ///
 /// # Errors
 ///
-/// The vector, which then has items, where memory for the other one is refused.
+/// The vector comes back where memory for the other one is refused. It has items then.
 ///
 /// # Allocates
 ///
-/// Only where there are more places than items.
+/// Once, where there are more places than items.
 pub fn exact<T: Drop, A: Allocator + Copy>(
     alloc: A,
     items: Vec<T, A>,
@@ -173,7 +173,15 @@ impl<
     /// The first owner of a new block of a vector's memory, with its items and its places, and a
     /// pass of the block. No item is copied.
     ///
-    /// Takes memory for the count; refused, the vector comes back. `MAX` is at least 2.
+    /// `MAX` is at least 2.
+    ///
+    /// # Errors
+    ///
+    /// The vector comes back where memory for the count is refused.
+    ///
+    /// # Allocates
+    ///
+    /// Once.
     pub fn try_from_vec(
         alloc: A,
         items: Vec<S::Item, A>,
@@ -194,7 +202,15 @@ impl<
     /// The first owner of a new block of a caller's buffer, with metadata or without, and a pass of
     /// the block. No item is copied.
     ///
-    /// Takes memory for the count and the buffer; refused, both come back. `MAX` is at least 2.
+    /// `MAX` is at least 2.
+    ///
+    /// # Errors
+    ///
+    /// Buffer and metadata come back where memory for the count and the buffer is refused.
+    ///
+    /// # Allocates
+    ///
+    /// Once.
     pub fn try_from_buffer(
         alloc: A,
         buffer: B,
@@ -223,7 +239,15 @@ impl<
     /// The first owner of a new block of an `Arc` of a caller's buffer, and a pass of the block. No
     /// item is copied.
     ///
-    /// Takes memory for the count; refused, the `Arc` comes back. `MAX` is at least 2.
+    /// `MAX` is at least 2.
+    ///
+    /// # Errors
+    ///
+    /// The `Arc` comes back where memory for the count is refused.
+    ///
+    /// # Allocates
+    ///
+    /// Once.
     pub fn try_from_raw(alloc: A, shared: Arc<B, A>) -> Result<(Self, Pass<H>), Arc<B, A>>
         requires { 2 ≤ MAX }
         ensures made { IfOk result (λ r. (r.0 ≡ raw_block (B.list (arc_value shared)) r.0.owner)
@@ -237,18 +261,17 @@ impl<
         }
     }
 
-    /// One attempt to make one owner more of the same block, through this one: nothing where
-    /// another thread's step came between, and then no entry is added. Who calls it tries again.
-    ///
-    /// Takes no memory and copies no item.
+    /// One attempt to make one owner more of the same block, through this one. It answers `None`,
+    /// and adds no entry, where another thread's step came between; the caller tries again. It
+    /// takes no memory and copies no item.
     ///
     /// # Errors
     ///
-    /// `CountFull` exactly where `MAX` owners live, and no other.
+    /// `CountFull` exactly where `MAX` owners live, and no other error.
     ///
     /// # History
     ///
-    /// Up, or Full where refused.
+    /// Up, or Full where it is refused.
     #[inline(always)]
     pub fn try_share_once_as(
         &self,
@@ -290,7 +313,7 @@ impl<
         self.piece.range(self.base.at, &self.shown, start, end)
     }
 
-    /// Where an owner of the block goes that is to be a window under the layout `L`.
+    /// Where an owner of the block goes that becomes a window under the layout `L`.
     pub fn move_to<L: Layout>(&self) -> Move
         ensures { result ≡ counted_move (layout_facts L.Layout) self.now.facts.sort }
     {
@@ -301,7 +324,7 @@ impl<
         }
     }
 
-    /// A clone of the `Arc` that the block keeps. Takes no memory and adds no entry.
+    /// A clone of the `Arc` that the block keeps. It adds no entry and takes no memory.
     ///
     /// # Errors
     ///
@@ -332,8 +355,8 @@ impl<
         }
     }
 
-    /// Whether its only owner may write the block under a layout that holds it: where blocks may be
-    /// of a caller's making, a vector, or a buffer that came in as writable.
+    /// Whether the only owner may write the block, under a layout that holds blocks of a caller's
+    /// making if `has_any`: a vector may be written, and a buffer that was given to be written.
     pub fn may_write(&self, has_any: bool) -> bool
         ensures { IsTrue result ↔ MayWrite has_any self.now.facts.sort }
     {
@@ -344,7 +367,7 @@ impl<
         }
     }
 
-    /// Whether the block is a vector; else it is a caller's buffer, where it may be written.
+    /// Whether the block is a vector. One that may be written and isn't is a caller's buffer.
     pub fn is_vector(&self) -> bool
         ensures answer { IsTrue result ↔ (self.now.facts.sort ≡ vector) }
         ensures other { result ≡ false → IsWritable self.now.facts.sort
@@ -401,7 +424,7 @@ impl<
         }
     }
 
-    /// The metadata with which the block was made.
+    /// The metadata that the block was made with, or `None`.
     pub fn metadata(&self) -> Option<&M>
         ensures some { IfSome result (λ m. self.now.facts.metadata ≡ Some m.now) }
         ensures none { IfNone result (self.now.facts.metadata ≡ None) }
@@ -412,7 +435,7 @@ impl<
         }
     }
 
-    /// How many owners the block may have at once, and under which mark it is.
+    /// How many owners the block may have at once. The contract says too under which mark it is.
     pub fn max_owners(&self) -> u64
         ensures answer { result ≡ MAX }
         ensures block { IsLimited MAX H.whole self.now.owner }
@@ -421,7 +444,11 @@ impl<
         MAX
     }
 
-    /// Whether no other owner lives, by one load. Adds Alone with the answer. Takes no memory.
+    /// Whether no other owner lives, by one load. It takes no memory.
+    ///
+    /// # History
+    ///
+    /// Alone with the answer.
     #[inline(always)]
     pub fn is_unique_as(&self, pass: &mut Pass<H>) -> bool
         requires pass { IsPassFor self.now.owner pass.old }
@@ -430,12 +457,12 @@ impl<
         self.piece.is_unique_as(pass)
     }
 
-    /// Whether nobody else has a part of the block: of a caller's buffer the count is asked, and
-    /// then the buffer; of an `Arc` nobody is, and the answer is no.
+    /// Whether no other owner has a part of the block. The count is read, and of a caller's buffer
+    /// the buffer is asked too. Of an `Arc` no count is read, and the answer is no.
     ///
     /// # History
     ///
-    /// But for an `Arc` Alone, with what the count says.
+    /// On a block that is no `Arc`: Alone with what the count says.
     #[inline(always)]
     pub fn is_unique_by_sort_as(&self, pass: &mut Pass<H>) -> bool
         requires pass { IsPassFor self.now.owner pass.old }
@@ -453,8 +480,15 @@ impl<
         }
     }
 
-    /// What the block keeps, taken out of it, where no other owner lives: adds Alone, then the Down
-    /// of this one. Else it is handed back, and Alone was added with no. Takes no memory.
+    /// What the block keeps, where no other owner lives. It takes no memory.
+    ///
+    /// # Errors
+    ///
+    /// The owner comes back where another one lives.
+    ///
+    /// # History
+    ///
+    /// Taken: Alone with yes, then Down. Refused: Alone with no.
     pub fn try_into_content_as(self, pass: &mut Pass<H>) -> Result<Content<S::Item, B, M, A>, Self>
         requires pass { IsPassFor self.owner pass.old }
         ensures content { IfOk result (λ content.
@@ -470,8 +504,35 @@ impl<
         }
     }
 
-    /// Ends this owner by one subtraction, and answers whether it was the last one: then the block
-    /// is given back. Adds its Down. Takes no memory.
+    /// Ends this owner by one subtraction from the count. The last one gets what the block keeps.
+    /// It takes no memory.
+    ///
+    /// # History
+    ///
+    /// Down.
+    pub fn into_content_if_last_as(self, pass: &mut Pass<H>) -> Option<Content<S::Item, B, M, A>>
+        requires pass { IsPassFor self.owner pass.old }
+        ensures entry { Leaves self.owner pass.old pass.new (is_some result) }
+        ensures content { IfSome result (λ content.
+            held_in B.list B.places S.DROPS self.owner content ≡ self) }
+    {
+        let Block {
+            piece,
+            base: _,
+            shown: _,
+        } = self;
+        match piece.release_as(pass) {
+            Some(content) => Some(content),
+            None => None,
+        }
+    }
+
+    /// Ends this owner by one subtraction from the count, and answers whether it is the last one:
+    /// then the block is given back. It takes no memory.
+    ///
+    /// # History
+    ///
+    /// Down.
     #[inline(always)]
     pub fn release_as(self, pass: &mut Pass<H>) -> bool
         requires pass { IsPassFor self.owner pass.old }
@@ -491,9 +552,9 @@ impl<
         }
     }
 
-    /// What a drop does: under `Open` this owner ends with a new pass, and the last one gives the
-    /// block back; under `Whole` it is forgotten, without a step. Takes no memory. The pass is the
-    /// one that the owner ended with; under `Whole` it is of no block.
+    /// What a drop does. Under `Open` this owner ends with a new pass, which is the answer, and the
+    /// last one gives the block back. Under `Whole` it is a forgotten owner: no step is made, and
+    /// the answer is a pass of no block. It takes no memory.
     #[inline(always)]
     pub fn let_go(self) -> Pass<H>
         ensures forgotten { H.whole ≡ true → IsPassOfNone result }
@@ -509,7 +570,7 @@ impl<
         pass
     }
 
-    /// Afterwards the first pass has seen at least what the other had. It adds no entry and takes
+    /// From here on the first pass has seen at least what the other had. It adds no entry and takes
     /// no memory.
     pub fn learn(&self, pass: &mut Pass<H>, other: &Pass<H>)
         requires pass { IsPassFor self.now.owner pass.old }
@@ -528,7 +589,7 @@ impl<
     const MAX: u64,
     H: Mark,
 > Block<S, B, M, A, MAX, H> {
-    /// The same owner, of items of another kind. Takes no memory and adds nothing.
+    /// The same owner, of items of another kind. It adds no entry and takes no memory.
     pub fn into_kind<K: Slice<Item = S::Item>>(self) -> Block<K, B, M, A, MAX, H>
         requires { K.DROPS ≡ S.DROPS }
         ensures { result ≡ self }
@@ -546,8 +607,8 @@ impl<
     const MAX: u64,
     H: Stepping,
 > Block<S, B, M, A, MAX, H> {
-    /// A new pass, which has seen at least the entry that made this owner, and made nothing. It
-    /// adds no entry and takes no memory.
+    /// A new pass of the block. It has seen at least the entry that made this owner, and nothing
+    /// was made with it. It adds no entry and takes no memory.
     pub fn pass(&self) -> Pass<H>
         ensures { IsNewPass self.now.owner result }
     {

@@ -1,29 +1,28 @@
-//! Layouts: on what windows may stand, and how that is held.
+//! Layouts: on what a window may stand.
 //!
-//! | Layout | Vectors and buffers | An `Arc` of the caller's | Nothing, static data | Lone vector |
+//! | Layout | Vectors and buffers | An `Arc` of the caller's | Nothing, static data | `is_lone` |
 //! |---|---|---|---|---|
-//! | `ArcLayout<ANY, STATIC>` | if `ANY` | counted, if `ANY` | if `STATIC` | no |
-//! | `BoxedSliceLayout` | yes | counted | yes | where its length is its capacity |
-//! | `VecLayout` | yes | counted | yes | yes |
-//! | `RawLayout` | yes | a block by itself | yes | no |
+//! | `ArcLayout<ANY, STATIC>` | if `ANY` | counted, if `ANY` | if `STATIC` | never |
+//! | `BoxedSliceLayout` | yes | counted | yes | where the length is the capacity |
+//! | `VecLayout` | yes | counted | yes | always |
+//! | `RawLayout` | yes | a block by itself | yes | never |
 //!
-//! All hold native blocks. A lone vector is one that is to be counted when its window is cloned
-//! first. So far each vector is counted when its window is made, under every layout: what the
-//! layouts say of lone ones here, and that a clone may then want memory, is for those to come.
+//! All hold native blocks. Under every layout a vector is counted when its window is made, whatever
+//! `is_lone` says. Contracts alone use it: where it may hold, they let a clone of a window over a
+//! vector want memory (`clone_wants`), which no clone does.
 ghost use Rattle.std.specs.Prelude.{◌≡◌, ◌==◌, ◌&&◌, ℕ, Bool, true, false, refl};
 ghost use Rattle.arc_block.specs.Block.{Sort};
 ghost use Rattle.arc_block.specs.Layouts.{clones_want, never_wanted, never, always, where_full};
 ghost use Rattle.arc_block.specs.Layouts.{never_by_itself};
 
 mod sealed {
-    /// What no other crate can give a type.
+    /// A trait that no other crate can implement.
     pub trait Sealed {}
 }
 
-/// A layout of windows: on what they may stand, and how that is held. The layouts are those of this
-/// module.
+/// A layout of windows: on what they may stand. This module has all layouts.
 pub trait Layout: sealed::Sealed {
-    /// The layout of the writable windows that go with these: one with `LayoutMut`.
+    /// The layout of the windows that become writable: one with `LayoutMut`.
     type Writable;
 
     /// Whether windows may stand on nothing, or on static data.
@@ -35,14 +34,14 @@ pub trait Layout: sealed::Sealed {
     /// Whether an `Arc` of the caller's is a block by itself, and isn't counted once more.
     ghost RAW: { Bool };
 
-    /// Whether a vector of this length and capacity is to stand alone until its window is cloned.
+    /// What `is_lone` answers.
     ghost lone: { ℕ → ℕ → Bool };
 
-    /// Whether a clone of a window that stands on a block of this sort may want memory.
+    /// Whether contracts let a clone of a window on a block of this sort be refused for memory.
     ghost clone_wants: { Sort → Bool };
 
-    /// A clone may want memory where a vector is to stand alone, as one of no places is if any
-    /// is, and where an `Arc` is a block by itself; and nowhere else.
+    /// That is so on a vector, where `is_lone` says yes of one without places, and on an `Arc` that
+    /// is a block by itself. On other blocks it isn't.
     ghost wants: { (sort : Sort)
         → Self.clone_wants sort ≡ clones_want (Self.lone 0 0) Self.RAW sort };
 
@@ -58,8 +57,9 @@ pub trait Layout: sealed::Sealed {
     /// Whether an `Arc` of the caller's is a block by itself, and isn't counted once more.
     const RAW: bool;
 
-    /// Whether a vector of this length and capacity is to stand alone until its window is cloned.
-    /// So far none does: each is counted when its window is made.
+    /// Whether the layout is one that may keep a vector of this length and capacity without a count
+    /// until its window is cloned. No code asks this: each vector is counted when its window is
+    /// made.
     fn is_lone(len: usize, capacity: usize) -> bool
         ensures { result ≡ lone len capacity };
 }
@@ -77,24 +77,25 @@ pub trait StaticLayout: Layout {
     ghost has_static: { Self.STATIC ≡ true };
 }
 
-/// Layouts under which no clone wants memory.
+/// Layouts under which contracts let no clone be refused for memory.
 pub trait CloneNoAllocLayout: Layout {
     ghost clones_without_memory: { (sort : Sort) → Self.clone_wants sort ≡ false };
 }
 
-/// Layouts under which `truncate` wants no memory: all.
+/// Layouts under which `truncate` takes no memory: all.
 pub trait TruncateNoAllocLayout: Layout {}
 
 impl<L: Layout> TruncateNoAllocLayout for L {}
 
-/// Layouts to which windows of another one may go: all. Where the new one doesn't hold what the
-/// window stands on, it is handed back.
+/// Layouts to which windows of another one may go: all. A window whose block the new layout doesn't
+/// hold is handed back.
 pub trait FromLayout<L: Layout>: Layout {}
 
 impl<L: Layout, M: Layout> FromLayout<L> for M {}
 
-/// The default layout: a window stands on a counted block. `ANY` says whether that may be a vector
-/// or a buffer of the caller's, `STATIC` whether windows may stand on nothing, or on static data.
+/// The default layout: a window stands on a block that counts its owners. `ANY` says whether that
+/// may be a vector or a caller's buffer, `STATIC` whether windows may stand on nothing, or on
+/// static data.
 #[derive(Clone, Copy, Debug, PartialEq, Eq)]
 pub struct ArcLayout<const ANY: bool, const STATIC: bool>;
 
@@ -143,8 +144,8 @@ impl<const ANY: bool, const STATIC: bool> CloneNoAllocLayout for ArcLayout<ANY, 
     ghost clones_without_memory = { λ _. refl };
 }
 
-/// A vector whose length is its capacity, as a boxed slice's is, is to stand alone until its window
-/// is cloned. So far it is counted when its window is made.
+/// As `ArcLayout<true, true>`. Its `is_lone` says yes of a vector whose length is its capacity, as
+/// a boxed slice's is.
 #[derive(Clone, Copy, Debug, PartialEq, Eq)]
 pub struct BoxedSliceLayout;
 
@@ -186,8 +187,7 @@ impl StaticLayout for BoxedSliceLayout {
     ghost has_static = { refl };
 }
 
-/// A vector is to stand alone until its window is cloned. So far it is counted when its window is
-/// made.
+/// As `ArcLayout<true, true>`. Its `is_lone` says yes of every vector.
 #[derive(Clone, Copy, Debug, PartialEq, Eq)]
 pub struct VecLayout;
 
@@ -232,7 +232,7 @@ impl StaticLayout for VecLayout {
     ghost has_static = { refl };
 }
 
-/// An `Arc` of the caller's is a block by itself.
+/// As `ArcLayout<true, true>`, but an `Arc` of the caller's is a block by itself.
 #[derive(Clone, Copy, Debug, PartialEq, Eq)]
 pub struct RawLayout;
 
@@ -281,7 +281,7 @@ pub type DefaultLayout = ArcLayout<true, true>;
 /// The layout of writable windows that name none.
 pub type DefaultLayoutMut = ArcLayout<true, true>;
 
-/// Where a window goes that is to be one of another layout.
+/// Where a window goes that changes its layout.
 #[derive(Clone, Copy, Debug, PartialEq, Eq, Drop)]
 pub enum Move {
     /// It stays where it is.

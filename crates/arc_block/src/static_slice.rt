@@ -1,4 +1,4 @@
-//! Slices that are there for good, without a lifetime in their type.
+//! `'static` slices, without a lifetime in their type.
 ghost use Rattle.std.specs.Prelude.{◌≡◌, ◌≤◌, ◌==◌, List, [], length, take};
 ghost use denote.RawPtr.{Ptr};
 ghost use Rattle.arc_buffer.specs.Slice.{sub};
@@ -9,7 +9,7 @@ use std::marker::{Model, PhantomData};
 use std::slice;
 
 /// That items lie side by side at a place for good, for all to read. It has no bytes, and can be
-/// had again. Contracts see the place and the items.
+/// had more than once. Contracts see the place and the items.
 #[derive(Drop)]
 pub struct StaticShare<T> {
     mark: PhantomData<*const T>,
@@ -45,7 +45,7 @@ impl<T: 'static> StaticShare<T> {
         unsafe { slice::from_raw_parts(base, end) }
     }
 
-    /// The items from `start` to before `end`, for good. `base` is where all begin. Reads no
+    /// The items from `start` to before `end`, for good. `base` is where all begin. It reads no
     /// memory.
     #[inline(always)]
     pub fn as_static(&self, base: *const T, start: usize, end: usize) -> &'static [T]
@@ -67,7 +67,7 @@ impl<T> StaticShare<T> {
         (none.as_ptr(), StaticShare { mark: PhantomData })
     }
 
-    /// The same again.
+    /// A copy of it, for the same items or value.
     #[inline(always)]
     pub fn again(&self) -> StaticShare<T>
         ensures { result ≡ self.now }
@@ -84,7 +84,7 @@ impl<T> StaticShare<T> {
         unsafe { slice::from_raw_parts(base, end) }
     }
 
-    /// The items from `start` to before `end`. `base` is where all begin. Reads no memory.
+    /// The items from `start` to before `end`. `base` is where all begin. It reads no memory.
     #[inline(always)]
     pub fn as_slice(&self, base: *const T, start: usize, end: usize) -> &[T]
         requires place { base ≡ self.now.ptr }
@@ -97,8 +97,8 @@ impl<T> StaticShare<T> {
 
 /// Items that lie side by side for good, with the place where they begin. Contracts see the items.
 ///
-/// It is one word, for who keeps a range himself, as `Parts` do: a read is one sum and one
-/// difference, and reads no memory. Windows have none: it is made and read by parts alone.
+/// It is one word, for a value that keeps a range itself, as `Parts` do. A read of a range is one
+/// sum and one difference, and reads no memory. Only parts make and read one.
 #[derive(Drop)]
 pub struct StaticItems<T> {
     base: Base<T>,
@@ -135,7 +135,7 @@ impl<T> StaticItems<T> {
         self.share.as_slice(self.base.at, start, end)
     }
 
-    /// The same again.
+    /// A copy of it, for the same items or value.
     #[inline(always)]
     pub fn again(&self) -> Self
         ensures { result ≡ self.now }
@@ -147,8 +147,8 @@ impl<T> StaticItems<T> {
     }
 }
 
-/// A slice that is there for good, without a lifetime in its type: it may lie in a vector or an
-/// enum, and go to generic functions and other threads. Contracts see its items.
+/// A `'static` slice, without a lifetime in its type. It may lie in a vector or an enum, and go to
+/// generic functions and other threads. Contracts see its items.
 ///
 /// It is three words, a place and a range, whatever its items are. No call takes memory or copies
 /// an item, and a drop does nothing.
@@ -182,7 +182,7 @@ impl<T: 'static> StaticSlice<T> {
         }
     }
 
-    /// The items, for good: also after this value is gone.
+    /// The items as a `'static` slice, which lives on when this value is gone.
     #[inline(always)]
     pub fn as_static(&self) -> &'static [T]
         ensures { result.now ≡ self.now }
@@ -191,7 +191,7 @@ impl<T: 'static> StaticSlice<T> {
         share.as_static(base.at, self.start, self.end)
     }
 
-    /// The items, for good.
+    /// The items as a `'static` slice.
     #[inline(always)]
     pub fn into_static(self) -> &'static [T]
         ensures { result.now ≡ self }
@@ -248,7 +248,7 @@ impl<T> StaticSlice<T> {
         self.len() == 0
     }
 
-    /// The items from `start` to before `end`. Reads no memory.
+    /// The items from `start` to before `end`. It reads no memory.
     #[inline(always)]
     pub fn range(&self, start: usize, end: usize) -> &[T]
         requires { (start ≤ end) × (end ≤ length self.now) }
@@ -278,7 +278,7 @@ impl<T> StaticSlice<T> {
         }
     }
 
-    /// The same again.
+    /// A copy of it, for the same items or value.
     #[inline(always)]
     pub fn again(&self) -> Self
         ensures { result ≡ self.now }

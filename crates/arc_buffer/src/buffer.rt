@@ -1,4 +1,4 @@
-//! Callers' buffers: a list, and a list with room.
+//! Callers' buffers: lists that are read, and lists with places that are written.
 ghost use Rattle.std.specs.Prelude.{◌≡◌, ◌≤◌, ◌<◌, ◌+◌, ◌++◌, ◌∷◌, ℕ, Bool, List, [], length};
 ghost use Rattle.std.specs.Prelude.{IfErr, OnOk, OnErr};
 ghost use Rattle.arc_owners.specs.declared.error.TryReserveError.{TryReserveError};
@@ -24,7 +24,7 @@ mod slice;
 mod string;
 mod vec;
 
-/// A caller's buffer of items: its list stays the same while nobody writes.
+/// A caller's buffer of items. Its list stays the same while nobody writes.
 pub trait Buffer<T> {
     /// Its items.
     ghost list: { Self → List T };
@@ -37,10 +37,10 @@ pub trait Buffer<T> {
         ensures value { result.now ≡ list self.now }
         ensures bound { length (list self.now) ≤ places self.now };
 
-    /// What it may answer where it is asked whether nobody else has a part of it.
+    /// What `is_unique` may answer.
     ghost says_unique: { Self → Bool → Type 0 };
 
-    /// Whether nobody else has a part of it, as the buffer says.
+    /// Whether no other owner has a part of the buffer, as the buffer says.
     fn is_unique(&self) -> bool
         ensures { says_unique self.now result };
 }
@@ -59,8 +59,9 @@ pub trait BufferMut<T>: Buffer<T> {
     /// The same buffer with other items from a place on.
     ghost with_part: { Self → ℕ → List T → Self };
 
-    /// The items from `start` to before `end`, to be changed in their places. What is written in a
-    /// part of a lent slice can't be handed on with that, so a buffer lends its parts itself.
+    /// The items from `start` to before `end`, to be changed in their places. A buffer lends its
+    /// parts itself, since what is written in a part of a lent slice can't be handed on with the
+    /// slice.
     fn as_mut_part(&mut self, start: usize, end: usize) -> &mut [T]
         requires range { (start ≤ end) × (end ≤ length (Self.list self.old)) }
         ensures* writes_back { sem 𝓛 (Lends Self.row (Array T.row 0) self.entry result
@@ -72,22 +73,22 @@ pub trait BufferMut<T>: Buffer<T> {
         ensures value { result ≡ Self.places self.now }
         ensures bound { length (Self.list self.now) ≤ result };
 
-    /// Why it may refuse to make room for so many items more.
+    /// With which errors it may refuse to make room for so many items more.
     ghost refuses: { Self → ℕ → TryReserveError → Type 0 };
 
-    /// How many places it may have once it has made room for so many items more.
+    /// How many places it may have after it made room for so many items more.
     ghost grows: { Self → (additional places : ℕ) → Type 0 };
 
-    /// Makes room for so many items more than there are. The list stays.
+    /// Makes room for `additional` items more than there are. The list stays the same.
     ///
     /// # Errors
     ///
-    /// `AllocError`, `Unsupported` or `CapacityOverflow`, as the buffer says. It has as many places
-    /// then as before.
+    /// `AllocError`, `Unsupported` or `CapacityOverflow`, as the buffer says. It then has as many
+    /// places as before.
     ///
     /// # Allocates
     ///
-    /// Where it has no room, as the buffer does.
+    /// Where it has too few places, as the buffer does.
     fn try_reserve(&mut self, additional: usize) -> Result<(), TryReserveError>
         ensures list { Self.list self.new ≡ Self.list self.old }
         ensures ok { OnOk result (length (Self.list self.old) + additional ≤ Self.places self.new) }
@@ -95,7 +96,7 @@ pub trait BufferMut<T>: Buffer<T> {
         ensures refused { IfErr result (λ e. refuses self.old additional e) }
         ensures back { OnErr result (Self.places self.new ≡ Self.places self.old) };
 
-    /// Appends an item where there is a place for it, which takes no memory.
+    /// Appends an item, where there is a place for it. It takes no memory.
     ///
     /// # Errors
     ///
@@ -107,16 +108,17 @@ pub trait BufferMut<T>: Buffer<T> {
             × (back ≡ item) × (Self.list self.new ≡ Self.list self.old)) }
         ensures places { Self.places self.new ≡ Self.places self.old };
 
-    /// Written in its places, a buffer has the list that was written, and as many places.
+    /// A buffer whose items are written has the list that is written, and as many places as before.
     ghost keeps: { (b : Self) (xs : List T) → length xs ≡ length (Self.list b)
         → (Self.list (with_list b xs) ≡ xs) × (Self.places (with_list b xs) ≡ Self.places b) };
 
-    /// Written from one of its places on, it has the list that was written, as far as that goes.
+    /// A buffer whose items are written from a place on has the list that is written there, as far
+    /// as its items go.
     ghost keeps_part: { (b : Self) (start : ℕ) (xs : List T)
         → (Self.list (with_part b start xs) ≡ written_from (Self.list b) start xs)
         × (Self.places (with_part b start xs) ≡ Self.places b) };
 
-    /// A buffer has no other owners that it could name.
+    /// A buffer never refuses with `NotUnique`, since it has no other owners.
     ghost names_no_owner: { (b : Self) (additional : ℕ)
         → refuses b additional reserve.NotUnique → ⊥ };
 }

@@ -24,7 +24,7 @@ mod vec_in;
 mod wraps;
 mod zero_item;
 
-/// A kind of slice: the type of the items, and which lists of them a window of the kind may have.
+/// A kind of slice: the type of a window's items, and which lists of them are legal.
 pub trait Slice {
     /// The items.
     type Item: Drop;
@@ -45,13 +45,17 @@ pub trait Slice {
     /// Why a list isn't legal.
     ghost is_refused: { List Self.Item → Self.TryFromSliceError → Type 0 };
 
-    /// Ok exactly where the list is legal. Takes no memory.
+    /// Whether the list is legal. It takes no memory.
+    ///
+    /// # Errors
+    ///
+    /// Why it isn't, exactly where it isn't.
     fn try_from_slice(items: &[Self::Item]) -> Result<(), Self::TryFromSliceError>
         ensures ok { IsOk result ↔ is_legal items.now }
         ensures refused { IfErr result (λ e. is_refused items.now e) };
 
-    /// How many places the first block of a window has that grows from nothing: 8 where an item is
-    /// one byte, else 4.
+    /// How many places a window's first block has at least, where the window grows from nothing: 8
+    /// where an item is one byte, else 4.
     fn first() -> usize
         ensures { result ≡ (if type_size Self.Item.row == 1 then 8 else 4) }
     {
@@ -109,7 +113,7 @@ pub trait Extendable: Concatenable {
 
 /// Kinds with a zero: text, byte text, and whole numbers.
 pub trait Zeroable: Slice {
-    /// The item that a list of zeros has.
+    /// The item of a list of zeros.
     ghost zero_item: { Self.Item };
 
     /// Zero.
@@ -126,12 +130,12 @@ pub trait AnyItems: Slice {
     ghost all_are_legal: { (xs : List Self.Item) → Self.is_legal xs };
 }
 
-/// The Copy kinds, `Plain` and `ByteText`: a window may be made of a copy of any slice of the
-/// items.
+/// The kinds `Plain` and `ByteText`, whose items are copied: a window may be made of a copy of any
+/// slice of items.
 pub trait CopySlice: AnyItems {}
 
-/// The kinds that several writers may write on one block: all but `Owned`, whose full places are
-/// counted by one writer.
+/// The kinds of which several writers may write one block: all but `Owned`, whose full places one
+/// writer counts.
 pub trait Shareable: Slice {
     /// Items don't have to be dropped one by one.
     ghost drops_none: { Self.DROPS ≡ false };

@@ -5,9 +5,9 @@ ghost use Rattle.arc_buffer.specs.Printed.{debug_byte, debug_bytes, hex_byte, he
 
 use std::{fmt, str};
 
-/// Writes the bytes as a byte string, `b"..."`: a tab, a line feed, a carriage return, both quotes
-/// and the backslash by their escapes, other printable ASCII as it is, and any other byte as `\x`
-/// and two lower case hexadecimal digits.
+/// Writes the bytes as a byte string, `b"..."`. A tab, a line feed, a carriage return, both quotes
+/// and the backslash are written by their escapes. Other printable ASCII is written as it is. Any
+/// other byte is `\x` and two lower case hexadecimal digits.
 ///
 /// # Errors
 ///

@@ -1,5 +1,5 @@
-//! What std and the kit's crates can do with windows: compare, hash, print, lend, read and write,
-//! each with windows of every sort.
+//! What std and the kit's crates do with windows of every sort: they compare, hash, print, lend,
+//! read and write.
 use arc_slice::inlined::{SmallArcBytes, SmallArcStr, SmallBytes, SmallStr};
 use arc_slice::{
     ArcByteText, ArcBytes, ArcBytesMut, ArcBytesShared, ArcStr, ArcStrMut, ArcStrShared,
@@ -28,7 +28,7 @@ pub fn equal(
     ]
 }
 
-/// How two windows of each sort stand to each other.
+/// How two windows of each sort compare.
 pub fn ordered(
     readers: (&ArcBytes, &ArcBytes),
     writers: (&ArcBytesMut, &ArcBytesMut),
@@ -44,7 +44,7 @@ pub fn ordered(
     )
 }
 
-/// What windows of each sort are to a hasher.
+/// The hashes of windows of each sort.
 pub fn hashed(
     state: &mut DefaultHasher,
     reader: &ArcBytes,
@@ -58,7 +58,7 @@ pub fn hashed(
     short.hash(state);
 }
 
-/// Whether windows of each sort have just these bytes.
+/// Whether windows of each sort have exactly these bytes.
 pub fn have_bytes(
     reader: &ArcBytes,
     writer: &ArcBytesMut,
@@ -76,7 +76,7 @@ pub fn have_bytes(
     ]
 }
 
-/// Whether windows of each sort have just this text.
+/// Whether windows of each sort have exactly this text.
 pub fn have_text(
     reader: &ArcStr,
     writer: &ArcStrMut,
@@ -112,7 +112,7 @@ pub fn printed<W: fmt::Write>(
     ]
 }
 
-/// Shows texts of each sort as `{}` does, and byte text.
+/// Shows texts and byte text of each sort as `{}` does.
 pub fn shown<W: fmt::Write>(
     f: &mut fmt::Formatter<W>,
     reader: &ArcStr,
@@ -130,7 +130,7 @@ pub fn shown<W: fmt::Write>(
     ]
 }
 
-/// Reads from windows of each sort into these places, which then have what the last one had.
+/// Reads from windows of each sort into one buffer, which then has what the last one had.
 pub fn read(
     reader: &mut ArcBytes,
     writer: &mut ArcBytesMut,
@@ -154,7 +154,7 @@ pub fn first<R: Buf>(window: &mut R) -> Option<u8> {
     Some(window.get_u8())
 }
 
-/// So windows of each sort.
+/// The first byte that is left of windows of each sort.
 pub fn firsts(
     reader: &mut ArcBytes,
     writer: &mut ArcBytesMut,
@@ -171,8 +171,8 @@ pub fn firsts(
     ]
 }
 
-/// Writes behind what a writer has: as many bytes as there are places for, then a byte and these
-/// again, if there are places for them, then a text, for which room is made.
+/// Appends to a writer: as many of the bytes as there are places for; then a byte and the bytes
+/// again, if there are places for them; then a text, for which room is made.
 pub fn written(writer: &mut ArcBytesMut, bytes: &[u8], text: &str) -> ([bool; 4], usize) {
     let done = [
         writer.write(bytes).is_ok(),
@@ -183,7 +183,8 @@ pub fn written(writer: &mut ArcBytesMut, bytes: &[u8], text: &str) -> ([bool; 4]
     (done, writer.remaining_mut())
 }
 
-/// So one of several, who has room in his own places alone while the others live.
+/// The same with one of several writers, who has room in his own places only, while the others
+/// live.
 pub fn written_by_one(
     several: &mut ArcBytesShared,
     bytes: &[u8],
@@ -198,7 +199,7 @@ pub fn written_by_one(
     (done, several.remaining_mut())
 }
 
-/// The sum of a reader's bytes, by a loop over what it lends.
+/// The sum of a reader's bytes, by a loop over them.
 pub fn summed(reader: &ArcBytes) -> u64 {
     let mut sum = 0u64;
     for byte in reader {

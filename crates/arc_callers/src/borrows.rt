@@ -35,7 +35,7 @@ pub fn part_of_part<'a>(
     }
 }
 
-/// A window over the part, which lives on without the one that lent it.
+/// A window over the part, which lives on when the one that lent it has ended.
 pub fn kept(rt: &impl Wait, part: ArcBytesBorrow<'_>) -> Result<ArcBytes, OwnerError>
     ensures { IfOk result (λ window. window.items ≡ (borrowed_part part.entry).items) }
 {

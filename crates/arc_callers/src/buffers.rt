@@ -1,5 +1,6 @@
-//! Windows over callers' buffers, which keep them as they are and give them back.
+//! Windows over callers' buffers, which stay as they are and are given back.
 ghost use Rattle.std.specs.Prelude.{◌≡◌, ◌<◌, length, slice_set, IfOk, IfErr};
+ghost use Rattle.arc_parts.specs.Window.{IsBufferWhole, IsRawWhole};
 ghost use Rattle.std.specs.Vec.{vec_items};
 
 use crate::page::Page;
@@ -15,13 +16,13 @@ pub type Pages = ArcBytes<DefaultLayout, AsRefBuffer<Page>, u64>;
 /// Bytes of pages that are written.
 pub type PagesMut = ArcBytesMut<DefaultLayoutMut, AsMutBuffer<Page>, u64>;
 
-/// Bytes beside which pages are written.
+/// Bytes of one of several writers, in the type of windows over pages.
 pub type PagesShared = ArcBytesShared<DefaultLayoutMut, AsMutBuffer<Page>, u64>;
 
 /// Bytes of a vector that others may have by an `Arc`.
 pub type Shared = ArcBytes<DefaultLayout, Vec<u8>>;
 
-/// The buffer with an item in the place of the one at `i`: its other items and its places stay.
+/// The buffer with another item at `i`. Its other items and its places stay.
 pub fn set<T: Drop, B: BufferMut<T>>(buffer: &mut B, i: usize, item: T)
     requires { i < length (B.list buffer.old) }
     ensures list { B.list buffer.new ≡ slice_set (B.list buffer.old) i item }
@@ -30,7 +31,7 @@ pub fn set<T: Drop, B: BufferMut<T>>(buffer: &mut B, i: usize, item: T)
     buffer.as_mut_slice()[i] = item;
 }
 
-/// The value with an item in the place of the one at `i`, written while a buffer had it.
+/// The value with another item at `i`, written while a buffer wraps it.
 pub fn set_lent<T: Drop, B: LendMut<T>>(value: B, i: usize, item: T) -> B
     requires { i < length (B.lent value) }
     ensures { B.lent result ≡ slice_set (B.lent value) i item }
@@ -54,7 +55,7 @@ pub fn over_named(alloc: Global, page: Page, name: u64) -> Result<Pages, (AsRefB
     ArcSlice::try_from_buffer_with_metadata(alloc, AsRefBuffer(page), name)
 }
 
-/// The name of a page, and the number that it has in itself.
+/// The name of a page, and the number that lies in the page.
 pub fn names(window: &Pages) -> (Option<u64>, Option<u32>) {
     (
         window.metadata().copied(),
@@ -69,7 +70,15 @@ pub fn page_again(window: Pages) -> Result<AsRefBuffer<Page>, Pages>
     window.try_into_buffer()
 }
 
-/// A vector behind an `Arc`, whose windows are counted.
+/// Ends a reader of a page. The last reader gets the page.
+pub fn page_if_last(window: Pages) -> Result<Option<AsRefBuffer<Page>>, Pages>
+    ensures { IfErr result (λ back. (back ≡ window)
+        × (¬ IsBufferWhole window.items window.place)) }
+{
+    window.into_buffer_if_last()
+}
+
+/// A window over a vector behind an `Arc`, on a block that counts its owners.
 pub fn over_shared(alloc: Global, shared: Arc<Vec<u8>>) -> Result<Shared, Arc<Vec<u8>>>
     ensures back { IfErr result (λ back. back ≡ shared) }
 {
@@ -81,6 +90,13 @@ pub fn shared_again(window: Shared) -> Result<Arc<Vec<u8>>, Shared>
     ensures { IfErr result (λ back. back ≡ window) }
 {
     window.try_into_raw_buffer()
+}
+
+/// Ends a reader of an `Arc`. The last reader gets the `Arc`.
+pub fn shared_if_last(window: Shared) -> Result<Option<Arc<Vec<u8>>>, Shared>
+    ensures { IfErr result (λ back. (back ≡ window) × (¬ IsRawWhole window.items window.place)) }
+{
+    window.into_raw_buffer_if_last()
 }
 
 /// A page that is written.
@@ -101,7 +117,7 @@ pub fn written_named(
     ArcSliceMut::try_from_buffer_with_metadata(alloc, AsMutBuffer::new(page), name)
 }
 
-/// The name of a page that is written, the number that it has in itself, and whether the window
+/// The name of a page that is written, the number that lies in the page, and whether the window
 /// stands on a page at all.
 pub fn names_of_writer(window: &PagesMut) -> (Option<u64>, Option<u32>, bool) {
     (
@@ -111,7 +127,7 @@ pub fn names_of_writer(window: &PagesMut) -> (Option<u64>, Option<u32>, bool) {
     )
 }
 
-/// Of one of several writers there are neither: none stands on a caller's buffer.
+/// The same of one of several writers, who has neither: none stands on a caller's buffer.
 pub fn names_of_several(window: &PagesShared) -> (Option<u64>, Option<u32>) {
     (
         window.metadata().copied(),

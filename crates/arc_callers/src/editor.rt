@@ -1,7 +1,8 @@
-//! An example: an editor's text. It is written into a string's memory, frozen to be shown, read in
-//! parts by others where it lies, written again when their parts have gone, and had back as the
-//! string; and one is written by two threads at once, each in its own part. To show it and to hand
-//! out parts copies nothing. Its contracts are found by search.
+//! An example: an editor's text. It is written into a string's memory and frozen to be shown.
+//! Others read parts of it where it lies. It is written again when their parts have ended, and
+//! taken back as the string. Another text is written by two threads at once, each in its own part.
+//! Showing it and handing out parts copies nothing. The proofs of its contracts are found by
+//! search.
 ghost use Rattle.std.specs.Prelude.{◌≡◌, ◌++◌, ◌↔◌, take, slice_range, false, IfOk, IfErr, OnOk};
 ghost use Rattle.std.specs.Prelude.{OnErr, Err, IfSome};
 ghost use Rattle.std.specs.String.{string_bytes};
@@ -27,7 +28,8 @@ pub struct Editor {
 }
 
 impl Editor {
-    /// A string is to be written on, in its own memory. It comes back where memory is refused.
+    /// An editor that writes on a string, in its own memory. The string comes back where memory is
+    /// refused.
     pub fn open(alloc: Global, text: String) -> Result<Self, String>
         ensures opened { IfOk result (λ editor. editor.text.items ≡ string_bytes text) }
         ensures refused { IfErr result (λ back. string_bytes back ≡ string_bytes text) }
@@ -38,7 +40,7 @@ impl Editor {
         }
     }
 
-    /// More text behind the end. Where there is no room for it, all is as before.
+    /// Appends a text. Where there is no room for it nothing is changed.
     pub fn write(&mut self, more: &str) -> Result<(), TryReserveError>
         ensures written { OnOk result (self.new.text.items ≡ self.old.text.items ++ more.now) }
         ensures refused { OnErr result (self.new.text ≡ self.old.text) }
@@ -46,7 +48,7 @@ impl Editor {
         self.text.try_extend_from_str(more)
     }
 
-    /// Takes away what stands behind `end`, where that is between two characters.
+    /// Takes off what is behind `end`, where that is between two characters.
     pub fn cut_back(&mut self, end: usize) -> Result<(), RangeError>
         ensures answer { result ≡ edge_answer is_between_characters self.old.text.items end }
         ensures cut { OnOk result (self.new.text.items ≡ take end self.old.text.items) }
@@ -59,7 +61,7 @@ impl Editor {
         Ok(())
     }
 
-    /// The text, to be shown from now on.
+    /// The text as a page, to be shown.
     pub fn show(self) -> Page
         ensures { result.text.items ≡ self.text.items }
     {
@@ -87,7 +89,7 @@ impl Editor {
 pub enum PartError {
     /// It is no range of the text.
     Range(RangeError),
-    /// There is no owner more.
+    /// A new owner is refused.
     Owner(OwnerError),
 }
 
@@ -115,7 +117,7 @@ impl Page {
         }
     }
 
-    /// The text, to be written again, where no part of it lives any more; else the page comes back.
+    /// The text, to be written again, where no part of it lives; else the page comes back.
     pub fn edit(self) -> Result<Editor, Self>
         ensures edited { IfOk result (λ editor. editor.text.items ≡ self.text.items) }
         ensures refused { IfErr result (λ page. page.text ≡ self.text) }
@@ -127,14 +129,14 @@ impl Page {
     }
 }
 
-/// A text in the places of these bytes, as far as there are such.
+/// Writes a text into the places of these bytes, as much of it as there are places for.
 fn write_over(places: &mut [u8], text: &str) {
     for (place, byte) in places.iter_mut().zip(text.as_bytes()) {
         *place = *byte;
     }
 }
 
-/// Two texts in two parts of one block, each written by a thread of its own.
+/// Writes two texts in two parts of one block, each in a thread of its own.
 fn write_at_once(
     rt: &impl Threads,
     front: &mut ArcBytesShared,
@@ -154,7 +156,7 @@ fn write_at_once(
     );
 }
 
-/// Zeros that two writers have, the first so many of them and those behind.
+/// Zeros for two writers: so many for the first one, and those behind for the second.
 fn for_two<R: Wait>(
     rt: &R,
     alloc: Global,
@@ -172,7 +174,7 @@ fn for_two<R: Wait>(
     }
 }
 
-/// What two writers of one block have written, as the text of one.
+/// What two writers of one block have written, as one text.
 fn of_two(mut front: ArcBytesShared, back: ArcBytesShared) -> Option<ArcStrMut>
     requires { IsOneBlock front.place back.place }
 {
@@ -181,7 +183,7 @@ fn of_two(mut front: ArcBytesShared, back: ArcBytesShared) -> Option<ArcStrMut>
     ArcStrMut::try_from_arc_slice_mut(bytes).ok()
 }
 
-/// Two texts, one behind the other, which two threads wrote at once on one block.
+/// Two texts, one behind the other, which two threads write at once in one block.
 pub fn written_by_two<R: Threads + Wait>(
     rt: &R,
     alloc: Global,

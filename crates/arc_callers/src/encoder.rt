@@ -1,5 +1,5 @@
-//! An example: frames are written into one buffer, which is read from then on and handed out frame
-//! by frame. No frame is copied.
+//! An example: frames are written into one buffer, which is then read and handed out frame by
+//! frame. No frame is copied.
 ghost use Rattle.std.specs.Prelude.{◌≡◌, ◌≤◌, ◌+◌, ◌++◌, ◌∷◌, ◌↔◌, [], length, IfOk, OnOk, OnErr};
 ghost use Rattle.std.specs.Prelude.{Err};
 ghost use Rattle.arc_parts.specs.Writers.{capacity_of};
@@ -15,7 +15,7 @@ use std::sync::Wait;
 /// Why frames aren't written.
 #[derive(Drop)]
 pub enum EncodeError {
-    /// A payload is longer than two bytes tell.
+    /// A payload is longer than two bytes can say.
     TooLong,
     /// There is no room for a frame.
     Room(TryReserveError),
@@ -23,7 +23,7 @@ pub enum EncodeError {
     Owner(OwnerError),
 }
 
-/// Writes a frame of the payload behind what is there. Where it is refused, what is there stays.
+/// Appends a frame of the payload. Where it is refused, the bytes before stay.
 #[tactic(auto, using(crate::proofs::Encoded::appended))]
 fn put_frame(buffer: &mut ArcBytesMut, payload: &[u8]) -> Result<(), EncodeError>
     ensures put { OnOk result (IsAppended buffer.old.items buffer.new.items payload.now) }
@@ -44,7 +44,7 @@ fn put_frame(buffer: &mut ArcBytesMut, payload: &[u8]) -> Result<(), EncodeError
     Ok(())
 }
 
-/// A byte more, where there is a place for it.
+/// Appends a byte, where there is a place for it.
 #[tactic(auto, using(crate::proofs::Encoded::room_spare))]
 fn push_within(buffer: &mut ArcBytesMut, byte: u8)
     requires { length buffer.old.items + 1 ≤ capacity_of buffer.old.role }
@@ -57,7 +57,7 @@ fn push_within(buffer: &mut ArcBytesMut, byte: u8)
     }
 }
 
-/// Bytes more, where there are places for them.
+/// Appends bytes, where there are places for them.
 #[tactic(auto, using(crate::proofs::Encoded::room_spare))]
 fn extend_within(buffer: &mut ArcBytesMut, bytes: &[u8])
     requires { length buffer.old.items + length bytes.now ≤ capacity_of buffer.old.role }

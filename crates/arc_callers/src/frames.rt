@@ -8,7 +8,8 @@ use arc_slice::error::OwnerError;
 use std::alloc::Global;
 use std::sync::Wait;
 
-/// The bytes that were received, to take frames off. The vector comes back where memory is refused.
+/// A window over bytes that are received, to take frames off. The vector comes back where memory is
+/// refused.
 pub fn receive(alloc: Global, received: Vec<u8>) -> Result<ArcBytes, Vec<u8>>
     ensures made { IfOk result (λ buffer. buffer.items ≡ received.items) }
     ensures refused { IfErr result (λ back. back.items ≡ received.items) }
@@ -19,8 +20,8 @@ pub fn receive(alloc: Global, received: Vec<u8>) -> Result<ArcBytes, Vec<u8>>
     }
 }
 
-/// The bytes that are left, in the vector that was received: where all frames that were taken off
-/// have ended. Else the buffer comes back.
+/// The bytes that are left, in the vector that was received, where all frames that were taken off
+/// have ended. Else the window comes back.
 pub fn into_rest(buffer: ArcBytes) -> Result<Vec<u8>, ArcBytes>
     ensures rest { IfOk result (λ rest. rest.items ≡ buffer.items) }
     ensures refused { IfErr result (λ back. back ≡ buffer) }
@@ -46,8 +47,8 @@ fn frame_end(bytes: &[u8]) -> Option<usize>
     Some(2 + len)
 }
 
-/// Takes the payload of the first frame off a buffer, as a window on the same block. Where the
-/// buffer has no whole frame it is as before, and so it is where a window is refused.
+/// Takes the payload of the first frame off a buffer, as a window on the same block. Nothing is
+/// changed where the buffer has no whole frame, and where a window is refused.
 pub fn take_frame(rt: &impl Wait, buffer: &mut ArcBytes) -> Result<Option<ArcBytes>, OwnerError>
     ensures taken { IfOk result (λ frame. MatchOption frame
         (HasNoFrame buffer.old.items × (buffer.new ≡ buffer.old))

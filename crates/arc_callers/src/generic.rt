@@ -12,8 +12,8 @@ use bytes::BufMut;
 use std::alloc::{Allocator, Global};
 use std::sync::Wait;
 
-/// The items from `start` to `end`, of a window of any kind, under any layout, over any buffer and
-/// with any metadata, in any allocator's memory.
+/// The items from `start` to before `end` of a window of any kind, under any layout, over any
+/// buffer, with any metadata, in any allocator's memory.
 pub fn part<
     S: Subsliceable,
     L: Layout,
@@ -35,7 +35,7 @@ pub fn part<
     }
 }
 
-/// Whether a line and its end have places behind what a writer has, whichever his role.
+/// Whether a writer of either role has places for a line and its end; then they are appended.
 pub fn line_put<R: RoleOf<Plain<u8>, Vec<u8>, (), Global, Open>>(
     window: &mut WriteWindow<Plain<u8>, DefaultLayoutMut, R>,
     line: &[u8],
@@ -46,14 +46,13 @@ where
     window.put_slice(line).is_ok() && window.put_u8(10).is_ok()
 }
 
-/// So a sole writer, and one of several.
+/// The same with a sole writer, and with one of several.
 pub fn lines_put(sole: &mut ArcBytesMut, several: &mut ArcBytesShared, line: &[u8]) -> [bool; 2] {
     [line_put(sole, line), line_put(several, line)]
 }
 
-/// Puts a copy of the items behind those of a writer, and tells how many there are: items of any
-/// kind, under any layout, over any buffer and with any metadata, in any allocator's memory, and
-/// whichever his role.
+/// Appends a copy of the items to a writer of either role, and answers how many items it then has:
+/// of any kind, under any layout, over any buffer, with any metadata, in any allocator's memory.
 pub fn counted_behind<
     S: CopySlice,
     L: LayoutMut,
@@ -78,7 +77,7 @@ where
     }
 }
 
-/// So with a sole writer, and with one of several.
+/// The same with a sole writer, and with one of several.
 pub fn counted_twice(
     sole: &mut ArcBytesMut,
     several: &mut ArcBytesShared,

@@ -1,5 +1,5 @@
-//! Writers of items of any type: room is made and items are pushed by code that knows no more of
-//! the type than that its values can be dropped, or copied.
+//! Writers of items of any type. The code that makes room and pushes items knows of the type only
+//! that its values can be dropped, or copied.
 ghost use Rattle.std.specs.Prelude.{◌≡◌, ◌≤◌, ◌+◌, ◌++◌, ◌∷◌, [], length, IfErr, OnErr, OnOk};
 ghost use Rattle.arc_parts.specs.Writers.{capacity_of};
 
@@ -8,8 +8,8 @@ use arc_slice::buffer::{Owned, Plain, Slice};
 use arc_slice::error::TryReserveError;
 use arc_slice::layout::DefaultLayoutMut;
 
-/// Room for so many items more, of any kind: whether it was found without memory, and then whether
-/// it is there.
+/// Makes room for so many items more, of any kind: whether that took no memory, and then whether
+/// there is room.
 pub fn room_made<S: Slice>(
     window: &mut ArcSliceMut<S, DefaultLayoutMut, 1>,
     more: usize,
@@ -19,7 +19,7 @@ pub fn room_made<S: Slice>(
     (window.try_reclaim(more), window.try_reserve(more))
 }
 
-/// An item more behind the others, once there is room for two. Where there is none it comes back.
+/// Appends an item, once there is room for two. Where there is none it comes back.
 pub fn pushed<T: Drop>(
     window: &mut ArcSliceMut<Owned<T>, DefaultLayoutMut, 1>,
     item: T,
@@ -33,7 +33,7 @@ pub fn pushed<T: Drop>(
     }
 }
 
-/// The same by one of several writers, of what is copied.
+/// The same by one of several writers, of items that are copied.
 pub fn pushed_beside<T: Copy + Drop>(
     window: &mut ArcSliceMut<Plain<T>, DefaultLayoutMut, 0>,
     item: T,

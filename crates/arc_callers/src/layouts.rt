@@ -8,7 +8,7 @@ use std::alloc::Global;
 use std::boxed::BoxedSlice;
 use std::sync::Arc;
 
-/// Bytes over a box, which is a block by itself till there are more owners.
+/// Bytes over a box, under the layout of boxed slices.
 pub fn over_box(
     alloc: Global,
     bytes: BoxedSlice<u8>,
@@ -18,7 +18,7 @@ pub fn over_box(
     ArcSlice::try_from_boxed(alloc, bytes)
 }
 
-/// An `Arc` that is a block by itself: no memory is asked for, so it isn't refused.
+/// A window over an `Arc` that is a block by itself. It takes no memory, so it isn't refused.
 pub fn over_arc(alloc: Global, shared: Arc<Vec<u8>>) -> ArcBytes<RawLayout> {
     match ArcSlice::try_from_raw_buffer(alloc, shared) {
         Ok(window) => window,
@@ -26,14 +26,14 @@ pub fn over_arc(alloc: Global, shared: Arc<Vec<u8>>) -> ArcBytes<RawLayout> {
     }
 }
 
-/// The `Arc` again, of which other windows may have clones.
+/// The `Arc` again, also where other windows have clones of it.
 pub fn arc_again(window: ArcBytes<RawLayout>) -> Result<Arc<Vec<u8>>, ArcBytes<RawLayout>>
     ensures { IfErr result (λ back. back ≡ window) }
 {
     window.try_into_raw_buffer()
 }
 
-/// A copy on a block of ours, under a layout that holds no others, and no static data.
+/// A copy on a native block, under a layout that holds no others, and no static data.
 pub fn native(alloc: Global, bytes: &[u8]) -> Option<ArcBytes<ArcLayout<false, false>>> {
     match ArcSlice::try_from_slice(alloc, bytes) {
         Ok(window) => Some(window),
@@ -41,7 +41,7 @@ pub fn native(alloc: Global, bytes: &[u8]) -> Option<ArcBytes<ArcLayout<false, f
     }
 }
 
-/// A window under the layout of vectors, and one on a counted `Arc` that leaves its count for a
+/// A window under the layout of vectors, and one that leaves a block which counts an `Arc` for a
 /// clone of the `Arc`, which is a block by itself. Each comes back where it is refused.
 pub fn moved(
     window: ArcBytes,

@@ -1,5 +1,6 @@
-//! Callers of the public calls of windows, each at least once at a concrete type: that it can be
-//! called, and what is known then, is proved. And whole examples: a codec, a queue, an editor.
+//! Callers of the public calls of windows, each at least once at a concrete type. Their contracts
+//! prove that the call can be made, and what is known then. And whole examples: a codec, a queue,
+//! an editor.
 #![tactic(auto)]
 
 pub mod adapters;

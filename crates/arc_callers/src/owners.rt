@@ -1,5 +1,5 @@
-//! The count of a block's owners: owners are made and end, and are told whether they are alone; and
-//! a value that its owners share.
+//! The count of a block's owners: owners are made, ask whether they are alone, and end. And a value
+//! that its owners share.
 ghost use Rattle.std.specs.Prelude.{◌≡◌, [], ◌∷◌, IfOk, IfErr};
 ghost use Rattle.arc_owners.specs.declared.history.entry.Entry.TheVariants.{Up, Full, Down};
 ghost use Rattle.arc_owners.specs.count.Calls.{seen, mine};
@@ -12,9 +12,9 @@ use arc_owners::owners::{CountedBox, Owners, Pass, Release, SoleBox};
 use std::alloc::Global;
 use std::sync::Wait;
 
-/// The replies where the word counts three owners at most: two are made, a third is refused, the
-/// second one made is released, not as the last, and then there is room again. No other reply can
-/// come, and the history is exactly this.
+/// A block that may have three owners at most. Two owners more are made, and a third is refused.
+/// The second one ends, not as the last, and then there is room again. No other replies are
+/// possible, and the history is exactly this.
 pub fn worked_run<R: Wait>(rt: &R) -> Pass<Whole>
     ensures seen { seen result ≡ Up 0 1 ∷ Up 0 2 ∷ Full 0 ∷ Down 2 ∷ Up 0 3 ∷ [] }
     ensures made { mine result ≡ Up 0 1 ∷ Up 0 2 ∷ Full 0 ∷ Down 2 ∷ Up 0 3 ∷ [] }
@@ -38,7 +38,7 @@ pub fn worked_run<R: Wait>(rt: &R) -> Pass<Whole>
     pass
 }
 
-/// Two passes of one block: what the second has seen goes into the first, which is answered.
+/// The first of two passes of one block, which has learnt what the second has seen.
 pub fn learnt() -> Pass<Open> {
     let (owners, first, mut one) = Owners::<3, Open>::new();
     let mut two = first.pass();
@@ -51,8 +51,8 @@ pub fn learnt() -> Pass<Open> {
     three
 }
 
-/// A block whose first owner has it to itself, lends it, and has it back to end it. Whether it was
-/// alone in between.
+/// A block whose first owner has it to itself, lends it, and has it back to end it. The answer is
+/// whether the owner was alone in between.
 pub fn lent_and_ended() -> bool {
     let (owners, sole, mut pass) = Owners::<3, Whole>::new_sole();
     sole.only(&mut pass);
@@ -98,7 +98,7 @@ pub fn another(
     owner.try_clone_as(rt, &mut pass)
 }
 
-/// The value, where nobody else shares it.
+/// The value, where no other owner lives.
 pub fn taken_out(
     owner: CountedBox<u64, Global, 3, Open>,
 ) -> Result<u64, CountedBox<u64, Global, 3, Open>>
@@ -109,7 +109,7 @@ pub fn taken_out(
     owner.try_into_value_as(&mut pass)
 }
 
-/// Another value in the place of the one that its only owner has.
+/// Puts another value in the place of the one that the only owner has.
 pub fn set(sole: &mut SoleBox<u64, Global, 3, Open>, value: u64)
     ensures value { sole_value sole.new ≡ value }
     ensures owner { sole_in sole.new ≡ sole_in sole.old }

@@ -6,7 +6,7 @@ ghost use Rattle.std.proofs.lemmas.List.{with_items_is};
 
 use arc_slice::buffer::{BorrowMetadata, BufferMut, Lend, LendMut};
 
-/// Bytes with a number, as a file's mapped bytes have one.
+/// Bytes with a number, as the mapped bytes of a file have one.
 #[derive(Drop)]
 pub struct Page {
     pub bytes: Vec<u8>,

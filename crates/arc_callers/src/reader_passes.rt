@@ -1,8 +1,10 @@
-//! Calls of readers with a pass of the window's block, in which contracts see what they add to the
-//! history of its owners. Each goes on where the last one ended; the plain forms take a new pass.
-ghost use Rattle.std.specs.Prelude.{◌≡◌, ◌≤◌, ◌++◌, length, IfOk, IfErr};
+//! Calls of readers with a pass of the window's block. In the pass contracts see what the calls add
+//! to the history of its owners. Each call goes on where the last one ended; a plain form takes a
+//! new pass.
+ghost use Rattle.std.specs.Prelude.{◌≡◌, ◌≤◌, ◌++◌, length, IfOk, IfErr, IfSome};
 ghost use Rattle.std.specs.Box.{boxed_slice_items};
 ghost use Rattle.arc_owners.specs.count.Calls.{IsPassOfNone};
+ghost use Rattle.arc_parts.specs.Steps.{IsPassAt};
 
 use arc_slice::buffer::Plain;
 use arc_slice::error::{AllocError, OwnerError};
@@ -12,7 +14,7 @@ use std::alloc::Global;
 use std::boxed::BoxedSlice;
 use std::sync::{Arc, Wait};
 
-/// Windows of a block that has one pass, which has seen all of its history.
+/// Windows on a block that has one pass, which has seen its whole history.
 pub type WholeBytes = ArcBytes<DefaultLayout, Vec<u8>, (), Global, Whole>;
 
 /// Windows over vectors with a name beside them.
@@ -26,7 +28,7 @@ pub fn learnt(window: &ArcBytes) -> Pass<Open> {
     pass
 }
 
-/// Calls on windows that stand on no block leave the pass as it was.
+/// Calls on windows that stand on no block leave the pass as it is.
 pub fn called_on_no_block(
     rt: &impl Wait,
     alloc: Global,
@@ -43,7 +45,7 @@ pub fn called_on_no_block(
     Ok(pass)
 }
 
-/// A copy that asks whether it is alone, and lets its block go.
+/// A copy that is asked whether it is alone, and then ends.
 pub fn copied(alloc: Global, bytes: &[u8]) -> Result<bool, AllocError> {
     let mut pass = Pass::none();
     match ArcBytes::<DefaultLayout>::try_from_slice_as(alloc, bytes, &mut pass) {
@@ -65,8 +67,8 @@ pub fn text(alloc: Global, text: &str) -> Option<ArcStr<VecLayout>> {
     }
 }
 
-/// An array, moved in and out. Under `Whole` a window that is dropped is forgotten, so what isn't
-/// taken out is released.
+/// An array, moved in and out. Under `Whole` a window that is dropped is a forgotten owner, so one
+/// that isn't taken out is released.
 pub fn array(alloc: Global, bytes: [u8; 2]) -> Result<[u8; 2], WholeBytes>
     ensures { IfOk result (λ back. back ≡ bytes) }
 {
@@ -127,7 +129,61 @@ pub fn arc(alloc: Global, shared: Arc<Vec<u8>>) -> Result<Arc<Vec<u8>>, ArcBytes
     }
 }
 
-/// The first four bytes as a window, and the rest as one, by way of a part that is borrowed.
+/// Ends a reader of a vector, with the pass of its block: the last owner gets the vector.
+pub fn vector_if_last(window: WholeBytes, pass: &mut Pass<Whole>) -> Option<Vec<u8>>
+    requires { IsPassAt window.place pass.old }
+    ensures { IfSome result (λ bytes. bytes.items ≡ window.items) }
+{
+    match window.into_vec_if_last_as(pass) {
+        Ok(last) => last,
+        Err(window) => {
+            window.release_as(pass);
+            None
+        }
+    }
+}
+
+/// A box, moved in and out: its only owner is the last one.
+pub fn boxed_if_last(alloc: Global, bytes: BoxedSlice<u8>) -> Option<BoxedSlice<u8>>
+    ensures { IfSome result (λ back. boxed_slice_items back ≡ boxed_slice_items bytes) }
+{
+    let mut pass = Pass::none();
+    match ArcBytes::<DefaultLayout>::try_from_boxed_as(alloc, bytes, &mut pass) {
+        Ok(window) => match window.into_boxed_if_last_as(&mut pass) {
+            Ok(last) => last,
+            Err(_) => None,
+        },
+        Err(bytes) => Some(bytes),
+    }
+}
+
+/// The same of a caller's buffer.
+pub fn buffer_if_last(alloc: Global, bytes: Vec<u8>) -> Option<Vec<u8>>
+    ensures { IfSome result (λ back. back.items ≡ bytes.items) }
+{
+    let mut pass = Pass::none();
+    match ArcBytes::<DefaultLayout>::try_from_buffer_as(alloc, bytes, &mut pass) {
+        Ok(window) => match window.into_buffer_if_last_as(&mut pass) {
+            Ok(last) => last,
+            Err(_) => None,
+        },
+        Err(bytes) => Some(bytes),
+    }
+}
+
+/// The same of an `Arc`.
+pub fn arc_if_last(alloc: Global, shared: Arc<Vec<u8>>) -> Option<Arc<Vec<u8>>> {
+    let mut pass = Pass::none();
+    match ArcBytes::<DefaultLayout>::try_from_raw_buffer_as(alloc, shared, &mut pass) {
+        Ok(window) => match window.into_raw_buffer_if_last_as(&mut pass) {
+            Ok(last) => last,
+            Err(_) => None,
+        },
+        Err(shared) => Some(shared),
+    }
+}
+
+/// The first four bytes as a window, and the rest as one, by a part that is borrowed.
 pub fn parts(
     rt: &impl Wait,
     window: &ArcBytes,

@@ -1,6 +1,6 @@
-//! Windows that are read: made of what is copied, moved in or there for good; seen, cloned, cut,
-//! turned into windows of another kind, and ended. Cuts into parts are in `words`, `frames` and
-//! `queue`.
+//! Windows that are read: over copies, over what is moved in and over static data; seen, cloned,
+//! cut, turned into windows of another kind, and ended. Cuts into parts are in `words`, `frames`
+//! and `queue`.
 ghost use Rattle.std.specs.Prelude.{◌≡◌, [], drop, take, IfOk, IfErr, OnOk};
 ghost use Rattle.arc_block.specs.Place.{IsOnBlock, static_data};
 
@@ -26,8 +26,8 @@ pub fn copied(
     )
 }
 
-/// Texts that are moved in, of which each is dropped once, with the last window over it. They come
-/// back where memory is refused.
+/// Texts that are moved in. Each is dropped once, with the last window over it. They come back
+/// where memory is refused.
 pub fn moved_in(alloc: Global, texts: [String; 2]) -> Result<ArcSlice<Owned<String>>, [String; 2]>
     ensures made { IfOk result (λ window. window.items ≡ texts) }
     ensures back { IfErr result (λ back. back ≡ texts) }
@@ -35,7 +35,7 @@ pub fn moved_in(alloc: Global, texts: [String; 2]) -> Result<ArcSlice<Owned<Stri
     ArcSlice::try_from_array(alloc, texts)
 }
 
-/// A window over nothing, one over bytes that are there for good, and one over such a text.
+/// A window over nothing, one over `'static` bytes, and one over a `'static` text.
 pub fn lasting(
     alloc: Global,
     bytes: &'static [u8],
@@ -52,7 +52,7 @@ pub fn lasting(
     )
 }
 
-/// Bytes for good again, where the window stands on no block; else the window.
+/// The `'static` bytes again, where the window stands on no block; else the window.
 pub fn lasting_again(window: ArcBytes) -> Result<&'static [u8], ArcBytes>
     ensures taken { IfOk result (λ bytes. bytes.now ≡ window.items) }
     ensures back { IfErr result (λ back. (back ≡ window) × IsOnBlock window.place) }
@@ -60,8 +60,8 @@ pub fn lasting_again(window: ArcBytes) -> Result<&'static [u8], ArcBytes>
     window.try_into_static()
 }
 
-/// How many bytes a window has and whether it has none; a text; whether nobody else has a part of
-/// the bytes' block; and how many owners that may have.
+/// How many bytes a window has, and whether it has none; a text; whether no other owner has a part
+/// of the bytes' block; and how many owners that may have.
 pub fn seen<'a>(window: &ArcBytes, text: &'a ArcStr) -> (usize, bool, &'a str, bool, u64)
     ensures text { result.2.now ≡ text.now.items }
     ensures owners { result.4 ≡ 9223372036854775807 }
@@ -82,7 +82,7 @@ pub fn cloned(rt: &impl Wait, window: &ArcBytes) -> Result<ArcBytes, OwnerError>
     window.try_clone(rt)
 }
 
-/// Takes what stands in front of `start` off a text, if it may be cut there.
+/// Takes what is in front of `start` off a text, if it may be cut there.
 pub fn narrowed(text: &mut ArcStr, start: usize) -> Result<(), RangeError>
     ensures { OnOk result (text.new.items ≡ drop start text.old.items) }
 {
@@ -93,7 +93,7 @@ pub fn narrowed(text: &mut ArcStr, start: usize) -> Result<(), RangeError>
     Ok(())
 }
 
-/// Leaves the first so many bytes.
+/// Keeps the first so many bytes.
 pub fn shortened(window: &mut ArcBytes, len: usize)
     ensures { window.new.items ≡ take len window.old.items }
 {
@@ -125,7 +125,7 @@ pub fn taken_apart(window: ArcBytes) -> ArcBytes
     ArcSlice::from_parts(window.into_parts())
 }
 
-/// Ends a window, which asks first whether it is alone. A drop counts down at once.
+/// Ends a window, which first asks whether it is alone. A drop counts down at once.
 pub fn ended(window: ArcBytes) {
     window.drop_with_unique_hint();
 }

@@ -1,4 +1,4 @@
-//! The example of README.md.
+//! A window over a copy of a text, and a part of it that lives on when the window has ended.
 
 use arc_slice::ArcBytes;
 use arc_slice::error::OwnerError;

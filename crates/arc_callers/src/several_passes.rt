@@ -1,5 +1,5 @@
 //! Calls of one of several writers with a pass of the window's block.
-ghost use Rattle.std.specs.Prelude.{◌≡◌, ◌++◌, ◌∷◌, [], IfOk, IfErr, OnOk, Err};
+ghost use Rattle.std.specs.Prelude.{◌≡◌, ◌++◌, ◌∷◌, [], IfOk, IfErr, IfSome, OnOk, Err};
 ghost use Rattle.std.specs.Box.{boxed_slice_items};
 ghost use Rattle.arc_parts.specs.Shared.{IsOneBlock};
 
@@ -17,7 +17,8 @@ pub fn learnt(window: &ArcBytesShared) -> Pass<Open> {
     pass
 }
 
-/// The window in two and in one again: whether it was split, and whether both were joined.
+/// Splits the window in two and joins them again: `None` where the split is refused, else whether
+/// both were joined.
 pub fn split_and_joined(rt: &impl Wait, window: &mut ArcBytesShared) -> Option<bool> {
     let at = window.capacity();
     let mut pass = window.pass();
@@ -39,7 +40,7 @@ pub fn front_given(
     window.try_split_to_as(rt, at, &mut pass)
 }
 
-/// A byte more.
+/// Appends a byte.
 pub fn pushed(window: &mut ArcBytesShared, byte: u8) -> Result<(), (TryReserveError, u8)>
     ensures { OnOk result (window.new.items ≡ window.old.items ++ byte ∷ []) }
 {
@@ -47,7 +48,7 @@ pub fn pushed(window: &mut ArcBytesShared, byte: u8) -> Result<(), (TryReserveEr
     window.try_push_as(byte, &mut pass)
 }
 
-/// Bytes more, and a text more.
+/// Appends bytes, and appends a text.
 pub fn extended(
     window: &mut ArcBytesShared,
     text: &mut ArcStrShared,
@@ -62,7 +63,7 @@ pub fn extended(
     (bytes, text.try_extend_from_str_as(more, &mut pass))
 }
 
-/// Room for so many bytes more.
+/// Makes room for so many bytes more.
 pub fn room_made(window: &mut ArcBytesShared, more: usize) -> (bool, Result<(), TryReserveError>)
     ensures { window.new.items ≡ window.old.items }
 {
@@ -72,7 +73,7 @@ pub fn room_made(window: &mut ArcBytesShared, more: usize) -> (bool, Result<(), 
     (found, window.try_reserve_as(more, &mut pass))
 }
 
-/// Leaves a vector for a block of ours, as a split does first; the pass is that block's.
+/// Leaves a vector for a native block, as a split does first, and answers a pass of that block.
 pub fn vector_left(window: &mut ArcBytesShared) -> Option<Pass<Open>> {
     if !window.is_on_vector() {
         return None;
@@ -93,7 +94,18 @@ pub fn sole(window: ArcBytesShared) -> Result<ArcBytesMut, ArcBytesShared>
     window.try_into_unique_as(&mut pass)
 }
 
-/// A window under another layout, and one that is to be read from now on.
+/// Ends a writer. The last one becomes the only writer of a new block, with a pass of that.
+pub fn sole_if_last(
+    window: ArcBytesShared,
+) -> Result<Option<(ArcBytesMut, Pass<Open>)>, ArcBytesShared>
+    ensures sole { IfOk result (λ last. IfSome last (λ r. r.0.items ≡ window.items)) }
+    ensures back { IfErr result (λ back. back ≡ window) }
+{
+    let mut pass = window.pass();
+    window.into_unique_if_last_as(&mut pass)
+}
+
+/// A window under another layout, and a window that becomes one that is read.
 pub fn turned(
     window: ArcBytesShared,
     other: ArcBytesShared,
@@ -127,7 +139,7 @@ pub fn vectors(
     (vector, other.try_into_boxed_as(&mut pass))
 }
 
-/// The items of a block of ours. None of several writers stands on a caller's buffer.
+/// The items of a native block as an array. None of several writers stands on a caller's buffer.
 pub fn others(
     window: ArcBytesShared,
     other: ArcBytesShared,
@@ -144,7 +156,7 @@ pub fn others(
     (array, other.try_into_buffer_as(&mut pass))
 }
 
-/// Three ends: the first counts down, the second asks first, the third is a drop that tells its
+/// Three ends: the first counts down, the second asks first, the third is a drop that answers its
 /// pass.
 pub fn ended(first: ArcBytesShared, second: ArcBytesShared, third: ArcBytesShared) -> Pass<Open> {
     let mut pass = first.pass();

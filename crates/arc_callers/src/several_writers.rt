@@ -1,9 +1,11 @@
 //! One of several writers on one block, each with places of his own: handed out, joined, filled,
 //! given room, taken back and ended. `editor` splits and joins for two threads.
 ghost use Rattle.std.specs.Prelude.{◌≡◌, ◌≤◌, ◌+◌, ◌++◌, ◌∷◌, [], length, drop, true};
-ghost use Rattle.std.specs.Prelude.{IfOk, IfErr, OnOk, Err};
+ghost use Rattle.std.specs.Prelude.{IfOk, IfErr, IfSome, OnOk, Err};
 ghost use Rattle.std.specs.Box.{boxed_slice_items};
+ghost use Rattle.arc_block.specs.Block.{native};
 ghost use Rattle.arc_parts.specs.Shared.{IsOneBlock, IsSharedPlace};
+ghost use Rattle.arc_parts.specs.Window.{IsOfSort};
 ghost use Rattle.arc_parts.specs.Writers.{capacity_of};
 
 use arc_slice::buffer::ByteText;
@@ -17,7 +19,7 @@ use std::sync::Wait;
 /// Byte text of one of several writers.
 pub type ByteTextShared = ArcSliceMut<ByteText, DefaultLayoutMut, 0>;
 
-/// A writer as one of several: refused on a caller's buffer alone.
+/// A sole writer as one of several. It is refused on a caller's buffer only.
 pub fn shared(window: ArcBytesMut) -> Result<ArcBytesShared, ArcBytesMut>
     ensures shared { IfOk result (λ shared. shared.items ≡ window.items) }
     ensures back { IfErr result (λ back. back ≡ window) }
@@ -33,6 +35,14 @@ pub fn sole(window: ArcBytesShared) -> Result<ArcBytesMut, ArcBytesShared>
     window.try_into_unique()
 }
 
+/// Ends a writer. The last one of all becomes the only writer.
+pub fn sole_if_last(window: ArcBytesShared) -> Result<Option<ArcBytesMut>, ArcBytesShared>
+    ensures sole { IfOk result (λ last. IfSome last (λ sole. sole.items ≡ window.items)) }
+    ensures back { IfErr result (λ back. (back ≡ window) × (¬ IsOfSort native window.place)) }
+{
+    window.into_unique_if_last()
+}
+
 /// Where one of several writers stands: on nothing, or on a native block or a vector that counts
 /// its owners. The calls do nothing: their contracts are the laws.
 pub fn known(window: &ArcBytesShared)
@@ -43,7 +53,7 @@ pub fn known(window: &ArcBytesShared)
     window.known_uncounted();
 }
 
-/// Hands out the first half of the places, to be written by someone else.
+/// Hands out the first half of the places, for another writer.
 pub fn front_given(
     rt: &impl Wait,
     window: &mut ArcBytesShared,
@@ -54,7 +64,7 @@ pub fn front_given(
     window.try_split_to(rt, at)
 }
 
-/// Takes back the places and bytes behind these, which have to be of the same block.
+/// Takes back the places and bytes behind these, which the caller shows to be of the same block.
 pub fn joined(front: &mut ArcBytesShared, back: ArcBytesShared) -> Result<(), ArcBytesShared>
     requires { IsOneBlock front.old.place back.place }
     ensures joined { OnOk result (front.new.items ≡ front.old.items ++ back.items) }
@@ -63,7 +73,7 @@ pub fn joined(front: &mut ArcBytesShared, back: ArcBytesShared) -> Result<(), Ar
     front.try_unsplit(back)
 }
 
-/// A byte more, and then these bytes, where there is room for them.
+/// Appends a byte, and then bytes, once there is room for them.
 pub fn filled(window: &mut ArcBytesShared, byte: u8, bytes: &[u8]) -> Result<(), TryReserveError>
     ensures { OnOk result (window.new.items ≡ (window.old.items ++ byte ∷ []) ++ bytes.now) }
 {
@@ -73,7 +83,8 @@ pub fn filled(window: &mut ArcBytesShared, byte: u8, bytes: &[u8]) -> Result<(),
     }
 }
 
-/// Whether there was room for all of the bytes, which then stand behind the others.
+/// Appends the bytes one by one, and answers whether there was room for all. Bytes before the first
+/// refusal stay.
 pub fn appended(window: &mut ArcBytesShared, bytes: &[u8]) -> bool
     ensures { result ≡ true → window.new.items ≡ window.old.items ++ bytes.now }
 {
@@ -83,14 +94,14 @@ pub fn appended(window: &mut ArcBytesShared, bytes: &[u8]) -> bool
     }
 }
 
-/// A text more.
+/// Appends a text.
 pub fn text_extended(window: &mut ArcStrShared, text: &str) -> Result<(), TryReserveError>
     ensures { OnOk result (window.new.items ≡ window.old.items ++ text.now) }
 {
     window.try_extend_from_str(text)
 }
 
-/// Room for so many bytes more, which other writers' places never are.
+/// Makes room for so many bytes more, which is never in other writers' places.
 pub fn room_made(window: &mut ArcBytesShared, more: usize) -> (bool, Result<(), TryReserveError>)
     ensures items { window.new.items ≡ window.old.items }
     ensures enough { OnOk result.1 (length window.new.items + more ≤ capacity_of window.new.role) }
@@ -98,8 +109,8 @@ pub fn room_made(window: &mut ArcBytesShared, more: usize) -> (bool, Result<(), 
     (window.try_reclaim(more), window.try_reserve(more))
 }
 
-/// What is written, whether that is nothing, whether it stands on a vector; how long a text is, and
-/// the text.
+/// The bytes of a window, whether there are none, and whether it stands on a vector; the length of
+/// a text, and the text.
 pub fn seen<'a>(
     window: &'a ArcBytesShared,
     text: &'a ArcStrShared,
@@ -115,7 +126,7 @@ pub fn seen<'a>(
     )
 }
 
-/// Takes what stands in front of `start` off a text, if it may be cut there.
+/// Takes what is in front of `start` off a text, if it may be cut there.
 pub fn narrowed(text: &mut ArcStrShared, start: usize) -> Result<(), RangeError>
     ensures { OnOk result (text.new.items ≡ drop start text.old.items) }
 {
@@ -126,14 +137,14 @@ pub fn narrowed(text: &mut ArcStrShared, start: usize) -> Result<(), RangeError>
     Ok(())
 }
 
-/// Leaves the first so many bytes, in places that stay.
+/// Keeps the first so many bytes. The places stay.
 pub fn shortened(window: &mut ArcBytesShared, len: usize)
     ensures { capacity_of window.new.role ≡ capacity_of window.old.role }
 {
     window.truncate(len);
 }
 
-/// A window under another layout, and one that is to be read from now on.
+/// A window under another layout, and a window that becomes one that is read.
 pub fn turned(
     window: ArcBytesShared,
     other: ArcBytesShared,
@@ -164,7 +175,7 @@ pub fn vectors(
     (window.try_into_vec(), other.try_into_boxed())
 }
 
-/// The items of a block of ours. None of several writers stands on a caller's buffer.
+/// The items of a native block as an array. None of several writers stands on a caller's buffer.
 pub fn others(
     window: ArcBytesShared,
     other: ArcBytesShared,
@@ -203,7 +214,7 @@ pub fn taken_apart(window: ArcBytesShared) -> ArcBytesShared
     ArcSliceMut::from_parts(window.into_parts())
 }
 
-/// Ends a window, which asks first whether it is alone.
+/// Ends a window, which first asks whether it is alone.
 pub fn ended(window: ArcBytesShared) {
     window.drop_with_unique_hint();
 }

@@ -1,4 +1,4 @@
-//! How many bytes a window of bytes takes, over the allocator `Global`.
+//! How many bytes a window over bytes takes in itself, over the allocator `Global`.
 ghost use Rattle.std.specs.Prelude.{◌≡◌};
 
 use arc_slice::inlined::SmallArcBytes;

@@ -1,4 +1,4 @@
-//! Short lists of bytes that lie in a value of their own, and windows that are such a list or a
+//! Short lists of bytes in a value of their own, and windows that are either such a list or a
 //! window that is read.
 ghost use Rattle.std.specs.Prelude.{◌≡◌, [], drop, take, slice_range};
 ghost use Rattle.std.specs.Prelude.{IfOk, IfErr, IfSome, OnOk};
@@ -14,7 +14,7 @@ use std::alloc::Global;
 use std::boxed::BoxedSlice;
 use std::sync::Wait;
 
-/// No bytes, and these bytes and this text, where they are short enough.
+/// A list without bytes, and lists of these bytes and of this text, where they are short enough.
 pub fn short(bytes: &[u8], text: &str) -> (SmallBytes, Option<SmallBytes>, Option<SmallStr>)
     ensures empty { result.0.items ≡ [] }
     ensures bytes { IfSome result.1 (λ small. small.items ≡ bytes.now) }
@@ -27,7 +27,7 @@ pub fn short(bytes: &[u8], text: &str) -> (SmallBytes, Option<SmallBytes>, Optio
     )
 }
 
-/// How many bytes there are and which; whether there are none, and the text.
+/// The number of the bytes and the bytes, whether there are none, and a text.
 pub fn short_seen<'a>(small: &'a SmallBytes, text: &'a SmallStr) -> (usize, &'a [u8], bool, &'a str)
     ensures bytes { result.1.now ≡ small.now.items }
     ensures text { result.3.now ≡ text.now.items }
@@ -40,7 +40,7 @@ pub fn short_seen<'a>(small: &'a SmallBytes, text: &'a SmallStr) -> (usize, &'a 
     )
 }
 
-/// The bytes from `start` to `end`, as a list of its own.
+/// The bytes from `start` to before `end`, as a list of its own.
 pub fn short_part(small: &SmallBytes, start: usize, end: usize) -> Result<SmallBytes, RangeError>
     ensures { IfOk result (λ part. part.items ≡ slice_range small.now.items start end) }
 {
@@ -50,7 +50,7 @@ pub fn short_part(small: &SmallBytes, start: usize, end: usize) -> Result<SmallB
     }
 }
 
-/// Takes what stands in front of `start` off a text, if it may be cut there.
+/// Takes what is in front of `start` off a text, if it may be cut there.
 pub fn short_narrowed(text: &mut SmallStr, start: usize) -> Result<(), RangeError>
     ensures { OnOk result (text.new.items ≡ drop start text.old.items) }
 {
@@ -61,14 +61,14 @@ pub fn short_narrowed(text: &mut SmallStr, start: usize) -> Result<(), RangeErro
     Ok(())
 }
 
-/// Leaves the first so many bytes.
+/// Keeps the first so many bytes.
 pub fn shortened(small: &mut SmallBytes, len: usize)
     ensures { small.new.items ≡ take len small.old.items }
 {
     small.truncate(len);
 }
 
-/// Windows of no bytes, of a short list, and of a window that is read.
+/// A window without bytes, one of a short list, and one of a window that is read.
 pub fn windows(small: SmallBytes, window: ArcBytes) -> (SmallArcBytes, SmallArcBytes, SmallArcBytes)
     ensures empty { result.0.items ≡ [] }
     ensures small { result.1.items ≡ small.items }
@@ -81,7 +81,7 @@ pub fn windows(small: SmallBytes, window: ArcBytes) -> (SmallArcBytes, SmallArcB
     )
 }
 
-/// Copies of these bytes and of this text: up to a limit in the windows themselves.
+/// Copies of these bytes and of this text, up to a limit in the windows themselves.
 pub fn copied(
     alloc: Global,
     bytes: &[u8],
@@ -118,7 +118,7 @@ pub fn kept(
     )
 }
 
-/// Windows over bytes and over a text that are there for good.
+/// Windows over `'static` bytes and over a `'static` text.
 pub fn lasting(
     alloc: Global,
     bytes: &'static [u8],
@@ -149,7 +149,7 @@ pub fn seen<'a>(
     )
 }
 
-/// Another window with the same bytes: one that has them in itself is copied.
+/// Another window with the same bytes. One that has them in itself is copied.
 pub fn cloned(rt: &impl Wait, window: &SmallArcBytes) -> Result<SmallArcBytes, OwnerError>
     ensures { IfOk result (λ clone. clone.items ≡ window.now.items) }
 {
@@ -169,7 +169,7 @@ pub fn part(
     }
 }
 
-/// Takes what stands in front of `start` off a text, if it may be cut there.
+/// Takes what is in front of `start` off a text, if it may be cut there.
 pub fn narrowed(text: &mut SmallArcStr, start: usize) -> Result<(), RangeError>
     ensures { OnOk result (text.new.items ≡ drop start text.old.items) }
 {
@@ -188,7 +188,7 @@ pub fn inlined(window: &SmallArcBytes) -> Option<usize> {
     }
 }
 
-/// Leaves the first so many bytes, in the window itself or in its block.
+/// Keeps the first so many bytes, in the window itself or in its block.
 pub fn cut_back(window: &mut SmallArcBytes, len: usize) {
     match window.as_either_mut() {
         Left(small) => small.truncate(len),

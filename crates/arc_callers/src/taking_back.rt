@@ -1,6 +1,7 @@
 //! What a window stands on, taken back: a string, a box, an array. A vector is taken back in
 //! `frames`, `queue` and `editor`, a caller's buffer in `buffers`, an `Arc` in `layouts`.
-ghost use Rattle.std.specs.Prelude.{◌≡◌, IfOk, IfErr};
+ghost use Rattle.std.specs.Prelude.{◌≡◌, IfOk, IfErr, IfSome, false};
+ghost use Rattle.arc_parts.specs.Window.{IsBoxWhole, IsVecPart};
 ghost use Rattle.std.specs.Box.{boxed_slice_items};
 ghost use Rattle.std.specs.String.{string_bytes};
 
@@ -9,8 +10,8 @@ use arc_slice::{ArcBytesMut, ArcSlice, ArcStr};
 use std::alloc::Global;
 use std::boxed::BoxedSlice;
 
-/// A string that is read, and had back: nobody else was given a part of it. The window comes out
-/// where it was, and the string where there was no memory to count it.
+/// A string that is read and taken back, which no other owner has a part of. Where memory for its
+/// count is refused, the string comes back at once.
 pub fn string(alloc: Global, text: String) -> Result<String, ArcStr>
     ensures string { IfOk result (λ back. string_bytes back ≡ string_bytes text) }
     ensures window { IfErr result (λ window. window.items ≡ string_bytes text) }
@@ -40,7 +41,29 @@ pub fn boxed(window: ArcSlice<Owned<String>>) -> Result<BoxedSlice<String>, ArcS
     window.try_into_boxed()
 }
 
-/// The items of a window on a block of ours, moved out of it.
+/// Ends a reader of a string. The last reader gets the string.
+pub fn string_if_last(window: ArcStr) -> Result<Option<String>, ArcStr>
+    ensures string { IfOk result (λ last. IfSome last (λ text.
+        string_bytes text ≡ window.items)) }
+    ensures back { IfErr result (λ back. (back ≡ window)
+        × (¬ IsVecPart false window.items window.place)) }
+{
+    window.into_vec_if_last()
+}
+
+/// Ends a reader of a box. The last reader gets the box.
+pub fn boxed_if_last(
+    window: ArcSlice<Owned<String>>,
+) -> Result<Option<BoxedSlice<String>>, ArcSlice<Owned<String>>>
+    ensures boxed { IfOk result (λ last. IfSome last (λ texts.
+        boxed_slice_items texts ≡ window.items)) }
+    ensures back { IfErr result (λ back. (back ≡ window)
+        × (¬ IsBoxWhole window.items window.place)) }
+{
+    window.into_boxed_if_last()
+}
+
+/// The items of a window on a native block, moved out of it.
 pub fn array(window: ArcSlice<Owned<String>>) -> Result<[String; 2], ArcSlice<Owned<String>>>
     ensures array { IfOk result (λ texts. texts ≡ window.items) }
     ensures back { IfErr result (λ back. back ≡ window) }

@@ -1,4 +1,5 @@
-//! What goes to other threads: a type that may not go there is refused when its caller is proved.
+//! Values that go to other threads. A type that may not go there is refused when its caller is
+//! proved.
 use arc_block::static_slice::StaticSlice;
 use arc_memory::{
     Allocation, CutMemory, EndedLifetime, FrozenPlaces, KeptPlaces, LentPlaces, LifetimeToken,

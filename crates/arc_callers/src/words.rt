@@ -1,5 +1,5 @@
-//! An example: a line is cut at a separator into two windows on the line's block. Its contract is
-//! found by search, as are those of the functions below it.
+//! An example: a line is cut at a separator into two windows on the line's block. The proofs of its
+//! contract and of those of the functions below are found by search.
 ghost use Rattle.std.specs.Prelude.{◌≡◌, ◌<◌, ◌++◌, ◌∷◌, [], length, IfOk, slice_index_or};
 
 use arc_slice::error::OwnerError;
@@ -21,7 +21,7 @@ pub fn cut_at(
     Ok((front, back))
 }
 
-/// All of the text, which is left empty.
+/// Takes all of the text, and leaves it empty.
 pub fn take_all(rt: &impl Wait, text: &mut ArcStr) -> Result<ArcStr, OwnerError>
     ensures { IfOk result (λ all. (all.items ≡ text.old.items) × (text.new.items ≡ [])) }
 {

@@ -8,13 +8,13 @@ use arc_slice::{ArcBytes, ArcBytesMut, ArcStrMut, Open, Pass, Whole};
 use std::alloc::Global;
 use std::boxed::BoxedSlice;
 
-/// Numbers of a block that has one pass.
+/// Bytes of a block that has one pass.
 pub type WholeBytesMut = ArcBytesMut<DefaultLayoutMut, Vec<u8>, (), Global, Whole>;
 
 /// A vector that is written, with a name beside it.
 pub type NamedMut = ArcBytesMut<DefaultLayoutMut, Vec<u8>, u64>;
 
-/// A pass that has seen that nobody else lives, and what another one has.
+/// A pass that has seen that no other owner lives, and what another pass has seen.
 pub fn alone(window: &ArcBytesMut) -> Pass<Open> {
     let mut pass = window.pass();
     window.only(&mut pass);
@@ -23,7 +23,8 @@ pub fn alone(window: &ArcBytesMut) -> Pass<Open> {
     pass
 }
 
-/// Places of a block that has one pass, so many zeros, and a copy, each with a pass of its own.
+/// A window with so many places, one over so many zeros, and one over a copy, each with a pass of
+/// its own. The block of the first has only this pass.
 pub fn made(
     alloc: Global,
     places: usize,
@@ -45,7 +46,7 @@ pub fn made(
     )
 }
 
-/// A byte more, and then these.
+/// Appends a byte, and then bytes.
 pub fn extended(
     window: &mut ArcBytesMut,
     byte: u8,
@@ -60,14 +61,14 @@ pub fn extended(
     (pushed, window.try_extend_from_slice_as(bytes, &mut pass))
 }
 
-/// Room for so many bytes more.
+/// Makes room for so many bytes more.
 pub fn room_made(window: &mut ArcBytesMut, more: usize) -> (bool, Result<(), TryReserveError>) {
     let mut pass = window.pass();
     let found = window.try_reclaim_as(more, &mut pass);
     (found, window.try_reserve_as(more, &mut pass))
 }
 
-/// A text, and more behind another one.
+/// A window over a text, and a text appended to another one.
 pub fn texts(
     alloc: Global,
     text: &str,
@@ -132,7 +133,7 @@ pub fn named(alloc: Global, bytes: Vec<u8>, name: u64) -> Result<NamedMut, (Vec<
     NamedMut::try_from_buffer_with_metadata_as(alloc, bytes, name, &mut pass)
 }
 
-/// A window under another layout, and one that is to be read from now on.
+/// A window under another layout, and a window that becomes one that is read.
 pub fn turned(
     window: ArcBytesMut,
     other: ArcBytesMut,
@@ -149,7 +150,7 @@ pub fn turned(
     (moved, other.try_freeze_as::<DefaultLayout>(&mut pass))
 }
 
-/// Three ends: each gives the block back without a step.
+/// Three ends. Each gives the block back without an atomic step.
 pub fn ended(first: ArcBytesMut, second: ArcBytesMut, third: ArcBytesMut) -> Pass<Open> {
     let mut pass = first.pass();
     first.release_as(&mut pass);

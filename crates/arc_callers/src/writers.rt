@@ -20,7 +20,7 @@ pub type NumbersMut = ArcSliceMut<Plain<u64>, DefaultLayoutMut, 1>;
 /// Byte text that is written.
 pub type ByteTextMut = ArcSliceMut<ByteText, DefaultLayoutMut, 1>;
 
-/// No bytes, with so many places to write into.
+/// A window without bytes, with so many places to write into.
 pub fn with_places(alloc: Global, places: usize) -> Result<ArcBytesMut, AllocError>
     ensures { IfOk result (λ window. window.items ≡ []) }
 {
@@ -49,8 +49,8 @@ pub fn moved_in(alloc: Global, texts: [String; 2]) -> Result<TextsMut, [String; 
     ArcSliceMut::try_from_array(alloc, texts)
 }
 
-/// The numbers of a vector, each pushed behind the others; at the first one without room those
-/// before it are there, and it comes back.
+/// The numbers of a vector, pushed one by one. At the first one without room that one comes back,
+/// with the window of those before it.
 pub fn collected(
     alloc: Global,
     numbers: Vec<u64>,
@@ -58,7 +58,8 @@ pub fn collected(
     ArcSliceMut::try_from_iter(alloc, numbers)
 }
 
-/// Whether there was room for all of the bytes, which then stand behind the others.
+/// Appends the bytes one by one, and answers whether there was room for all. Bytes before the first
+/// refusal stay.
 pub fn appended(window: &mut ArcBytesMut, bytes: &[u8]) -> bool
     ensures { result ≡ true → window.new.items ≡ window.old.items ++ bytes.now }
 {
@@ -68,7 +69,7 @@ pub fn appended(window: &mut ArcBytesMut, bytes: &[u8]) -> bool
     }
 }
 
-/// Another byte in the place of one.
+/// Puts another byte in the place of the one at `at`.
 pub fn set(window: &mut ArcBytesMut, at: usize, byte: u8)
     requires { at < length window.old.items }
     ensures { window.new.items ≡ slice_set window.old.items at byte }
@@ -76,14 +77,14 @@ pub fn set(window: &mut ArcBytesMut, at: usize, byte: u8)
     window.as_mut_slice()[at] = byte;
 }
 
-/// Room for so many bytes more: whether it was found without memory, and then whether it is there.
+/// Makes room for so many bytes more: whether that took no memory, and then whether there is room.
 pub fn room_made(window: &mut ArcBytesMut, more: usize) -> (bool, Result<(), TryReserveError>)
     ensures { OnOk result.1 (length window.new.items + more ≤ capacity_of window.new.role) }
 {
     (window.try_reclaim(more), window.try_reserve(more))
 }
 
-/// What is written, whether that is nothing, and the text that another window has.
+/// The bytes that are written, whether there are none, and the text of another window.
 pub fn seen<'a>(window: &'a ArcBytesMut, text: &'a ArcStrMut) -> (&'a [u8], bool, &'a str)
     ensures bytes { result.0.now ≡ window.now.items }
     ensures text { result.2.now ≡ text.now.items }
@@ -99,7 +100,7 @@ pub fn known(window: &ArcBytesMut)
     window.known_place();
 }
 
-/// How many places there are behind the bytes, and whether a split could be made at `at`.
+/// How many places there are behind the bytes, and whether the window may be split at `at`.
 pub fn places_left(window: &ArcBytesMut, at: usize) -> (usize, Result<(), RangeError>)
     ensures left { length window.now.items + result.0 ≡ capacity_of window.now.role }
     ensures split { IsOk result.1 ↔ (at ≤ capacity_of window.now.role) }
@@ -140,7 +141,7 @@ pub fn taken_apart(window: ArcBytesMut) -> ArcBytesMut
     ArcSliceMut::from_parts(window.into_parts())
 }
 
-/// Ends a window: its only owner asks nothing first.
+/// Ends a window. Its only owner reads no count.
 pub fn ended(window: ArcBytesMut) {
     window.drop_with_unique_hint();
 }

@@ -42,8 +42,8 @@ pub record Standing (H : Type 0) : Type 0 where
   pub passes : List (Pass H)
 
 -- The entries of an owner, by the history before them: of one that makes another with this number,
--- that asks whether it is alone, that is refused an owner more. On a word that has no count yet an
--- owner more is a promotion, and asking adds nothing.
+-- that asks whether it is alone, that is refused one owner more. On a word that has no count yet
+-- one owner more is a promotion, and asking adds nothing.
 abbrev pub raised : ℕ → Owner → List Entry → List Entry
 raised made o history = (if is_counted o.block.began history then entry.Up o.number made else
     entry.Promote o.number made) ∷ []
@@ -96,16 +96,16 @@ module _ {H : Type 0} where
         born = history_of a.after;
       })
 
-  -- a window was made of a list: on nothing, or as the first owner of a block more, whose pass is
-  -- a fresh one
+  -- a window was made of a list: on nothing, or as the first owner of a new block, whose pass is a
+  -- fresh one
   abbrev pub Founds : Stand → List (Pass H) → List (Pass H) → Type 0
   Founds None old new = new ≡ old
   Founds (Some (number, owner)) old new =
       (number ≡ length old) × IsFirst MAX_OWNERS true Counted owner
       × (p : Pass H) × IsFreshPass owner p × (new ≡ old ++ p ∷ [])
 
-  -- The window stands where it stood. Where that was on nothing it may be the first owner of a
-  -- block more, whose pass is a fresh one.
+  -- The window stands where it stood. Where that was on nothing it may be the first owner of a new
+  -- block, whose pass is a fresh one.
   abbrev pub MayBegin : (here there : Stand) → List (Pass H) → List (Pass H) → Type 0
   MayBegin None there old new = Founds there old new
   MayBegin (Some here) there old new = (there ≡ Some here) × (new ≡ old)
@@ -124,7 +124,7 @@ module _ {H : Type 0} where
         × (there ≡ (if handed_out then other else here))
         × (made ≡ Some (if handed_out then here else other))
 
-    -- it stands where it stood, or on a block more
+    -- it stands where it stood, or on a new block
     abbrev pub Stays : Type 0
     Stays = MayBegin here there old new × (made ≡ None)
 
@@ -151,7 +151,7 @@ module _ {H : Type 0} where
     AsksIf true = Enters (asked false)
     AsksIf false = AddsNone
 
-    -- The window ended as an owner of a vector, and is the first owner of a block more, on which
+    -- The window ended as an owner of a vector, and is the first owner of a new block, on which
     -- another was made.
     pub record MovesAndJoins : Type 0 where
       pub between : List (Pass H)
@@ -165,7 +165,7 @@ module _ {H : Type 0} where
       pub handed_out : made ≡ Some other
 
     -- A window was split, which of a reader may hand out the window itself. One of several writers
-    -- of a vector moves to a block more first.
+    -- of a vector moves to a new block first.
     abbrev pub Splits : (several on_vector handed_out : Bool) → Type 0
     Splits false on_vector handed_out = Joins handed_out
     Splits true false handed_out = Joins false
@@ -188,9 +188,9 @@ module _ {H : Type 0} where
     HasRefused asks reserve.Unsupported = AsksFirst asks true
     HasRefused asks reserve.CapacityOverflow = AsksFirst asks true
 
-    -- Whether nobody else has a part of a block of this sort, and somebody may have: the count was
-    -- asked, which said no. A caller's buffer may say no though the owner is alone, and of an `Arc`
-    -- nobody was asked.
+    -- Whether no other owner has a part of a block of this sort, and somebody may have: the count
+    -- was asked, which said no. A caller's buffer may say no though the owner is alone, and of an
+    -- `Arc` nobody was asked.
     abbrev pub AsksInVain : Sort → Type 0
     AsksInVain native = Enters (asked false)
     AsksInVain vector = Enters (asked false)
@@ -253,7 +253,7 @@ module _ {H : Type 0} where
     RowAdds setting row command reply = AddsNone
 
   -- what is added by a command that makes a window of what it brings: it stands on nothing, or as
-  -- the first owner of a block more
+  -- the first owner of a new block
   abbrev pub MakerAdds : {T M : Type 0} → ListCmd T M → ListReply T M
       → (made : Option Stand) → (old new : List (Pass H)) → Type 0
   MakerAdds (Static items) (reply.New number) made old new = (made ≡ Some None) × (new ≡ old)

@@ -72,7 +72,7 @@ setting_of layout writes_any clone_wants drops boundary item_size zero calls = r
 }
 
 -- What a step leaves free: where memory was refused. Nowhere, or for what the table asks for itself
--- (room, a block, a copy of items), or for an owner more, where the layout's clones want some, or
+-- (room, a block, a copy of items), or for one owner more, where the layout's clones want some, or
 -- for the block of a window that is there: its first one, or a larger one. Or that a caller's
 -- buffer said that somebody else has a part of it, or why it makes no room.
 pub data Shortage : Type 0 where
@@ -94,7 +94,7 @@ pub record Around : Type 0 where
   pub places : ℕ
 
 -- What comes of a command on a row: the reply, the row then, or None where it has gone, the row
--- that was made, and whether a block more begins, on which one of the two stands.
+-- that was made, and whether a new block begins, on which one of the two stands.
 pub record Change (T M : Type 0) : Type 0 where
   pub reply : ListReply T M
   pub row : Option (Row T M)
@@ -105,7 +105,7 @@ pub record Change (T M : Type 0) : Type 0 where
 abbrev pub is_now : {T M : Type 0} → ListReply T M → Row T M → Change T M
 is_now reply row = record { reply = reply; row = Some row; made = None; begins = false }
 
--- the row is this one, on a block more if it stands on one
+-- the row is this one, on a new block if it stands on one
 abbrev pub begun : {T M : Type 0} → Row T M → Change T M
 begun row = record {
   reply = reply.Ok;
@@ -207,11 +207,11 @@ raw_row by_itself block items = record {
   role = reader;
 }
 
--- a window over a slice that is there for good, which no block holds
+-- a window over a static slice, which no block holds
 abbrev pub static_row : {T M : Type 0} → List T → Row T M
 static_row items = record { items = items; place = static_data; role = reader }
 
--- whether the layout wants memory for an owner more at this place, and it was refused
+-- whether the layout wants memory for one owner more at this place, and it was refused
 abbrev pub is_wanting : {M : Type 0} → Shortage → (Sort → Bool) → Place (Option ℕ) M → Bool
 is_wanting of_clones wants (on_block block offset info) = wants info.sort
 is_wanting short wants place = false
@@ -220,7 +220,7 @@ is_wanting short wants place = false
 abbrev pub is_full : {T M : Type 0} → Table T M → Place (Option ℕ) M → Bool
 is_full t place = option_map_or (λ block. owners t block == MAX_OWNERS) (block_of place) false
 
--- an owner more at the place of this part, and then this comes of it
+-- one owner more at the place of this part, and then this comes of it
 abbrev pub with_owner : {T M : Type 0} → Setting T → Shortage → Around → (row part : Row T M)
     → Change T M → Change T M
 with_owner setting short around row part change =
@@ -251,7 +251,7 @@ is_writable_at has_any nowhere = false
 is_writable_at has_any static_data = false
 is_writable_at has_any (on_block block offset info) = may_write_sort has_any info.sort
 
--- whether so many items that stand here may be written from now on, where their owner is alone, or
+-- whether so many items that stand here may become a writer's, where their owner is alone, or
 -- isn't: on no block there have to be none
 abbrev pub may_write_at : {N M : Type 0} → (has_any alone : Bool) → Place N M → (len : ℕ) → Bool
 may_write_at has_any alone nowhere len = len == 0
@@ -259,12 +259,12 @@ may_write_at has_any alone static_data len = len == 0
 may_write_at has_any alone (on_block block offset info) len =
     may_write_sort has_any info.sort && alone
 
--- whether a row may be written from now on
+-- whether a row may become a writer's
 abbrev pub may_write : {T M : Type 0} → Setting T → Around → Row T M → Bool
 may_write setting around row =
     may_write_at setting.writes_any around.alone row.place (length row.items)
 
--- Whether nobody else has a part of a block of this sort. Of an `Arc` the answer is no, and a
+-- Whether no other owner has a part of a block of this sort. Of an `Arc` the answer is no, and a
 -- caller's buffer may say so.
 abbrev pub is_unique : Shortage → (alone : Bool) → Sort → Bool
 is_unique short alone native = alone
@@ -273,7 +273,7 @@ is_unique of_buffer alone (buffer writable) = false
 is_unique short alone (buffer writable) = alone
 is_unique short alone raw = false
 
--- whether nobody else has a part of what stands at a place. On no block the answer is no
+-- whether no other owner has a part of what stands at a place. On no block the answer is no
 abbrev pub is_unique_at : {N M : Type 0} → Shortage → (alone : Bool) → Place N M → Bool
 is_unique_at short alone nowhere = false
 is_unique_at short alone static_data = false
@@ -324,16 +324,16 @@ is_raw_whole nowhere len = false
 is_raw_whole static_data len = false
 is_raw_whole (on_block block offset info) len = is_raw info.sort && is_all_full offset len info
 
--- whether nobody else has a part of what is taken out at this place, where its owner is alone, or
--- isn't: nobody where no owners are counted
+-- whether no other owner has a part of what is taken out at this place, where its owner is alone,
+-- or isn't: nobody where no owners are counted
 abbrev pub is_free : {M : Type 0} → (alone : Bool) → Place (Option ℕ) M → Bool
 is_free alone nowhere = false
 is_free alone static_data = false
 is_free alone (on_block None offset info) = true
 is_free alone (on_block (Some block) offset info) = alone
 
--- What a row stands on is taken out, where it is as the command wants it and nobody else has a part
--- of it, and answered so. A sole writer is alone.
+-- What a row stands on is taken out, where it is as the command wants it and no other owner has a
+-- part of it, and answered so. A sole writer is alone.
 abbrev pub taken_as : {T M : Type 0} → (wanted : Bool) → Around → Row T M → ListReply T M
     → Change T M
 taken_as wanted around row answer =
@@ -367,7 +367,7 @@ abbrev pub to_part : {T M : Type 0} → (has_static : Bool) → Row T M → ℕ 
 to_part has_static row at =
     if at == length row.items then part_of has_static row at at else part_of has_static row 0 at
 
--- A part is made as an owner more: the window keeps one row, and another one is made.
+-- A part is made as one owner more: the window keeps one row, and another one is made.
 abbrev pub parted : {T M : Type 0} → Setting T → Shortage → Around → (row part kept made : Row T M)
     → Change T M
 parted setting short around row part kept made =
@@ -420,9 +420,9 @@ reclaimed row (from.Growth places) = is_now reply.No row
 reclaimed row (from.Own additional) = is_now reply.No row
 reclaimed row room = is_now reply.Yes (with_room room row)
 
--- The writer is a reader from now on, by where his window goes under the layout: where he stands,
--- or on a block more, of no places. Or he is handed back. No writer stands on an `Arc`, which may
--- have to be counted, or to leave its count.
+-- The writer becomes a reader, where the layout says: where it stands, or on a new block of no
+-- places. Or it is handed back. No writer stands on an `Arc`, which could have to be counted, or to
+-- leave its count.
 abbrev pub after_move : {T M : Type 0} → Setting T → Shortage → Around → Row T M → Move → Change T M
 after_move setting short around row Stays = is_now reply.Ok (as_reader row)
 after_move setting short around row HandedBack = is_now reply.Refused row

@@ -1,5 +1,5 @@
--- Commands and replies over lists: items, vectors, boxes, slices that are there for good and
--- buffers are seen as lists.
+-- Commands and replies over lists: items, vectors, boxes, static slices and buffers are seen as
+-- lists.
 use Rattle.std.specs.Prelude.{List}
 use Rattle.arc_commands.specs.declared.command.Cmd.{Cmd}
 use Rattle.arc_commands.specs.declared.command.Reply.{Reply}

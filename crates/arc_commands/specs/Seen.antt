@@ -10,8 +10,7 @@ use Rattle.arc_commands.specs.declared.command.Cmd.TheVariants as command
 use Rattle.arc_commands.specs.declared.command.Reply.{Reply}
 use Rattle.arc_commands.specs.declared.command.Reply.TheVariants as reply
 
--- A command as one over lists: f of each of its item lists, g of a slice that is there for good,
--- and h of a buffer
+-- A command as one over lists: f of each of its item lists, g of a static slice, and h of a buffer
 abbrev pub map_command : {C X F B M T : Type 0} → (X → List T) → (F → List T) → (B → List T)
     → Cmd C X F B M T → ListCmd T M
 map_command f g h (command.Slice items) = command.Slice (f items)

@@ -44,21 +44,21 @@ module _ {N M : Type 0} where
 module _ {T M : Type 0} where
   -- ---- roles
 
-  -- a sole writer is one of several from now on, but over a caller's buffer
+  -- a sole writer becomes one of several, unless it stands on a caller's buffer
   abbrev pub shared_change : Setting T → Row T M → Change T M
   shared_change setting row =
       if can_share setting.drops row.place then is_now reply.Ok (as_shared row) else
       is_now reply.Refused row
 
-  -- one of several is the only writer from now on, if he stands on a block and is alone there
+  -- one of several becomes the only writer, if it stands on a block and is alone there
   abbrev pub unique_change : Around → Row T M → Change T M
   unique_change around row = if around.alone then is_now reply.Ok (as_unique row) else
       is_now reply.Refused row
 
   -- ---- splits
 
-  -- the row is the one part of these, and the other was made: where the row stands, or on a block
-  -- more, to which it moved first
+  -- the row is the one part of these, and the other was made: where the row stands, or on a new
+  -- block, to which it moved first
   abbrev pub moved_parts : Setting T → Shortage → Around → (keeps makes : Row T M → Row T M)
       → Row T M → Change T M
   moved_parts setting of_clones around keeps makes row =

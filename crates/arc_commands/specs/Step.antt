@@ -313,7 +313,7 @@ abbrev pub with_row : {T M : Type 0} → List (Option (Row T M)) → Option (Row
 with_row rows None = rows
 with_row rows (Some row) = rows ++ Some row ∷ []
 
--- a block more, if one begins
+-- a new block, if one begins
 abbrev pub with_block : Bool → ℕ → ℕ
 with_block begins blocks = if begins then blocks + 1 else blocks
 

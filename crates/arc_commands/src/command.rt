@@ -1,4 +1,4 @@
-//! What a table is asked, and what it answers.
+//! The commands on a table, and its replies.
 use arc_owners::error::{OwnerError, RangeError, TryReserveError};
 use std::marker::PhantomData;
 
@@ -7,7 +7,7 @@ pub trait Carried {
     /// A list of items.
     type Items;
 
-    /// A slice that is there for good.
+    /// A `'static` slice.
     type Static;
 
     /// A buffer of a caller's.
@@ -20,8 +20,7 @@ pub trait Carried {
     type Item;
 }
 
-/// That commands carry these: lists X, slices F that are there for good, buffers B, metadata M and
-/// items T.
+/// Commands that carry these: lists X, `'static` slices F, buffers B, metadata M and items T.
 pub struct Carries<X, F, B, M, T> {
     of: PhantomData<(X, F, B, M, T)>,
 }
@@ -38,20 +37,20 @@ impl<X, F, B, M, T> Carried for Carries<X, F, B, M, T> {
     type Item = T;
 }
 
-/// A command, which carries values of these types. Windows go by their numbers.
+/// A command, which carries values of these types. It names windows by their numbers.
 #[derive(Debug, Drop)]
 pub enum Cmd<C: Carried> {
     /// A window over a copy of these items.
     Slice(C::Items),
-    /// A window over a copy of these items, which has them in itself where they are few.
+    /// A small window over a copy of these items, which has them in itself where they are few.
     Small(C::Items),
     /// A window over all items of a vector.
     Vec(C::Items),
-    /// A window over a slice that is there for good.
+    /// A window over a `'static` slice.
     Static(C::Static),
     /// A window over all items of a buffer behind an `Arc`.
     Raw(C::Buffer),
-    /// A window over all items of a buffer, which is only read.
+    /// A window over all items of a buffer, which it only reads.
     Buf {
         buffer: C::Buffer,
         metadata: C::Meta,
@@ -61,9 +60,9 @@ pub enum Cmd<C: Carried> {
         buffer: C::Buffer,
         metadata: C::Meta,
     },
-    /// A window that is written, with no items and no places.
+    /// A window that is written, without items and places.
     New,
-    /// A window that is written, with no items and so many places.
+    /// A window that is written, without items, with so many places.
     Cap {
         places: usize,
     },
@@ -83,15 +82,15 @@ pub enum Cmd<C: Carried> {
         start: usize,
         end: usize,
     },
-    /// Whether a window is the only owner of its block.
+    /// Asks whether a window is the only owner of its block.
     Uniq {
         window: usize,
     },
-    /// The metadata of a window's block.
+    /// Asks for the metadata of a window's block.
     Meta {
         window: usize,
     },
-    /// The items of a window.
+    /// Asks for the items of a window.
     Show {
         window: usize,
     },
@@ -105,11 +104,11 @@ pub enum Cmd<C: Carried> {
         window: usize,
         at: usize,
     },
-    /// How many items a window has.
+    /// Asks how many items a window has.
     Len {
         window: usize,
     },
-    /// How many places a window that is written has.
+    /// Asks how many places a window that is written has.
     Room {
         window: usize,
     },
@@ -118,12 +117,12 @@ pub enum Cmd<C: Carried> {
         window: usize,
         additional: usize,
     },
-    /// An item more, behind the others of a window that is written.
+    /// Appends an item to a window that is written.
     Push {
         window: usize,
         item: C::Item,
     },
-    /// These items more, behind the others of a window that is written.
+    /// Appends these items to a window that is written.
     Ext {
         window: usize,
         items: C::Items,
@@ -133,24 +132,24 @@ pub enum Cmd<C: Carried> {
         window: usize,
         additional: usize,
     },
-    /// Makes a window that is written one that is read.
+    /// Turns a sole writer's window into one that is read.
     Freeze {
         window: usize,
     },
-    /// Makes a window that is alone one that is written.
+    /// Turns a window that is read, and is alone, into one that is written.
     Mut {
         window: usize,
     },
-    /// Makes a window that is written alone one of several that are written on its block.
+    /// Turns a sole writer's window into one of several writers'.
     Share {
         window: usize,
     },
-    /// Makes a window that is one of several the only one, if it is alone.
+    /// Turns a window of one of several writers, if it is alone, into a sole writer's.
     Unique {
         window: usize,
     },
     /// Puts the places of another window of the same block, which begin where those of the first
-    /// end, behind these; then the other is gone.
+    /// end, behind these. Then the other window is gone.
     Join {
         window: usize,
         other: usize,
@@ -160,32 +159,32 @@ pub enum Cmd<C: Carried> {
         window: usize,
         by: usize,
     },
-    /// Leaves the first `len` items of a window, or all where it has no more.
+    /// Keeps the first `len` items of a window, or all where it has no more.
     Trunc {
         window: usize,
         len: usize,
     },
-    /// The end of a window.
+    /// Ends a window.
     Drop {
         window: usize,
     },
-    /// The vector on which a window stands, as the window's items, and its end.
+    /// Takes the vector on which a window stands, with the window's items, and ends the window.
     Take {
         window: usize,
     },
-    /// The same as a box.
+    /// Takes it as a box.
     TakeBox {
         window: usize,
     },
-    /// The buffer on which a window stands, and its end.
+    /// Takes the buffer on which a window stands, and ends the window.
     TakeBuf {
         window: usize,
     },
-    /// The `Arc` of a buffer on which a window stands, and its end.
+    /// Takes the `Arc` of a buffer on which a window stands, and ends the window.
     TakeRaw {
         window: usize,
     },
-    /// The items of a window that stands on no block, and its end.
+    /// Takes the items of a window that stands on no block, and ends the window.
     TakeStatic {
         window: usize,
     },
@@ -195,8 +194,8 @@ impl<C: Carried> Cmd<C> {
     ghost use Rattle.std.specs.Prelude.{◌≡◌};
     ghost use Rattle.arc_commands.specs.Step.{makes_beside, may_end, other_of, window_of};
 
-    /// The window on which it is, `None` of those that make one of what they bring. Of a join the
-    /// first.
+    /// The number of its window, or `None` for a command that makes a window of what it brings. For
+    /// a join it is that of the first one.
     pub fn window(&self) -> Option<usize>
         ensures { result ≡ window_of self.now }
     {
@@ -241,7 +240,7 @@ impl<C: Carried> Cmd<C> {
         }
     }
 
-    /// The other window, of a command on two.
+    /// The number of the second window of a command on two.
     pub fn other(&self) -> Option<usize>
         ensures { result ≡ other_of self.now }
     {
@@ -251,7 +250,7 @@ impl<C: Carried> Cmd<C> {
         }
     }
 
-    /// Whether it makes another window beside the one on which it is.
+    /// Whether it makes another window beside its own.
     pub fn makes_beside(&self) -> bool
         ensures { result ≡ makes_beside self.now }
     {
@@ -261,7 +260,7 @@ impl<C: Carried> Cmd<C> {
         )
     }
 
-    /// Whether the window on which it is may have gone afterwards: it ends, or is taken back.
+    /// Whether its window may be gone afterwards.
     #[inline(always)]
     pub fn may_end(&self) -> bool
         ensures { result ≡ may_end self.now }
@@ -278,7 +277,7 @@ impl<C: Carried> Cmd<C> {
     }
 }
 
-/// The types of what replies give.
+/// The types of what replies carry.
 pub trait Given {
     /// Items that are shown.
     type Shown;
@@ -295,15 +294,15 @@ pub trait Given {
     /// An `Arc` of one.
     type Raw;
 
-    /// A slice that is there for good.
+    /// A `'static` slice.
     type Static;
 
     /// Metadata.
     type Meta;
 }
 
-/// That replies give these: items X that are shown, vectors V, boxes D, buffers B, each behind an
-/// `Arc` as R, slices F that are there for good, and metadata M.
+/// Replies that carry these: items X that are shown, vectors V, boxes D, buffers B, `Arc`s R of
+/// buffers, `'static` slices F, and metadata M.
 pub struct Gives<X, V, D, B, R, F, M> {
     of: PhantomData<(X, V, D, B, R, F, M)>,
 }
@@ -324,47 +323,48 @@ impl<X, V, D, B, R, F, M> Given for Gives<X, V, D, B, R, F, M> {
     type Meta = M;
 }
 
-/// What a command is answered, which gives values of these types.
+/// The reply to a command, which carries values of these types.
 #[derive(Debug, Drop)]
 pub enum Reply<G: Given> {
-    /// A window was made, and has this number.
+    /// A new window has this number.
     New(usize),
     /// It is done.
     Ok,
-    /// The window is the only owner of its block, or it has the room.
+    /// The window is the only owner of its block; or it has the room.
     Yes,
-    /// It isn't: the block has another owner, or the window stands on none. Or it hasn't.
+    /// The window isn't the only owner of its block, or stands on none; or it hasn't the room.
     No,
     /// The items of the window.
     Items(G::Shown),
-    /// The vector on which the window stood, which is gone.
+    /// The vector on which the window stood. The window is gone.
     Vec(G::Vector),
-    /// The same as a box.
+    /// That vector as a box. The window is gone.
     Boxed(G::Boxed),
-    /// The buffer on which the window stood, which is gone.
+    /// The buffer on which the window stood. The window is gone.
     Buffer(G::Buffer),
-    /// The `Arc` of a buffer on which the window stood, which is gone.
+    /// The `Arc` of a buffer on which the window stood. The window is gone.
     Raw(G::Raw),
-    /// The slice on which the window stood, which is gone, or no items where it stood on nothing.
+    /// The `'static` slice on which the window stood, or no items where it stood on nothing. The
+    /// window is gone.
     Static(G::Static),
     /// So many items, or places.
     Number(usize),
     /// The metadata of the window's block.
     Meta(G::Meta),
-    /// The window's block has no metadata, or the window stands on none.
+    /// The window's block has no metadata, or the window stands on no block.
     None,
-    /// No window has this number, or none has it any more.
+    /// No window has this number.
     NoWindow,
-    /// The command isn't for a window of this role, or its kind or layout lacks it.
+    /// The command isn't for a window of this role, or the kind or the layout lacks it.
     Kind,
-    /// What the window stands on doesn't allow it, or memory for it was refused; nothing changed.
+    /// What the window stands on doesn't allow it, or memory for it is refused. Nothing is changed.
     Refused,
     /// The range isn't one of the window.
     Range(RangeError),
-    /// There is no owner more.
+    /// A new owner of the block is refused.
     Owner(OwnerError),
-    /// There is no room for so many items more, or memory for it was refused; nothing changed.
+    /// Room for the items is refused. Nothing is changed.
     Reserve(TryReserveError),
-    /// Memory was refused; nothing changed.
+    /// Memory is refused. Nothing is changed.
     Alloc,
 }

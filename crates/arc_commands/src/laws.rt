@@ -13,11 +13,14 @@ ghost use Rattle.arc_commands.specs.Worked.{MayAnswer, alone_for_more, joined_on
 ghost use Rattle.arc_commands.specs.Worked.{joined_when_full, leaves_its_vector, not_with_itself};
 ghost use Rattle.arc_commands.specs.Worked.{only_one_again, whole_again};
 
-/// No command changes another row: what stands under a number that it isn't on, a row or that it
-/// has gone, stands there afterwards, and so it is of a run none of whose commands is on it. And
-/// one that is carried out adds nothing to the history of a block on which its window doesn't
-/// stand, and leaves the other windows where they stood. Does nothing: its contract is the law, for
-/// items and metadata of any type.
+/// No command changes another row. What is under a number that the command isn't on, a row or that
+/// its window is gone, is there afterwards too. The same holds of a run none of whose commands is
+/// on the number.
+///
+/// A command that is carried out adds no entry to the history of a block on which its window
+/// doesn't stand, and leaves the other windows where they stand.
+///
+/// Does nothing: its contract is the law, for items and metadata of any type.
 pub fn others_stay<T, M>()
     ensures step { (setting : Setting T) (old : Table T M) (command : ListCmd T M)
         (reply : ListReply T M) (new : Table T M) → Step setting old command reply new
@@ -30,9 +33,9 @@ pub fn others_stay<T, M>()
         → OthersStay command old new }
 {}
 
-/// Where a kind's windows aren't shared, no row becomes one of several writers', and the commands
-/// that only these have are answered `Kind`, or `NoWindow`, and change nothing. Does nothing: its
-/// contract is the law, for items and metadata of any type.
+/// Where a kind has no windows of several writers, no row becomes one's. Commands that only such
+/// windows have are answered `Kind` or `NoWindow`, and change nothing. Does nothing: its contract
+/// is the law, for items and metadata of any type.
 pub fn shares_not<T, M>()
     ensures rows { (setting : Setting T) (old : Table T M) (command : ListCmd T M)
         (reply : ListReply T M) (new : Table T M) → setting.calls.shares ≡ false
@@ -43,9 +46,9 @@ pub fn shares_not<T, M>()
         → ((answer ≡ reply.Kind) ⊎ (answer ≡ reply.NoWindow)) × (new ≡ old) }
 {}
 
-/// A command that the kind or the layout lacks (`is_had`) is answered `Kind`, or `NoWindow`, and
-/// changes nothing; and one that makes a window of what it brings makes one exactly where they have
-/// it. Does nothing: its contract is the law, for items and metadata of any type.
+/// A command that the kind or the layout lacks (`is_had`) is answered `Kind` or `NoWindow`, and
+/// changes nothing. A command that makes a window of what it brings makes one exactly where they
+/// have it. Does nothing: its contract is the law, for items and metadata of any type.
 pub fn lacks_not<T, M>()
     ensures kind { (setting : Setting T) (old : Table T M) (command : ListCmd T M)
         (answer : ListReply T M) (new : Table T M) → is_had setting command ≡ false

@@ -1,4 +1,4 @@
-//! Hex digits of a line, and the items that they say.
+//! The hex digits of a line, and the items that they say.
 ghost use Rattle.std.specs.Prelude.{◌≡◌, ◌<◌, IfOk, IsTrue};
 ghost use Rattle.std.specs.Option.{option_map};
 ghost use Rattle.std.specs.Char.{digit_value};
@@ -27,7 +27,7 @@ fn is_digit(byte: u8) -> bool
 fn are_digits(word: &[u8]) -> bool
     ensures { result ≡ list_all is_hex_digit word.now }
 {
-    // Each byte is tested, whatever stands before it, so that many are tested at once.
+    // Each byte is tested, whatever the test before says, so that many are tested at once.
     let mut all = true;
     for byte in word {
         all = all & is_digit(*byte);
@@ -35,7 +35,7 @@ fn are_digits(word: &[u8]) -> bool
     all
 }
 
-/// What a hex digit stands for.
+/// The value of a hex digit.
 fn value_of(digit: u8) -> u8
     requires { IsTrue (is_hex_digit digit) }
     ensures value { result ≡ digit_value digit }
@@ -64,7 +64,7 @@ pub(crate) fn byte_in(word: &[u8]) -> Option<u8>
 pub(crate) fn digits_in(word: &[u8]) -> Option<Hex<'_>>
     ensures { option_map (λ hex. pairs hex.digits.now) result ≡ items_of word.now }
 {
-    // A dash stands for no items: it is looked for where a word of digits can't stand.
+    // A dash means no items. It is looked for where the length is odd, as no word of digits is.
     if word.len() % 2 != 0 {
         if word == b"-".as_slice() {
             return Some(Hex { digits: &[] });

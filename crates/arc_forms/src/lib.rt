@@ -1,4 +1,4 @@
-//! The forms of a script: a line as a command, and what it is answered as a text.
+//! The forms of a script: a line as a command, and a reply as a text.
 #![tactic(auto)]
 
 mod hex;

@@ -1,6 +1,6 @@
-//! Reading a line as a command: its form is found by its first word, its operands are read as plain
-//! values, and the command is made of these. What isn't there leaves by `let .. else`, since a `?`
-//! makes the proof of its function longer by a third.
+//! Reads a line as a command. The first word tells the form, the operands are read as plain values,
+//! and the command is made of these. What isn't there is handled by `let .. else`: a `?` makes the
+//! proof of its function longer by a third.
 ghost use Rattle.std.specs.Prelude.{◌≡◌, ◌+◌, ◌*◌, ◌<◌, ℕ, List, [], ◌∷◌, length, IfOk};
 ghost use Rattle.std.specs.Prelude.{MatchOption, IfSome, IsSomeAnd, OnErr};
 ghost use Rattle.std.specs.Option.{option_map};
@@ -35,7 +35,7 @@ pub const LONGEST_LINE: usize = 65536;
 /// The most digits of a number.
 const MOST_DIGITS: usize = 18;
 
-/// A form of a line, by what stands behind its first word.
+/// A form of a line, by what is behind its first word.
 #[derive(Clone, Copy)]
 enum Verb {
     /// Nothing.
@@ -115,7 +115,7 @@ enum ItemsAndNumber {
     MBuf,
 }
 
-/// What is left of a line behind a word: `None` behind the last.
+/// What is left of a line behind a word, or `None` behind the last one.
 type Rest<'a> = Option<&'a [u8]>;
 
 /// The first word of a line, and what is left behind it.
@@ -139,7 +139,7 @@ pub fn number_in(word: &[u8]) -> Option<usize>
     if word.is_empty() || word.len() > MOST_DIGITS {
         return None;
     }
-    // A number has one form, so a first 0 stands alone.
+    // A number has one form, so no other digit is behind a first 0.
     if word[0] == b'0' && word.len() > 1 {
         return None;
     }
@@ -169,21 +169,21 @@ fn number(rest: Rest) -> Option<(usize, Rest)>
     Some((number, rest))
 }
 
-/// The one number that is left.
+/// The number that is left, where nothing else is.
 #[inline(always)]
 #[tactic(auto, using(crate::proofs::Forms::last_operand, crate::proofs::Forms::none_left))]
 fn one_number(rest: Rest) -> Option<usize>
     ensures { option_map (λ n. Number n ∷ []) result
         ≡ operands_of (ANumber ∷ []) (words_in rest.entry) }
 {
-    // What is left is read as it is: a number has no space, so another word behind it is refused.
+    // All that is left is read: a number has no space, so another word behind it is refused.
     match rest {
         Some(line) => number_in(line),
         None => None,
     }
 }
 
-/// The two numbers that are left.
+/// The two numbers that are left, where nothing else is.
 #[inline(always)]
 #[tactic(auto, unfolding(crate::specs::Reading::operands_of))]
 fn two_numbers(rest: Rest) -> Option<(usize, usize)>
@@ -199,7 +199,7 @@ fn two_numbers(rest: Rest) -> Option<(usize, usize)>
     Some((first, second))
 }
 
-/// The one byte that is left.
+/// The byte that is left, where nothing else is.
 #[inline(always)]
 #[tactic(auto, using(crate::proofs::Forms::last_operand, crate::proofs::Forms::none_left))]
 fn one_byte(rest: Rest) -> Option<u8>
@@ -212,7 +212,7 @@ fn one_byte(rest: Rest) -> Option<u8>
     }
 }
 
-/// The digits of the items that are left, in one word.
+/// The digits of the items that are left, where one word is left.
 #[inline(always)]
 #[tactic(auto, using(crate::proofs::Forms::last_operand, crate::proofs::Forms::none_left))]
 fn one_hex(rest: Rest) -> Option<Hex>
@@ -225,8 +225,8 @@ fn one_hex(rest: Rest) -> Option<Hex>
     }
 }
 
-/// The form whose first word this is. A match tests the length and then bytes, and search proves
-/// one of a few words; so the forms stand in six groups.
+/// The form whose first word this is. A match tests the length and then bytes, and search proves a
+/// match of a few words: so the forms are in six groups.
 fn verb_named(word: &[u8]) -> Option<Verb>
     ensures { result ≡ named word.now verbs }
 {
@@ -239,7 +239,7 @@ fn verb_named(word: &[u8]) -> Option<Verb>
     rare_verb_named(word)
 }
 
-/// The same, of those that few lines have.
+/// The same, of the forms that few lines have.
 fn rare_verb_named(word: &[u8]) -> Option<Verb>
     ensures { result ≡ named word.now rare_verbs }
 {
@@ -252,7 +252,7 @@ fn rare_verb_named(word: &[u8]) -> Option<Verb>
     last_verb_named(word)
 }
 
-/// The same, of the last of these.
+/// The same, of the last two groups of these.
 fn last_verb_named(word: &[u8]) -> Option<Verb>
     ensures { result ≡ named word.now last_verbs }
 {
@@ -344,7 +344,7 @@ fn other_verb_named(word: &[u8]) -> Option<Verb>
     }
 }
 
-/// The same, of windows that turn, and are joined.
+/// The same, of forms that turn or join windows.
 #[inline(always)]
 fn turning_verb_named(word: &[u8]) -> Option<Verb>
     ensures { result ≡ named word.now turning_verbs }
@@ -359,8 +359,8 @@ fn turning_verb_named(word: &[u8]) -> Option<Verb>
     }
 }
 
-/// The form that a line begins with, and what is left of the line behind its first word, where that
-/// is a form which many lines have, and something is left.
+/// The form of a line and what is left behind its first word, where it is a form that many lines
+/// have and something is left.
 #[inline(always)]
 #[tactic(auto, unfolding(crate::specs::Reading::command_of, crate::specs::Reading::read_as))]
 fn usual_verb(line: &[u8]) -> Option<(Verb, &[u8])>
@@ -399,7 +399,7 @@ fn usual_verb(line: &[u8]) -> Option<(Verb, &[u8])>
     }
 }
 
-/// The form that a line begins with, and what is left of the line behind its first word.
+/// The form of a line, and what is left behind its first word.
 fn verb_of(line: &[u8]) -> Option<(Verb, Rest)>
     ensures { read_behind result ≡ command_of (words_of_line line.now) }
 {
@@ -428,7 +428,7 @@ fn with_nothing<A: Allocator>(verb: Bare, rest: Rest) -> Option<Command<A>>
     }
 }
 
-/// The command that a form of one number makes of it.
+/// The command of a form of one number, for this number.
 #[inline(always)]
 fn number_command<A: Allocator>(verb: OneNumber, number: usize) -> Command<A>
     ensures { line_command result ≡ (number_form verb).1 number }
@@ -456,7 +456,7 @@ fn number_command<A: Allocator>(verb: OneNumber, number: usize) -> Command<A>
     }
 }
 
-/// The command of a form of one number.
+/// The command of a form of one number, for the number that is left.
 #[inline(always)]
 #[tactic(auto, unfolding(crate::specs::Reading::read_as))]
 fn with_number<A: Allocator>(verb: OneNumber, rest: Rest) -> Option<Command<A>>
@@ -469,7 +469,7 @@ fn with_number<A: Allocator>(verb: OneNumber, rest: Rest) -> Option<Command<A>>
     }
 }
 
-/// The command that a form of two numbers makes of them.
+/// The command of a form of two numbers, for these numbers.
 #[inline(always)]
 fn numbers_command<A: Allocator>(verb: TwoNumbers, window: usize, number: usize) -> Command<A>
     ensures { line_command result ≡ (numbers_form verb).1 window number }
@@ -497,7 +497,7 @@ fn numbers_command<A: Allocator>(verb: TwoNumbers, window: usize, number: usize)
     }
 }
 
-/// The command of a form of two numbers.
+/// The command of a form of two numbers, for the numbers that are left.
 #[inline(always)]
 #[tactic(auto, unfolding(crate::specs::Reading::read_as))]
 fn with_numbers<A: Allocator>(verb: TwoNumbers, rest: Rest) -> Option<Command<A>>
@@ -671,11 +671,11 @@ fn command<A: Allocator>(alloc: A, line: &[u8]) -> Result<Option<Command<A>>, Al
 ///
 /// # Errors
 ///
-/// `AllocError` where memory is refused for the items that the line's command brings.
+/// `AllocError` where memory is refused for the items that the command brings.
 ///
 /// # Allocates
 ///
-/// For the items of a command, once, for their number of bytes.
+/// Once for the items of a command, for their number of bytes.
 pub fn parse<A: Allocator + Copy>(alloc: A, line: &[u8]) -> Result<Option<Command<A>>, AllocError>
     ensures ok { IfOk result (λ said.
         MatchOption said (IsBad line.now) (λ c. Says line.now (line_command c))) }
@@ -687,17 +687,17 @@ pub fn parse<A: Allocator + Copy>(alloc: A, line: &[u8]) -> Result<Option<Comman
     command(alloc, line)
 }
 
-/// The command that a line says, if it is one of those that many lines say: its form is one of
-/// `usual_verb` with numbers, a byte or items to be put behind a window's, or it is `static`.
-/// `None` tells nothing of the line.
+/// The command that a line says, where it is one of those that many lines say: a form of
+/// `usual_verb` with numbers, a byte or items to be appended, or `static`. `None` means that
+/// another command may be said, or none.
 ///
 /// # Errors
 ///
-/// `AllocError` where memory is refused for the items that it brings.
+/// `AllocError` where memory is refused for the items that the command brings.
 ///
 /// # Allocates
 ///
-/// For the items that are put behind a window's, once, for their number of bytes.
+/// Once for items to be appended, for their number of bytes.
 #[inline(always)]
 pub fn parse_usual<A: Allocator>(alloc: A, line: &[u8]) -> Result<Option<Command<A>>, AllocError>
     ensures ok { IfOk result (λ said. IfSome said (λ c. Says line.now (line_command c))) }

@@ -1,4 +1,4 @@
-//! Writing what lines are answered.
+//! Writes the replies to lines.
 ghost use Rattle.std.specs.Prelude.{◌≡◌, ◌++◌, ◌<◌, ◌*◌, ℕ, List, Some, None};
 ghost use Rattle.std.specs.Prelude.{codes, decimal, length, OnErr, OnOk};
 ghost use Rattle.arc_forms.specs.Text.{hex, hex_digit, items_word, owner_text, range_text};
@@ -15,7 +15,7 @@ use std::boxed::BoxedSlice;
 use std::convert::AsSlice;
 use std::sync::Arc;
 
-/// What a table of bytes answers, where X holds the items that are shown.
+/// A reply of a table of bytes. X holds the items that are shown.
 pub type ByteReply<X, A> = Reply<
     Gives<X, Vec<u8, A>, BoxedSlice<u8, A>, Vec<u8, A>, Arc<Vec<u8, A>, A>, StaticSlice<u8>, u64>,
 >;
@@ -32,7 +32,7 @@ pub fn digit_of(number: u8) -> u8
     }
 }
 
-/// Why there is no such range, in words.
+/// A range error in words.
 fn range_words(error: RangeError) -> &'static [u8]
     ensures { result.now ≡ range_text error }
 {
@@ -43,7 +43,7 @@ fn range_words(error: RangeError) -> &'static [u8]
     }
 }
 
-/// Why there is no owner more, in words.
+/// An owner error in words.
 fn owner_words(error: OwnerError) -> &'static [u8]
     ensures { result.now ≡ owner_text error }
 {
@@ -53,7 +53,7 @@ fn owner_words(error: OwnerError) -> &'static [u8]
     }
 }
 
-/// Why there is no room for more items, in words.
+/// An error of making room in words.
 fn reserve_words(error: TryReserveError) -> &'static [u8]
     ensures { result.now ≡ reserve_text error }
 {
@@ -65,7 +65,7 @@ fn reserve_words(error: TryReserveError) -> &'static [u8]
     }
 }
 
-/// Appends words as they are.
+/// Appends words.
 #[inline(always)]
 fn push_words<A: Allocator>(out: &mut Vec<u8, A>, words: &[u8]) -> Result<(), AllocError>
     ensures ok { OnOk result (out.new.items ≡ out.old.items ++ words.now) }
@@ -77,7 +77,7 @@ fn push_words<A: Allocator>(out: &mut Vec<u8, A>, words: &[u8]) -> Result<(), Al
     }
 }
 
-/// Appends words as they are, or nothing where memory for them is refused.
+/// Appends words, or nothing where memory for them is refused.
 #[inline(always)]
 fn push_whole<A: Allocator>(out: &mut Vec<u8, A>, words: &[u8]) -> Result<(), AllocError>
     ensures ok { OnOk result (out.new.items ≡ out.old.items ++ words.now) }
@@ -164,7 +164,7 @@ fn push_window_line<A: Allocator>(out: &mut Vec<u8, A>, number: usize) -> Result
     Ok(())
 }
 
-/// Appends that it is done, and a line feed, or nothing where memory for that is refused.
+/// Appends `ok` and a line feed, or nothing where memory for that is refused.
 #[inline(always)]
 fn push_ok<A: Allocator>(out: &mut Vec<u8, A>) -> Result<(), AllocError>
     ensures ok { OnOk result (out.new.items ≡ out.old.items ++ codes "ok\n") }
@@ -177,7 +177,7 @@ fn push_ok<A: Allocator>(out: &mut Vec<u8, A>) -> Result<(), AllocError>
     Ok(())
 }
 
-/// Appends that it is so, and a line feed, or nothing where memory for that is refused.
+/// Appends `yes` and a line feed, or nothing where memory for that is refused.
 #[inline(always)]
 fn push_yes<A: Allocator>(out: &mut Vec<u8, A>) -> Result<(), AllocError>
     ensures ok { OnOk result (out.new.items ≡ out.old.items ++ codes "yes\n") }
@@ -257,16 +257,16 @@ fn push_line<A: Allocator, X: AsSlice<u8>>(
     }
 }
 
-/// Appends what a line is answered that says a command: the text of the reply (`answer_text` in
-/// `specs/`), and a line feed. Items take two bytes each.
+/// Appends the reply to a line that says a command: its text (`answer_text` in `specs/`), and a
+/// line feed. An item takes two bytes.
 ///
 /// # Errors
 ///
-/// `AllocError` where memory is refused for more room; `out` then has the bytes that it had.
+/// `AllocError` where memory for more room is refused; `out` then has the bytes that it had.
 ///
 /// # Allocates
 ///
-/// Where `out` has no room.
+/// Where `out` has too little room.
 #[inline(always)]
 pub fn push_answer<A: Allocator, X: AsSlice<u8>>(
     out: &mut Vec<u8, A>,
@@ -305,15 +305,15 @@ fn push_any<A: Allocator, X: AsSlice<u8>>(
     pushed
 }
 
-/// Appends what a line is answered that says no command: `bad line`, and a line feed.
+/// Appends the reply to a line that says no command: `bad line`, and a line feed.
 ///
 /// # Errors
 ///
-/// `AllocError` where memory is refused for more room; `out` then has the bytes that it had.
+/// `AllocError` where memory for more room is refused; `out` then has the bytes that it had.
 ///
 /// # Allocates
 ///
-/// Where `out` has no room.
+/// Where `out` has too little room.
 pub fn push_bad_line<A: Allocator>(out: &mut Vec<u8, A>) -> Result<(), AllocError>
     ensures ok { OnOk result
         (out.new.items ≡ out.old.items ++ answer_line None) }

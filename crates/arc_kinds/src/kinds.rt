@@ -1,4 +1,4 @@
-//! What a table's commands may ask of a kind, beside what all its kinds have.
+//! What a table's commands need of a kind, beside what all its kinds have.
 ghost use Rattle.std.specs.Prelude.{◌≡◌, ◌≤◌, Bool, List, Option, Some, None, true, false, is_some};
 ghost use Rattle.std.specs.Prelude.{IfNone, IfOk, IfSome, OnErr, refl, replicate};
 ghost use Rattle.std.specs.Vec.{vec_items};
@@ -32,21 +32,21 @@ use std::alloc::Allocator;
 use std::boxed::{BoxedSlice, BoxedStr};
 use std::sync::Arc;
 
-/// A kind of which a table may have windows, and whether it has small ones, and windows of several
-/// writers.
+/// A kind that a table's windows may have. It says whether there are small windows of it, and
+/// windows of several writers.
 pub trait TableKind: Subsliceable {
     /// Whether several may write one block.
     ghost SHARES: { Bool };
 
-    /// `HasSmall` where it has small windows, else `NoSmall`.
+    /// `HasSmall` where the kind has small windows, else `NoSmall`.
     type Small: Smalls;
 
     /// The kind of its small windows: itself where it has some, else any of bytes.
     type Bytes: Emptyable<Item = u8>;
 }
 
-/// The kinds as a table over A has them: what its commands bring, and which of the calls that not
-/// all kinds have each has.
+/// The kinds that a table over A may have: what its commands bring, and which of the calls that not
+/// all kinds have each of them has.
 pub trait Commands<A: Allocator>: Emptyable + TableKind {
     /// A list that a command brings, and a vector that is taken back: a `String` of `Text`, a `Vec`
     /// of the others.
@@ -55,7 +55,7 @@ pub trait Commands<A: Allocator>: Emptyable + TableKind {
     /// A box that is taken back: a `BoxedStr` of `Text`, a `BoxedSlice` of the others.
     type Boxed: Wraps<BoxedSlice<Self::Item, A>> + Drop;
 
-    /// A slice that is there for good: a `&'static str` of `Text`, a `StaticSlice` of the others.
+    /// A `'static` slice: a `&'static str` of `Text`, a `StaticSlice` of the others.
     type Static: Drop;
 
     /// `HasZero` where the kind has a zero, else `NoZero`.
@@ -73,10 +73,10 @@ pub trait Commands<A: Allocator>: Emptyable + TableKind {
     /// The items of a box.
     ghost items_in_box: { Self.Boxed → List Self.Item };
 
-    /// The items of a slice that is there for good.
+    /// The items of a `'static` slice.
     ghost static_in: { Self.Static → List Self.Item };
 
-    /// A slice that is there for good, as one of items.
+    /// A `'static` slice, as one of items.
     fn lasting(items: Self::Static) -> StaticSlice<Self::Item>
         ensures list { result ≡ static_in items }
         ensures legal { ∥ Self.is_legal result ∥₁ };
@@ -85,11 +85,11 @@ pub trait Commands<A: Allocator>: Emptyable + TableKind {
     ghost items_are: { (items : Self.Items) (inner : Vec Self.Item A)
         → Self.Items.wraps items inner → inner.items ≡ items_in items };
 
-    /// It wraps none but of a legal list.
+    /// A list wraps only vectors of a legal list.
     ghost items_legal: { (inner : Vec Self.Item A)
         → Self.Items.may_wrap inner → Self.is_legal inner.items };
 
-    /// And it may wrap each of those.
+    /// A list may wrap each vector of a legal list.
     ghost items_wrap: { (inner : Vec Self.Item A)
         → Self.is_legal inner.items → Self.Items.may_wrap inner };
 
@@ -97,7 +97,7 @@ pub trait Commands<A: Allocator>: Emptyable + TableKind {
     ghost box_items_are: { (items : Self.Boxed) (inner : BoxedSlice Self.Item A)
         → Self.Boxed.wraps items inner → boxed_slice_items inner ≡ items_in_box items };
 
-    /// It may wrap each of a legal list.
+    /// A box may wrap each box of a legal list.
     ghost box_wraps: { (inner : BoxedSlice Self.Item A)
         → Self.is_legal (boxed_slice_items inner) → Self.Boxed.may_wrap inner };
 
@@ -105,13 +105,13 @@ pub trait Commands<A: Allocator>: Emptyable + TableKind {
     ghost any_is_legal: { Self.Calls.calls.any_list ≡ true → (xs : List Self.Item)
         → Self.is_legal xs };
 
-    /// That a list is legal is a fact: it says no more than that it holds.
+    /// A truncated proof that a list is legal gives the proof itself.
     ghost legal_is_fact: { (xs : List Self.Item) → ∥ Self.is_legal xs ∥₁ → Self.is_legal xs };
 
-    /// Its calls say that it has small windows where it has.
+    /// Its calls say whether it has small windows.
     ghost small_is: { Self.Calls.calls.small ≡ Self.Small.small };
 
-    /// Several write one block where the kind's windows may.
+    /// Its calls say whether several writers may write one block.
     ghost shares_is: { Self.Calls.calls.shares ≡ Self.SHARES };
 
     /// Its calls are those of that kind.
@@ -121,13 +121,13 @@ pub trait Commands<A: Allocator>: Emptyable + TableKind {
     ghost zero_is: { is_some Self.Zero.zero ≡ has_zero kind (is_some Self.Zero.zero) };
 }
 
-/// What a table of windows of kind S is asked, with callers' buffers B, metadata M, and A for
+/// A command on a table of windows of kind S, with callers' buffers B, metadata M, and A for
 /// vectors.
 pub type TableCmd<S, B, M, A> = Cmd<
     Carries<<S as Commands<A>>::Items, <S as Commands<A>>::Static, B, M, <S as Slice>::Item>,
 >;
 
-/// What a table of windows of kind S answers, with callers' buffers B, metadata M, and A for
+/// The reply of a table of windows of kind S, with callers' buffers B, metadata M, and A for
 /// vectors and boxes.
 pub type TableReply<S, B, M, A> = Reply<
     Gives<
@@ -141,7 +141,7 @@ pub type TableReply<S, B, M, A> = Reply<
     >,
 >;
 
-/// What such a table answers that lends what it shows.
+/// The reply of such a table that lends the items of a `Show`.
 pub type LentReply<'a, S, B, M, A> = Reply<
     Gives<
         &'a [<S as Slice>::Item],
@@ -194,8 +194,8 @@ pub fn known_small<S: Commands<A>, A: Allocator>()
     ensures { S.Calls.calls.small ≡ S.Small.small }
 {}
 
-/// Items of plain data that a table may have. A type whose items have no zero is one by
-/// `impl TableItem for Type { type Zero = NoZero; type Small = NoSmall; }`.
+/// Items of `Plain` that a table may have. A type without a zero becomes one by `impl TableItem for
+/// Type { type Zero = NoZero; type Small = NoSmall; }`.
 pub trait TableItem: Copy + Drop {
     /// `HasZero` where the type has a zero, else `NoZero`.
     type Zero: ZeroOf<Plain<Self>>;
@@ -204,17 +204,17 @@ pub trait TableItem: Copy + Drop {
     type Small: Smalls;
 }
 
-/// Whether a kind S has a zero, and windows over zeros.
+/// Whether a kind S has a zero, and so windows over zeros.
 pub trait ZeroOf<S: Slice> {
     /// The zero, if there is one.
     ghost zero: { Option S.Item };
 
-    /// Whether there is one.
+    /// Whether the kind has a zero.
     fn has_zero() -> bool
         ensures { result ≡ is_some zero };
 
-    /// A window that is written, over so many zeros, as `ArcSliceMut::try_zeroed_as` makes it, or
-    /// `None` where there is no zero; the pass is then as before.
+    /// A window that is written, over `count` zeros, as `ArcSliceMut::try_zeroed_as` makes it, or
+    /// `None` where the kind has no zero.
     ///
     /// # Errors
     ///
@@ -226,7 +226,7 @@ pub trait ZeroOf<S: Slice> {
     ///
     /// # History
     ///
-    /// The block's begins: the window is owner 0.
+    /// Where a block is made its history begins, with the window as owner 0.
     fn try_zeroed_as<L: LayoutMut, B: BufferMut<S::Item> + Drop, M: Drop, A: Allocator + Copy>(
         alloc: A,
         count: usize,
@@ -241,10 +241,10 @@ pub trait ZeroOf<S: Slice> {
         ensures none { IfNone result (pass.new ≡ pass.old) };
 }
 
-/// There is a zero.
+/// The kind has a zero.
 pub struct HasZero;
 
-/// There is none.
+/// The kind has no zero.
 pub struct NoZero;
 
 impl<S: Slice> ZeroOf<S> for NoZero {

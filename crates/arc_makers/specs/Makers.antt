@@ -10,8 +10,8 @@ use Rattle.arc_commands.specs.declared.command.Reply.TheVariants as reply
 use Rattle.arc_slots.specs.Slots.{SlotView, row_of, stand_of}
 
 -- The window is that row, of what the command brings with so many places, under the next number,
--- and stands on nothing or as the first owner of a block more. Or none was made and nothing
--- changed: there is no such row, or memory was refused.
+-- and stands on nothing or as the first owner of a new block. Or none was made and nothing changed:
+-- there is no such row, or memory was refused.
 pub record Makes {T M : Type 0} (setting : Setting T) (windows : ℕ) (c : ListCmd T M)
     (before : List (Pass Whole)) (r : ListReply T M) (made : Option (SlotView T M))
     (after : List (Pass Whole)) : Type 0 where

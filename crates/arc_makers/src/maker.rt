@@ -1,4 +1,4 @@
-//! A window that a command makes of what it brings.
+//! Windows that a command makes of what it brings.
 ghost use Rattle.std.specs.Prelude.{◌≡◌, ◌<◌, ◌≤◌, IfErr, IfOk, Some, true, is_some, length};
 ghost use Rattle.std.specs.Vec.{vec_capacity};
 ghost use Rattle.arc_parts.specs.Writers.{IsNewWriter, idle_writer};
@@ -31,7 +31,7 @@ use small::over_few;
 use std::alloc::Allocator;
 use std::sync::Arc;
 
-/// A writer's slot, on nothing, or as the first owner of a block more, which keeps its pass.
+/// A writer's slot: on nothing, or as the first owner of a new block, whose pass is kept.
 fn writer<S: Commands<A>, L: Layout, B: BufferMut<S::Item> + Drop, M: Drop, A: Allocator + Copy>(
     window: ArcSliceMut<S, L::Writable, 1, B, M, A, Whole>,
     places: usize,
@@ -57,7 +57,7 @@ where
     Slot::written(window, block)
 }
 
-/// A reader's slot, of a window that was made of this many items.
+/// A reader's slot, of a window over so many items.
 fn reader<S: Commands<A>, L: Layout, B: BufferMut<S::Item> + Drop, M: Drop, A: Allocator + Copy>(
     alloc: A,
     items: &[S::Item],
@@ -128,7 +128,7 @@ where
     }
 }
 
-/// A reader's slot, of a window that was made of a vector with so many places.
+/// A reader's slot, of a window over a vector with so many places.
 fn vector<S: Commands<A>, L: Layout, B: BufferMut<S::Item> + Drop, M: Drop, A: Allocator + Copy>(
     alloc: A,
     items: Vec<S::Item, A>,
@@ -201,7 +201,7 @@ fn known_places<T, B: Buffer<T>>(given: &B)
     let _ = given.as_slice();
 }
 
-/// A reader's slot, of a window that was made of a caller's buffer.
+/// A reader's slot, of a window over a caller's buffer.
 fn buffer_reader<
     S: Commands<A>,
     L: Layout,
@@ -279,7 +279,7 @@ where
     }
 }
 
-/// A writer's slot, of a window that was made of a caller's buffer.
+/// A writer's slot, of a window over a caller's buffer.
 fn buffer_writer<
     S: Commands<A>,
     L: Layout,
@@ -357,7 +357,7 @@ where
     }
 }
 
-/// A reader's slot, of a window that was made of a caller's buffer behind an `Arc`.
+/// A reader's slot, of a window over a caller's buffer behind an `Arc`.
 fn raw_reader<
     S: Commands<A>,
     L: Layout,
@@ -393,7 +393,7 @@ where
     Ok(Slot { window, block })
 }
 
-/// A window that is read, over a caller's buffer behind an `Arc`, which is made.
+/// A window that is read, over a caller's buffer behind an `Arc`. The `Arc` is made too.
 fn over_raw<S: Commands<A>, L: Layout, B: BufferMut<S::Item> + Drop, M: Drop, A: Allocator + Copy>(
     alloc: A,
     given: B,
@@ -430,7 +430,7 @@ where
     }
 }
 
-/// A window that is read, over a slice that is there for good.
+/// A window that is read, over a `'static` slice.
 fn over_static<
     S: Commands<A>,
     L: Layout,
@@ -491,7 +491,7 @@ where
     )
 }
 
-/// A window that is written, with no items and so many places.
+/// A window that is written, without items, with so many places.
 #[tactic(auto, using(crate::proofs::Made::own_items, crate::proofs::Made::made_so))]
 fn with_places<
     S: Commands<A>,
@@ -615,16 +615,17 @@ where
     )
 }
 
-/// Makes the window of a command that brings what it is made of: the reply, and the window, if it
-/// was made. That goes under the next number, where there is room for it.
+/// Makes the window of a command that brings what it is made of. It answers the reply, and the
+/// window if one is made. The caller puts that under the next number. Where the table has no room
+/// for it, the reply is `Alloc`.
 ///
 /// # Allocates
 ///
-/// As the call that makes such a window, and for the pass of a block.
+/// What the call takes that makes such a window, and for the pass of a block.
 ///
 /// # History
 ///
-/// That of a block that is made begins.
+/// Where a block is made its history begins.
 pub fn make<S: Commands<A>, L: Layout, B: BufferMut<S::Item> + Drop, M: Drop, A: Allocator + Copy>(
     alloc: A,
     command: TableCmd<S, B, M, A>,
@@ -656,7 +657,7 @@ where
         Cmd::Cap { places } => with_places(alloc, places, next, has_room, passes),
         Cmd::Zero { count } => over_zeros(alloc, count, next, has_room, passes),
         Cmd::MSlice(items) => over_written_copy(alloc, items, next, has_room, passes),
-        // The others are on a window.
+        // The other commands are on a window.
         _ => (Reply::Kind, None),
     }
 }

@@ -1,6 +1,8 @@
 -- Owners that keep a part or a range of lent memory, before and after a call.
-use Rattle.std.specs.Prelude.{◌≡◌, ℕ}
+use Rattle.std.specs.Prelude.{◌≡◌, ℕ, Bool, if◌then◌else◌}
 use Rattle.arc_owners.specs.declared.mark.Mark.{Ghosts}
+use Rattle.arc_owners.specs.count.Calls.{Owner, MakesAnother}
+use Rattle.arc_owners.specs.declared.count.tokens.Pass.{Pass}
 use Rattle.arc_owners.specs.declared.memory.counted_box.CountedBox.{CountedBox}
 use Rattle.arc_owners.specs.declared.memory.sole_box.SoleBox.{SoleBox}
 use Rattle.arc_owners.specs.memory.Boxes.{owner_in, value_of, place_in}
@@ -17,6 +19,13 @@ module _ {V A H : Type 0} {MAX : ℕ} {G : Ghosts H} where
   abbrev pub IsSoleAgain : CountedBox V A MAX H G → SoleBox V A MAX H G → Type 0
   IsSoleAgain p b = (sole_in b ≡ owner_in p) × (sole_value b ≡ value_of p)
       × (sole_place b ≡ place_in p)
+
+-- What this owner had is in two parts now. One of them is his, the front or the back, and the other
+-- is another owner's, who was made.
+pub record SplitsOwner {H : Type 0} (front_stays : Bool) (o : Owner) (old new : Pass H)
+    (front back : Owner) : Type 0 where
+  pub stays : (if front_stays then front else back) ≡ o
+  pub made : MakesAnother o old new (if front_stays then back else front)
 
 -- the same items in the same memory
 abbrev pub IsSameRange : {T : Type 0} → FrozenPlaces T → FrozenPlaces T → Type 0

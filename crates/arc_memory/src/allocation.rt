@@ -11,7 +11,7 @@ use std::marker::Model;
 
 /// The right to free an allocation, whose places are owned apart. Contracts see where it begins,
 /// how many places it has, how many items lay in it when it was parted from them, and its
-/// allocator. Neither copied nor dropped.
+/// allocator. It is neither copied nor dropped.
 pub struct Allocation<T, A: Allocator> {
     emptied: Emptied<T, A>,
     count: usize,

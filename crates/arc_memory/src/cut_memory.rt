@@ -1,4 +1,5 @@
-//! The memory of a native block while its only owner writes, parted at the ends of his places.
+//! The memory of a native block while its only owner writes, cut at both ends of the writer's
+//! places.
 ghost use Rattle.std.specs.Prelude.{◌≡◌, ◌+◌, ◌-◌, ◌<◌, ◌≤◌, ◌∷◌, [], ◌++◌, length, take, drop};
 ghost use Rattle.std.specs.Prelude.{OnOk, OnErr};
 ghost use Rattle.arc_memory.specs.Sources.{IsFrom, IsFrom-set};
@@ -12,10 +13,10 @@ use arc_owners::error::AllocError;
 use core::mem::replace_with;
 use std::alloc::Allocator;
 
-/// All places of one piece of memory, or none, of which the writer's own lie apart from those
-/// before and behind them: so where his items begin, how many they are, and how many places he has
-/// are words of their own, and no call on his items looks at anything else. Neither copied nor
-/// dropped: as `WriterMemory` it gives its memory back.
+/// All places of one piece of memory, or none. The writer's own places are kept apart from those
+/// before and behind them. So where the items begin, how many they are, and how many places the
+/// writer has are words of their own, and no call on the items reads anything else. It is neither
+/// copied nor dropped: as `WriterMemory` it gives its memory back.
 pub struct CutMemory<T: Drop, A: Allocator> {
     pub places: WriterPlaces<T>,
     pub before: Places<T>,
@@ -48,7 +49,7 @@ impl<T: Drop, A: Allocator> CutMemory<T, A> {
         Self::of(WriterMemory::nothing(), 0)
     }
 
-    /// A writer's memory, of which he keeps the first `capacity` places, and leaves the others.
+    /// A writer's memory, of which the writer keeps the first `capacity` places.
     #[inline(always)]
     pub fn of(memory: WriterMemory<T, A>, capacity: usize) -> Self
         requires { (length memory.places.vec.items ≤ capacity)
@@ -70,8 +71,8 @@ impl<T: Drop, A: Allocator> CutMemory<T, A> {
         }
     }
 
-    /// The memory with the writer's items, where others are forgotten: he has all places behind
-    /// them.
+    /// The memory with the writer's items; others are forgotten. The writer has all places behind
+    /// its items.
     #[inline(always)]
     pub fn into_own(self) -> WriterMemory<T, A>
         requires { KeepsOwn self }
@@ -95,7 +96,7 @@ impl<T: Drop, A: Allocator> CutMemory<T, A> {
         }
     }
 
-    /// The memory with all items, those of other places than the writer's too.
+    /// The memory with all items, also those in places that aren't the writer's.
     #[inline(always)]
     pub fn into_all(self) -> WriterMemory<T, A>
         requires { KeepsAll self }
@@ -129,7 +130,7 @@ impl<T: Drop, A: Allocator> CutMemory<T, A> {
         self.places.as_slice()
     }
 
-    /// The items, to be changed in their places: what is written there they are afterwards.
+    /// The items, to be changed in their places: they are what is written there.
     #[inline(always)]
     pub fn as_mut_slice(&mut self) -> &mut [T]
         ensures* writes_back { sem 𝓛 (LendsCut T.row A.row A.Allocator self.entry result) }
@@ -187,7 +188,7 @@ impl<T: Drop, A: Allocator> CutMemory<T, A> {
         }
     }
 
-    /// An item more, behind the others, where there is a place for it.
+    /// Appends an item. There is a place for it.
     #[inline(always)]
     pub fn push_reserved(&mut self, item: T)
         requires { length self.old.places.vec.items < self.old.places.under.count }
@@ -197,7 +198,7 @@ impl<T: Drop, A: Allocator> CutMemory<T, A> {
         self.places.push_reserved(item);
     }
 
-    /// Leaves the first `len` items. Those behind them are forgotten: it is for items that need no
+    /// Keeps the first `len` items. Those behind them are forgotten: it is for items that need no
     /// drop.
     #[inline(always)]
     pub fn truncate(&mut self, len: usize)
@@ -261,7 +262,7 @@ impl<T: Drop, A: Allocator> CutMemory<T, A> {
         (memory, ())
     }
 
-    /// Leaves the first `len` items, with no other place. Those behind them stay there.
+    /// Keeps the first `len` items, with no other place. Those behind them stay there.
     pub fn keep_back(&mut self, len: usize)
         requires len { len ≤ length self.old.places.vec.items }
         requires all { KeepsAll self.old }
@@ -301,7 +302,7 @@ impl<T: Drop, A: Allocator> CutMemory<T, A> {
         (memory, ())
     }
 
-    /// Has all places up to the end of the memory.
+    /// Takes all places up to the end of the memory.
     pub fn widen(&mut self)
         requires { KeepsOwn self.old }
         ensures items { self.new.places.vec.items ≡ self.old.places.vec.items }
@@ -325,7 +326,7 @@ impl<T: Drop, A: Allocator> CutMemory<T, A> {
         (Self::of(memory, capacity), ())
     }
 
-    /// Moves the items to the first places of the memory, all of which are the writer's then.
+    /// Moves the items to the first places of the memory. All places are the writer's then.
     pub fn to_front(&mut self)
         requires { KeepsOwn self.old }
         ensures items { self.new.places.vec.items ≡ self.old.places.vec.items }
@@ -348,12 +349,12 @@ impl<T: Drop, A: Allocator> CutMemory<T, A> {
         (Self::of(memory, capacity), ())
     }
 
-    /// Makes it memory of so many places, with the writer's items in the same places: he has all
-    /// behind them.
+    /// Grows the memory to `count` places, with the writer's items in the same places. The writer
+    /// has all places behind them.
     ///
     /// # Errors
     ///
-    /// `AllocError` as `WriterMemory::new`; everything is then as before.
+    /// `AllocError` where `WriterMemory::new` answers it; nothing is changed then.
     ///
     /// # Allocates
     ///
@@ -389,12 +390,12 @@ impl<T: Drop, A: Allocator> CutMemory<T, A> {
         (Self::of(larger, capacity), ())
     }
 
-    /// Makes it memory of so many places, with all items in the same places, where none lie behind
-    /// the writer's.
+    /// Grows the memory to `count` places, with all items in the same places. None lie behind the
+    /// writer's.
     ///
     /// # Errors
     ///
-    /// `AllocError` as `WriterMemory::new`; everything is then as before.
+    /// `AllocError` where `WriterMemory::new` answers it; nothing is changed then.
     ///
     /// # Allocates
     ///
@@ -447,7 +448,7 @@ impl<T: Drop, A: Allocator> CutMemory<T, A> {
 impl<T: Copy + Drop, A: Allocator> CutMemory<T, A> {
     ghost use Rattle.arc_memory.specs.CutMemories.{SameCut};
 
-    /// A copy of these items, behind the others, where there are places for them.
+    /// Appends a copy of these items. There are places for them.
     #[inline(always)]
     pub fn extend_from_slice(&mut self, items: &[T])
         requires { length self.old.places.vec.items + length items.now

@@ -7,8 +7,8 @@ use crate::places::Places;
 use std::alloc::Allocator;
 use std::marker::{Move, Owns, PhantomData};
 
-/// A vector that is parted from its items: contracts see the extent of its allocation. Neither
-/// copied nor dropped.
+/// A vector that is parted from its items: contracts see the extent of its allocation. It is
+/// neither copied nor dropped.
 pub(crate) struct Emptied<T, A: Allocator> {
     vec: Vec<T, A>,
 }

@@ -89,8 +89,8 @@ impl<T, V: Drop, A: Allocator + Copy, const MAX: u64, H: Mark> FrozenReader<T, V
         unsafe { self.range.as_slice(self.owner.lifetime(), base, start, end) }
     }
 
-    /// One attempt to make another reader of the same range: one owner more of the same block.
-    /// Nothing where another thread's step came between, and then no entry is added. Takes no
+    /// One attempt to make another reader of the same range: one owner more of the same block. It
+    /// answers `None`, and adds no entry, where another thread's step came between. Takes no
     /// memory, and copies nothing.
     ///
     /// # Errors
@@ -99,7 +99,7 @@ impl<T, V: Drop, A: Allocator + Copy, const MAX: u64, H: Mark> FrozenReader<T, V
     ///
     /// # History
     ///
-    /// Up, or Full where refused.
+    /// Up, or Full where it is refused.
     #[inline(always)]
     pub fn try_again_once_as(
         &self,
@@ -129,8 +129,8 @@ impl<T, V: Drop, A: Allocator + Copy, const MAX: u64, H: Mark> FrozenReader<T, V
     }
 
     /// The only owner, where no other owner lives, reader or writer: with the value come the range
-    /// and that the lifetime has ended, for which all places come back. Else it is handed back.
-    /// Takes no memory.
+    /// and that the lifetime has ended, for which all places come back. Else it is handed back. It
+    /// takes no memory.
     ///
     /// # History
     ///
@@ -160,7 +160,7 @@ impl<T, V: Drop, const MAX: u64, H: Mark> FrozenReader<T, V, Lodged, MAX, H> {
     ghost use Rattle.arc_owners.specs.memory.Boxes.{owner_in, value_of, place_in};
 
     /// Ends this reader. The last owner gets the value, the room in which it lay, and that the
-    /// lifetime has ended, for which all places come back. Takes no memory.
+    /// lifetime has ended, for which all places come back. It takes no memory.
     ///
     /// # History
     ///
@@ -177,10 +177,9 @@ impl<T, V: Drop, const MAX: u64, H: Mark> FrozenReader<T, V, Lodged, MAX, H> {
         owner.release_with_room_as(pass)
     }
 
-    /// What a drop does: under `Open` this reader ends with a new pass, and the last owner gets the
-    /// value, the room in which it lay, and that the lifetime has ended; under `Whole` it is
-    /// forgotten, without a step. Takes no memory. The pass is the one that the owner ended with;
-    /// under `Whole` it is of no block.
+    /// What a drop does. Under `Open` this reader ends with a new pass, and the last owner gets the
+    /// value, the room in which it lay, and that the lifetime has ended. Under `Whole` it is a
+    /// forgotten owner: no step is made, and the pass is one of no block. It takes no memory.
     #[inline(always)]
     pub fn let_go(self) -> (Option<(V, HeaderRoom<Header<V>>, EndedLifetime)>, Pass<H>)
         ensures value { IfSome result.0 (λ r. r.0 ≡ value_of self.owner) }

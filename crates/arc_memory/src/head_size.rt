@@ -6,7 +6,7 @@ ghost use Rattle.arc_memory.specs.Pieces.{head_size};
 
 use std::marker::{Model, PhantomData};
 
-/// How large a header of type X is, and to how many bytes it is aligned. No bytes.
+/// How large a header of type X is, and to how many bytes it is aligned. It has no bytes.
 #[derive(Drop)]
 pub struct HeadSize<X> {
     pub(crate) marker: PhantomData<X>,
@@ -29,7 +29,7 @@ impl<X> HeadSize<X> {
         }
     }
 
-    /// The same once more.
+    /// A copy of it.
     pub fn again(&self) -> HeadSize<X>
         ensures { result.size ≡ self.now.size }
     {

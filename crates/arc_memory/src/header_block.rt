@@ -6,8 +6,8 @@ ghost use Rattle.arc_memory.specs.Pieces.{IsWhole, units_of};
 use std::alloc::Allocator;
 use std::marker::{Model, PhantomData};
 
-/// A block of this allocator's in which nothing lies, and the right to free it. Neither copied nor
-/// dropped.
+/// A block of this allocator's in which nothing lies, and the right to free it. It is neither
+/// copied nor dropped.
 pub(crate) struct HeaderBlock<A: Allocator> {
     pub(crate) ptr: *mut u8,
     pub(crate) marker: PhantomData<A>,

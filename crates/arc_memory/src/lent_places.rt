@@ -199,7 +199,7 @@ impl<T> LentPlaces<T> {
 impl<T> OpenPlaces<T> {
     ghost use Rattle.arc_memory.specs.Allocations.{IsPartOfLent};
 
-    /// The part again, with what lies in its places now, and its share of the lifetime.
+    /// The part again, with what lies in its places, and its share of the lifetime.
     pub fn close(self, places: Places<T>) -> (LentPlaces<T>, LifetimeToken)
         requires memory { IsPartOfLent self.memory places }
         requires places { (places.start ≡ self.start) × (places.count ≡ self.count) }

@@ -1,15 +1,19 @@
 //! The memory in which a native block's items lie: its places, and apart from them the right to
 //! free it.
 //!
-//! `take_apart` makes both of a vector, and `put_together` the vector again. Places can be cut and
-//! joined, edited by a vector that lodges in them (`Lodging`), and lent for a lifetime to several
-//! writers (`LentPlaces`), who may freeze their items for readers (`FrozenPlaces`). Memory that is
-//! lent for the lease of a block's owners has several writers (`WriterPart`) and readers
-//! (`FrozenReader`), and leaves in the counted box what is kept for its end (`Kept`). Memory of our
-//! own is one piece (`Piece`): in front the room for a header, in which that box lies, and behind
-//! it the places. It is one writer's (`WriterMemory`), who lends its places and has them back, and
-//! moves no item for it. While he writes, his own places lie apart from those before and behind
-//! them (`CutMemory`), so that no call on his items looks at these.
+//! `take_apart` makes both of a vector, and `put_together` makes the vector again. Places can be
+//! cut and joined. A vector that lodges in them edits them (`Lodging`). They can be lent for a
+//! lifetime to several writers (`LentPlaces`), who may freeze their items for readers
+//! (`FrozenPlaces`).
+//!
+//! Memory that is lent for the lease of a block's owners has several writers (`WriterPart`) and
+//! readers (`FrozenReader`). What is kept for the end of the lease is in the counted box (`Kept`).
+//!
+//! The library's own memory is one piece (`Piece`): in front is the room for a header, in which
+//! that box lies, and behind it are the places. One writer has it (`WriterMemory`). The writer
+//! lends its places and gets them back, and moves no item for that. While it writes, its own places
+//! are kept apart from those before and behind them (`CutMemory`), so that no call on its items
+//! reads these.
 #![tactic(auto)]
 
 pub use allocation::{Allocation, put_together, take_apart};

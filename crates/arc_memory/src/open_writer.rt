@@ -14,7 +14,7 @@ use arc_owners::owners::CountedBoxWithoutLifetime;
 use std::alloc::Allocator;
 
 /// What is left of one of several writers while its places are out: an owner that makes no step,
-/// whose share of the lifetime is with the places. Neither copied nor dropped.
+/// whose share of the lifetime is with the places. It is neither copied nor dropped.
 pub struct OpenWriter<T, V: Drop, A: Allocator + Copy, const MAX: u64, H: Mark> {
     pub rest: CountedBoxWithoutLifetime<V, A, MAX, H>,
     pub out: OpenPlaces<T>,
@@ -28,8 +28,8 @@ impl<T, V: Drop, A: Allocator + Copy, const MAX: u64, H: Mark> OpenWriter<T, V, 
     ghost use Rattle.arc_owners.specs.memory.Boxes.{owner_in_rest, value_of_rest, place_in_rest};
     ghost use Rattle.arc_memory.specs.Allocations.{IsPartOfLent};
 
-    /// The writer again, with what lies in its places now. It adds no entry, takes no memory and is
-    /// no instruction.
+    /// The writer again, with what lies in its places. It adds no entry, takes no memory and
+    /// compiles to no instruction.
     #[inline(always)]
     pub fn close(self, places: Places<T>) -> WriterPart<T, V, A, MAX, H>
         requires memory { IsPartOfLent self.out.memory places }

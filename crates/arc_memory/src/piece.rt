@@ -12,8 +12,8 @@ use arc_owners::owners::HeaderRoom;
 use arc_owners::sizes::type_bytes;
 use std::alloc::Allocator;
 
-/// The right to free one piece of memory, whose header's room and whose places are owned apart.
-/// Neither copied nor dropped.
+/// The right to free one piece of memory, whose header's room and whose places are owned apart. It
+/// is neither copied nor dropped.
 pub struct Piece<T, A: Allocator> {
     pub(crate) right: PieceRight<T, A>,
     pub(crate) count: usize,

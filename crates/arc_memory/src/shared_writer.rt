@@ -18,7 +18,7 @@ use std_alloc::vec::Lodged;
 
 /// An owner of a block, with the places of its part, in which a vector lodges: it reads and edits
 /// the items by `places`, as a vector's. For a step on the count it is closed and opened again,
-/// which is no instruction. Neither copied nor dropped.
+/// which compiles to no instruction. It is neither copied nor dropped.
 pub struct SharedWriter<T, V: Drop, A: Allocator + Copy, const MAX: u64, H: Mark> {
     pub rest: OpenWriter<T, V, A, MAX, H>,
     pub places: WriterPlaces<T>,
@@ -29,8 +29,7 @@ pub struct SharedWriter<T, V: Drop, A: Allocator + Copy, const MAX: u64, H: Mark
 }
 
 impl<T, V: Drop, A: Allocator + Copy, const MAX: u64, H: Mark> SharedWriter<T, V, A, MAX, H> {
-    ghost use Rattle.arc_owners.specs.count.Calls.{IsPassFor, Asks, MakesAnother, FindsFull};
-    ghost use Rattle.arc_owners.specs.count.Calls.{Leaves, Learns};
+    ghost use Rattle.arc_owners.specs.count.Calls.{IsPassFor, Asks, FindsFull, Leaves, Learns};
     ghost use Rattle.arc_owners.specs.memory.Boxes.{owner_in, value_of, place_in};
     ghost use Rattle.arc_owners.specs.memory.SoleBoxes.{sole_in, sole_value, sole_place};
     ghost use Rattle.arc_memory.specs.LentRanges.{part_range, front_range, back_range};
@@ -38,6 +37,7 @@ impl<T, V: Drop, A: Allocator + Copy, const MAX: u64, H: Mark> SharedWriter<T, V
     ghost use Rattle.arc_memory.specs.SharedWriters.{writer_owner, writer_value, writer_range};
     ghost use Rattle.arc_memory.specs.SharedWriters.{writer_place};
     ghost use Rattle.arc_memory.specs.SharedWriters.{writer_items, IsSameWriter, HasRange};
+    ghost use Rattle.arc_memory.specs.WriterParts.{SplitsOwner};
     ghost use Rattle.arc_memory.specs.LendsWriters.{LendsWriter};
     ghost use Rattle.std.specs.Borrow.{sem};
 
@@ -91,8 +91,7 @@ impl<T, V: Drop, A: Allocator + Copy, const MAX: u64, H: Mark> SharedWriter<T, V
         self.places.as_slice()
     }
 
-    /// The items, to be changed in their places: what is written there they are afterwards. It adds
-    /// no entry.
+    /// The items, to be changed in their places: they are what is written there. It adds no entry.
     #[inline(always)]
     pub fn as_mut_slice(&mut self) -> &mut [T]
         ensures* writes_back { sem 𝓛 (LendsWriter T.row V.row A.row MAX.row H.row H.Mark
@@ -102,7 +101,7 @@ impl<T, V: Drop, A: Allocator + Copy, const MAX: u64, H: Mark> SharedWriter<T, V
         self.places.as_mut_slice()
     }
 
-    /// An item more, behind the others, where there is a place for it. It adds no entry.
+    /// Appends an item. There is a place for it. It adds no entry.
     #[inline(always)]
     pub fn push_reserved(&mut self, item: T)
         requires { length (writer_items self.old) < (writer_range self.old).count }
@@ -113,7 +112,7 @@ impl<T, V: Drop, A: Allocator + Copy, const MAX: u64, H: Mark> SharedWriter<T, V
         self.places.push_reserved(item);
     }
 
-    /// Leaves the first `len` items, and all places. The items behind them are forgotten: it is for
+    /// Keeps the first `len` items, and all places. The items behind them are forgotten: it is for
     /// items that need no drop. It adds no entry.
     #[inline(always)]
     pub fn truncate(&mut self, len: usize)
@@ -153,8 +152,9 @@ impl<T, V: Drop, A: Allocator + Copy, const MAX: u64, H: Mark> SharedWriter<T, V
         )
     }
 
-    /// This writer of the first `at` places, and another one of those behind them, with the items
-    /// that lie there: one owner more of the same block. Takes no memory.
+    /// The first `at` places, and those behind them, with the items that lie there: two writers.
+    /// One of them is this one, of the front where `FRONT_STAYS`, else of the back; the other is
+    /// one owner more of the same block. It takes no memory.
     ///
     /// # Errors
     ///
@@ -162,8 +162,8 @@ impl<T, V: Drop, A: Allocator + Copy, const MAX: u64, H: Mark> SharedWriter<T, V
     ///
     /// # History
     ///
-    /// Up, or Full where refused.
-    pub fn try_split_off_as(
+    /// Up, or Full where it is refused.
+    pub fn try_split_as<const FRONT_STAYS: bool>(
         self,
         rt: &impl Wait,
         at: usize,
@@ -171,10 +171,12 @@ impl<T, V: Drop, A: Allocator + Copy, const MAX: u64, H: Mark> SharedWriter<T, V
     ) -> Result<(Self, Self), (Self, CountFull)>
         requires pass { IsPassFor (writer_owner self) pass.old }
         requires at { at ≤ (writer_range self).count }
-        ensures made { IfOk result (λ r. MakesAnother (writer_owner self) pass.old pass.new
-            (writer_owner r.1) × (writer_value r.1 ≡ writer_value self)
+        ensures owners { IfOk result (λ r. SplitsOwner FRONT_STAYS (writer_owner self)
+            pass.old pass.new (writer_owner r.0) (writer_owner r.1)) }
+        ensures value { IfOk result (λ r. (writer_value r.0 ≡ writer_value self)
+            × (writer_value r.1 ≡ writer_value self)) }
+        ensures place { IfOk result (λ r. (writer_place r.0 ≡ writer_place self)
             × (writer_place r.1 ≡ writer_place self)) }
-        ensures stays { IfOk result (λ r. IsSameWriter self r.0) }
         ensures front { IfOk result (λ r. HasRange r.0 (front_range at (writer_range self))
             (take at (writer_items self))) }
         ensures back { IfOk result (λ r. HasRange r.1 (back_range at (writer_range self))
@@ -186,7 +188,7 @@ impl<T, V: Drop, A: Allocator + Copy, const MAX: u64, H: Mark> SharedWriter<T, V
         let (base, start) = (self.places.base(), self.places.start());
         let (len, capacity) = (self.places.len(), self.places.capacity());
         let (first, others) = cut_lengths(self.places.as_slice(), at);
-        match self.into_part().try_split_off_as(rt, at, pass) {
+        match self.into_part().try_split_as::<FRONT_STAYS>(rt, at, pass) {
             Ok((front, back)) => {
                 let front = unsafe { Self::of(front, base, start, first, at) };
                 let back = unsafe { Self::of(back, base, start + at, others, capacity - at) };
@@ -196,52 +198,9 @@ impl<T, V: Drop, A: Allocator + Copy, const MAX: u64, H: Mark> SharedWriter<T, V
         }
     }
 
-    /// This writer of the places behind the first `at`, and another one of these, with the items
-    /// that lie there: one owner more of the same block. Takes no memory.
-    ///
-    /// # Errors
-    ///
-    /// `CountFull` exactly where `MAX` owners live; the writer is handed back.
-    ///
-    /// # History
-    ///
-    /// Up, or Full where refused.
-    pub fn try_split_to_as(
-        self,
-        rt: &impl Wait,
-        at: usize,
-        pass: &mut Pass<H>,
-    ) -> Result<(Self, Self), (Self, CountFull)>
-        requires pass { IsPassFor (writer_owner self) pass.old }
-        requires at { at ≤ (writer_range self).count }
-        ensures made { IfOk result (λ r. MakesAnother (writer_owner self) pass.old pass.new
-            (writer_owner r.1) × (writer_value r.1 ≡ writer_value self)
-            × (writer_place r.1 ≡ writer_place self)) }
-        ensures stays { IfOk result (λ r. IsSameWriter self r.0) }
-        ensures back { IfOk result (λ r. HasRange r.0 (back_range at (writer_range self))
-            (drop at (writer_items self))) }
-        ensures front { IfOk result (λ r. HasRange r.1 (front_range at (writer_range self))
-            (take at (writer_items self))) }
-        ensures full { IfErr result (λ _. FindsFull (writer_owner self) pass.old pass.new) }
-        ensures kept { IfErr result (λ r. IsSameWriter self r.0
-            × HasRange r.0 (writer_range self) (writer_items self)) }
-    {
-        let (base, start) = (self.places.base(), self.places.start());
-        let (len, capacity) = (self.places.len(), self.places.capacity());
-        let (first, others) = cut_lengths(self.places.as_slice(), at);
-        match self.into_part().try_split_to_as(rt, at, pass) {
-            Ok((back, front)) => {
-                let back = unsafe { Self::of(back, base, start + at, others, capacity - at) };
-                let front = unsafe { Self::of(front, base, start, first, at) };
-                Ok((back, front))
-            }
-            Err((part, e)) => Err((unsafe { Self::of(part, base, start, len, capacity) }, e)),
-        }
-    }
-
     /// The places of both as this writer's: the other's begin where these end, and both are owners
     /// of one block, so it is one memory. These are full, or the others hold nothing. The other
-    /// owner ends. Takes no memory.
+    /// owner ends. It takes no memory.
     ///
     /// # History
     ///
@@ -267,7 +226,8 @@ impl<T, V: Drop, A: Allocator + Copy, const MAX: u64, H: Mark> SharedWriter<T, V
     }
 
     /// The only owner, where no other owner lives: with the value come the part and that the
-    /// lifetime has ended, for which all places come back. Else it is handed back. Takes no memory.
+    /// lifetime has ended, for which all places come back. Else it is handed back. It takes no
+    /// memory.
     ///
     /// # History
     ///
@@ -295,7 +255,7 @@ impl<T, V: Drop, A: Allocator + Copy, const MAX: u64, H: Mark> SharedWriter<T, V
         }
     }
 
-    /// Afterwards the first pass has seen at least what the other had. It adds no entry and takes
+    /// From here on the first pass has seen at least what the other had. It adds no entry and takes
     /// no memory.
     pub fn learn(&self, pass: &mut Pass<H>, other: &Pass<H>)
         requires pass { IsPassFor (writer_owner self.now) pass.old }
@@ -327,7 +287,7 @@ impl<T, V: Drop, const MAX: u64, H: Mark> SharedWriter<T, V, Lodged, MAX, H> {
 
     /// Ends this writer. What lies in its places is forgotten: it is for items that need no drop.
     /// The last owner gets the value, the room in which it lay, and that the lifetime has ended,
-    /// for which all places come back. Takes no memory.
+    /// for which all places come back. It takes no memory.
     ///
     /// # History
     ///
@@ -342,10 +302,10 @@ impl<T, V: Drop, const MAX: u64, H: Mark> SharedWriter<T, V, Lodged, MAX, H> {
         self.into_part().release_as(pass)
     }
 
-    /// What a drop does: under `Open` this writer ends with a new pass, and the last owner gets the
-    /// value, the room in which it lay, and that the lifetime has ended; under `Whole` it is
-    /// forgotten, without a step. What lies in its places is forgotten. Takes no memory. The pass
-    /// is the one that the owner ended with; under `Whole` it is of no block.
+    /// What a drop does. Under `Open` this writer ends with a new pass, and the last owner gets the
+    /// value, the room in which it lay, and that the lifetime has ended. Under `Whole` it is a
+    /// forgotten owner: no step is made, and the pass is one of no block. What lies in its places
+    /// is forgotten. It takes no memory.
     pub fn let_go(self) -> (Option<(V, HeaderRoom<Header<V>>, EndedLifetime)>, Pass<H>)
         ensures value { IfSome result.0 (λ r. r.0 ≡ writer_value self) }
         ensures room { IfSome result.0 (λ r. r.1.at ≡ writer_place self) }
@@ -363,8 +323,8 @@ impl<T, V: Drop, A: Allocator + Copy, const MAX: u64, H: Stepping> SharedWriter<
     ghost use Rattle.arc_owners.specs.count.Calls.{IsNewPass};
     ghost use Rattle.arc_memory.specs.SharedWriters.{writer_owner};
 
-    /// A new pass, which has seen at least the entry that made this owner, and made nothing. It
-    /// adds no entry and takes no memory.
+    /// A new pass of the block. It has seen at least the entry that made this owner, and nothing
+    /// was made with it. It adds no entry and takes no memory.
     pub fn pass(&self) -> Pass<H>
         ensures { IsNewPass (writer_owner self.now) result }
     {
@@ -376,7 +336,7 @@ impl<T: Copy, V: Drop, A: Allocator + Copy, const MAX: u64, H: Mark> SharedWrite
     ghost use Rattle.arc_memory.specs.SharedWriters.{writer_range, writer_items};
     ghost use Rattle.arc_memory.specs.SharedWriters.{IsSameWriter, HasRange};
 
-    /// A copy of these items, behind the others, where there are places for them. It adds no entry.
+    /// Appends a copy of these items. There are places for them. It adds no entry.
     #[inline(always)]
     pub fn extend_from_slice(&mut self, items: &[T])
         requires { length (writer_items self.old) + length items.now

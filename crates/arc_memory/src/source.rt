@@ -11,8 +11,8 @@ use arc_owners::owners::{Header, HeaderRoom};
 use std::alloc::Allocator;
 use std::mem::ManuallyDrop;
 
-/// The right to free one piece of memory, and the room for its header, in which nothing lies.
-/// Neither copied nor dropped.
+/// The right to free one piece of memory, and the room for its header, in which nothing lies. It is
+/// neither copied nor dropped.
 pub struct PieceWithRoom<T: Drop, A: Allocator> {
     pub piece: Piece<T, A>,
     pub room: HeaderRoom<Header<Kept<T, A>>>,
@@ -21,7 +21,7 @@ pub struct PieceWithRoom<T: Drop, A: Allocator> {
     ghost sized: { head.size ≡ piece.right.head } by { Coded-set (coded× coded_ℕ coded_ℕ) _ _ },
 }
 
-/// Where the places of a writer's memory come from, and what frees them. Neither copied nor
+/// Where the places of a writer's memory come from, and what frees them. It is neither copied nor
 /// dropped.
 pub enum Source<T: Drop, A: Allocator> {
     /// There are none, and no memory.

@@ -229,7 +229,7 @@ impl<T: Drop, A: Allocator> WriterMemory<T, A> {
         self.places.base()
     }
 
-    /// An item more, behind the others, where there is a place for it.
+    /// Appends an item. There is a place for it.
     #[inline(always)]
     pub fn push_reserved(&mut self, item: T)
         requires { length self.old.places.vec.items < self.old.places.under.count }
@@ -239,7 +239,7 @@ impl<T: Drop, A: Allocator> WriterMemory<T, A> {
         self.places.push_reserved(item);
     }
 
-    /// Leaves the first `len` items. Those behind them are forgotten: it is for items that need no
+    /// Keeps the first `len` items. Those behind them are forgotten: it is for items that need no
     /// drop.
     #[inline(always)]
     pub fn truncate(&mut self, len: usize)
@@ -249,8 +249,8 @@ impl<T: Drop, A: Allocator> WriterMemory<T, A> {
         self.places.truncate(len);
     }
 
-    /// The items from `start` and before `end` among them, to be changed in their places: what is
-    /// written there they are afterwards.
+    /// The items from `start` and before `end` among them, to be changed in their places: they are
+    /// what is written there.
     #[inline(always)]
     pub fn as_mut_part(&mut self, start: usize, end: usize) -> &mut [T]
         requires { (start ≤ end) × (end ≤ length self.old.places.vec.items) }
@@ -299,11 +299,11 @@ impl<T: Drop, A: Allocator> WriterMemory<T, A> {
         (memory, ())
     }
 
-    /// Makes it memory of so many places, with the same items in the same places.
+    /// Grows the memory to `count` places, with the same items in the same places.
     ///
     /// # Errors
     ///
-    /// `AllocError` as `new`; everything is then as before.
+    /// `AllocError` as `new`; nothing is changed then.
     ///
     /// # Allocates
     ///
@@ -362,7 +362,8 @@ impl<T: Drop, A: Allocator> WriterMemory<T, A> {
 
     /// All places of a piece, lent for a lifetime: the part of those that are the writer's, with
     /// the items, what is kept, and the room for the piece's header, with its size. Those before
-    /// the writer's are given up, to come back with the rest. No item is moved, and no memory read.
+    /// the writer's are given up, to come back with the rest. No item is moved, and no memory is
+    /// read.
     #[inline(always)]
     pub fn lend(
         self,
@@ -448,7 +449,7 @@ impl<T: Copy + Drop, A: Allocator> WriterMemory<T, A> {
         }
     }
 
-    /// So many copies of this item, behind the others, where there are places for them.
+    /// Appends `count` copies of this item. There are places for them.
     pub fn push_copies(&mut self, item: T, count: usize)
         requires { length self.old.places.vec.items + count ≤ self.old.places.under.count }
         ensures items { self.new.places.vec.items
@@ -458,7 +459,7 @@ impl<T: Copy + Drop, A: Allocator> WriterMemory<T, A> {
         self.places.push_copies(item, count);
     }
 
-    /// A copy of these items, behind the others, where there are places for them.
+    /// Appends a copy of these items. There are places for them.
     #[inline(always)]
     pub fn extend_from_slice(&mut self, items: &[T])
         requires { length self.old.places.vec.items + length items.now

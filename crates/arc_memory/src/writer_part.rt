@@ -21,7 +21,7 @@ use std_alloc::vec::Lodged;
 
 /// An owner of a block, and a part of the memory that is lent for the lease of the block's owners,
 /// which no other owner reaches. To edit the items it is opened. V is what the counted box holds;
-/// that the places come back stands there. Neither copied nor dropped.
+/// that the places come back stands there. It is neither copied nor dropped.
 pub struct WriterPart<T, V: Drop, A: Allocator + Copy, const MAX: u64, H: Mark> {
     pub owner: CountedBox<V, A, MAX, H>,
     pub part: LentPlaces<T>,
@@ -30,13 +30,12 @@ pub struct WriterPart<T, V: Drop, A: Allocator + Copy, const MAX: u64, H: Mark> 
 }
 
 impl<T, V: Drop, A: Allocator + Copy, const MAX: u64, H: Mark> WriterPart<T, V, A, MAX, H> {
-    ghost use Rattle.arc_owners.specs.count.Calls.{IsPassFor, Asks, MakesAnother, FindsFull};
-    ghost use Rattle.arc_owners.specs.count.Calls.{Leaves};
+    ghost use Rattle.arc_owners.specs.count.Calls.{IsPassFor, Asks, FindsFull, Leaves};
     ghost use Rattle.arc_owners.specs.memory.Boxes.{owner_in, value_of, place_in, place_in_rest};
     ghost use Rattle.arc_owners.specs.memory.Boxes.{owner_in_rest, value_of_rest};
     ghost use Rattle.arc_owners.specs.memory.SoleBoxes.{sole_in, sole_value, sole_place};
     ghost use Rattle.arc_memory.specs.Allocations.{IsPartOfLent};
-    ghost use Rattle.arc_memory.specs.WriterParts.{IsSameOwner, IsSoleAgain};
+    ghost use Rattle.arc_memory.specs.WriterParts.{IsSameOwner, IsSoleAgain, SplitsOwner};
 
     /// The first of several writers: the only owner lends the value anew, for the lifetime for
     /// which the places were lent. It adds no entry and takes no memory.
@@ -73,7 +72,7 @@ impl<T, V: Drop, A: Allocator + Copy, const MAX: u64, H: Mark> WriterPart<T, V, 
     }
 
     /// The owner without its share of the lifetime, and the places, which stay its own meanwhile.
-    /// It adds no entry, takes no memory and is no instruction.
+    /// It adds no entry, takes no memory and compiles to no instruction.
     #[inline(always)]
     pub fn open(self) -> (OpenWriter<T, V, A, MAX, H>, Places<T>)
         ensures owner { (owner_in_rest result.0.rest ≡ owner_in self.owner)
@@ -92,8 +91,9 @@ impl<T, V: Drop, A: Allocator + Copy, const MAX: u64, H: Mark> WriterPart<T, V, 
         (OpenWriter { rest, out }, places)
     }
 
-    /// This writer of the first `at` places, and another one of those behind them, with the items
-    /// that lie there: one owner more of the same block. Takes no memory.
+    /// The first `at` places, and those behind them, with the items that lie there: two writers.
+    /// One of them is this one, of the front where `FRONT_STAYS`, else of the back; the other is
+    /// one owner more of the same block. It takes no memory.
     ///
     /// # Errors
     ///
@@ -101,8 +101,8 @@ impl<T, V: Drop, A: Allocator + Copy, const MAX: u64, H: Mark> WriterPart<T, V, 
     ///
     /// # History
     ///
-    /// Up, or Full where refused.
-    pub fn try_split_off_as(
+    /// Up, or Full where it is refused.
+    pub fn try_split_as<const FRONT_STAYS: bool>(
         self,
         rt: &impl Wait,
         at: usize,
@@ -110,10 +110,12 @@ impl<T, V: Drop, A: Allocator + Copy, const MAX: u64, H: Mark> WriterPart<T, V, 
     ) -> Result<(Self, Self), (Self, CountFull)>
         requires pass { IsPassFor (owner_in self.owner) pass.old }
         requires at { at ≤ self.part.count }
-        ensures made { IfOk result (λ r. MakesAnother (owner_in self.owner) pass.old pass.new
-            (owner_in r.1.owner) × (value_of r.1.owner ≡ value_of self.owner)) }
-        ensures place { IfOk result (λ r. place_in r.1.owner ≡ place_in self.owner) }
-        ensures stays { IfOk result (λ r. r.0.owner ≡ self.owner) }
+        ensures owners { IfOk result (λ r. SplitsOwner FRONT_STAYS (owner_in self.owner)
+            pass.old pass.new (owner_in r.0.owner) (owner_in r.1.owner)) }
+        ensures value { IfOk result (λ r. (value_of r.0.owner ≡ value_of self.owner)
+            × (value_of r.1.owner ≡ value_of self.owner)) }
+        ensures place { IfOk result (λ r. (place_in r.0.owner ≡ place_in self.owner)
+            × (place_in r.1.owner ≡ place_in self.owner)) }
         ensures memory { IfOk result (λ r. (r.0.part.memory ≡ self.part.memory)
             × (r.1.part.memory ≡ self.part.memory)) }
         ensures front { IfOk result (λ r. (r.0.part.start ≡ self.part.start)
@@ -125,69 +127,28 @@ impl<T, V: Drop, A: Allocator + Copy, const MAX: u64, H: Mark> WriterPart<T, V, 
         ensures kept { IfErr result (λ r. (r.0.owner ≡ self.owner)
             × (r.0.part ≡ self.part)) }
     {
-        match self.owner.try_clone_as(rt, pass) {
-            Ok(other) => {
-                let WriterPart { owner, part } = self;
-                let (front, back) = part.split(at);
-                Ok((
-                    WriterPart { owner, part: front },
-                    WriterPart {
-                        owner: other,
-                        part: back,
-                    },
-                ))
-            }
-            Err(e) => Err((self, e)),
+        let other = match self.owner.try_clone_as(rt, pass) {
+            Ok(other) => other,
+            Err(e) => return Err((self, e)),
+        };
+        let WriterPart { owner, part } = self;
+        let (front, back) = part.split(at);
+        if FRONT_STAYS {
+            return Ok((
+                WriterPart { owner, part: front },
+                WriterPart {
+                    owner: other,
+                    part: back,
+                },
+            ));
         }
-    }
-
-    /// This writer of the places behind the first `at`, and another one of these, with the items
-    /// that lie there: one owner more of the same block. Takes no memory.
-    ///
-    /// # Errors
-    ///
-    /// `CountFull` exactly where `MAX` owners live; the writer is handed back.
-    ///
-    /// # History
-    ///
-    /// Up, or Full where refused.
-    pub fn try_split_to_as(
-        self,
-        rt: &impl Wait,
-        at: usize,
-        pass: &mut Pass<H>,
-    ) -> Result<(Self, Self), (Self, CountFull)>
-        requires pass { IsPassFor (owner_in self.owner) pass.old }
-        requires at { at ≤ self.part.count }
-        ensures made { IfOk result (λ r. MakesAnother (owner_in self.owner) pass.old pass.new
-            (owner_in r.1.owner) × (value_of r.1.owner ≡ value_of self.owner)) }
-        ensures place { IfOk result (λ r. place_in r.1.owner ≡ place_in self.owner) }
-        ensures stays { IfOk result (λ r. r.0.owner ≡ self.owner) }
-        ensures memory { IfOk result (λ r. (r.0.part.memory ≡ self.part.memory)
-            × (r.1.part.memory ≡ self.part.memory)) }
-        ensures back { IfOk result (λ r. (r.0.part.start ≡ self.part.start + at)
-            × (r.0.part.count ≡ self.part.count - at)
-            × (r.0.part.items ≡ drop at self.part.items)) }
-        ensures front { IfOk result (λ r. (r.1.part.start ≡ self.part.start)
-            × (r.1.part.count ≡ at) × (r.1.part.items ≡ take at self.part.items)) }
-        ensures full { IfErr result (λ r. FindsFull (owner_in self.owner) pass.old pass.new) }
-        ensures kept { IfErr result (λ r. (r.0.owner ≡ self.owner)
-            × (r.0.part ≡ self.part)) }
-    {
-        match self.owner.try_clone_as(rt, pass) {
-            Ok(other) => {
-                let WriterPart { owner, part } = self;
-                let (front, back) = part.split(at);
-                Ok((
-                    WriterPart { owner, part: back },
-                    WriterPart {
-                        owner: other,
-                        part: front,
-                    },
-                ))
-            }
-            Err(e) => Err((self, e)),
-        }
+        Ok((
+            WriterPart {
+                owner: other,
+                part: front,
+            },
+            WriterPart { owner, part: back },
+        ))
     }
 
     /// This writer of the places behind the first `at`. What lies in these is forgotten: it is for
@@ -208,7 +169,7 @@ impl<T, V: Drop, A: Allocator + Copy, const MAX: u64, H: Mark> WriterPart<T, V, 
 
     /// Both parts as this writer's: the other's places begin where these end, and both are owners
     /// of one block, so it is one memory. These are full, or the others hold nothing. The other
-    /// owner ends. Takes no memory.
+    /// owner ends. It takes no memory.
     ///
     /// # History
     ///
@@ -237,7 +198,8 @@ impl<T, V: Drop, A: Allocator + Copy, const MAX: u64, H: Mark> WriterPart<T, V, 
     }
 
     /// The only owner, where no other owner lives: with the value come the part and that the
-    /// lifetime has ended, for which all places come back. Else it is handed back. Takes no memory.
+    /// lifetime has ended, for which all places come back. Else it is handed back. It takes no
+    /// memory.
     ///
     /// # History
     ///
@@ -285,7 +247,7 @@ impl<T, V: Drop, const MAX: u64, H: Mark> WriterPart<T, V, Lodged, MAX, H> {
 
     /// Ends this writer. What lies in its places is forgotten: it is for items that need no drop.
     /// The last owner gets the value, the room in which it lay, and that the lifetime has ended,
-    /// for which all places come back. Takes no memory.
+    /// for which all places come back. It takes no memory.
     ///
     /// # History
     ///
@@ -302,10 +264,10 @@ impl<T, V: Drop, const MAX: u64, H: Mark> WriterPart<T, V, Lodged, MAX, H> {
         owner.release_with_room_as(pass)
     }
 
-    /// What a drop does: under `Open` this writer ends with a new pass, and the last owner gets the
-    /// value, the room in which it lay, and that the lifetime has ended; under `Whole` it is
-    /// forgotten, without a step. What lies in its places is forgotten. Takes no memory. The pass
-    /// is the one that the owner ended with; under `Whole` it is of no block.
+    /// What a drop does. Under `Open` this writer ends with a new pass, and the last owner gets the
+    /// value, the room in which it lay, and that the lifetime has ended. Under `Whole` it is a
+    /// forgotten owner: no step is made, and the pass is one of no block. What lies in its places
+    /// is forgotten. It takes no memory.
     pub fn let_go(self) -> (Option<(V, HeaderRoom<Header<V>>, EndedLifetime)>, Pass<H>)
         ensures value { IfSome result.0 (λ r. r.0 ≡ value_of self.owner) }
         ensures room { IfSome result.0 (λ r. r.1.at ≡ place_in self.owner) }

@@ -16,7 +16,7 @@ use core::slots::Slots;
 use std_alloc::vec::Lodged;
 
 /// Places side by side in one allocation that one writer has, who edits what lies there as a
-/// vector's items. Neither copied nor dropped.
+/// vector's items. It is neither copied nor dropped.
 pub struct WriterPlaces<T> {
     pub vec: Vec<T, Lodged>,
     pub under: Lodging<T>,
@@ -79,7 +79,7 @@ impl<T> WriterPlaces<T> {
         self.vec.as_slice()
     }
 
-    /// The items, to be changed in their places: what is written there they are afterwards.
+    /// The items, to be changed in their places: they are what is written there.
     #[inline(always)]
     pub fn as_mut_slice(&mut self) -> &mut [T]
         ensures* writes_back { sem 𝓛 (LendsPlaces T.row self.entry result) }
@@ -88,8 +88,8 @@ impl<T> WriterPlaces<T> {
         self.vec.as_mut_slice()
     }
 
-    /// The items from `start` and before `end` among them, to be changed in their places: what is
-    /// written there they are afterwards.
+    /// The items from `start` and before `end` among them, to be changed in their places: they are
+    /// what is written there.
     #[inline(always)]
     pub fn as_mut_part(&mut self, start: usize, end: usize) -> &mut [T]
         requires { (start ≤ end) × (end ≤ length self.old.vec.items) }
@@ -131,7 +131,7 @@ impl<T> WriterPlaces<T> {
         self.vec.capacity()
     }
 
-    /// An item more, behind the others, where there is a place for it.
+    /// Appends an item. There is a place for it.
     #[inline(always)]
     pub fn push_reserved(&mut self, item: T)
         requires { length self.old.vec.items < self.old.under.count }
@@ -155,7 +155,7 @@ impl<T> WriterPlaces<T> {
         }
     }
 
-    /// Leaves the first `len` items. Those behind them are forgotten: it is for items that need no
+    /// Keeps the first `len` items. Those behind them are forgotten: it is for items that need no
     /// drop.
     #[inline(always)]
     pub fn truncate(&mut self, len: usize)
@@ -316,7 +316,7 @@ impl<T> WriterPlaces<T> {
 impl<T: Copy> WriterPlaces<T> {
     ghost use Rattle.arc_memory.specs.WriterPlaces.{SamePlaces};
 
-    /// So many copies of this item, behind the others, where there are places for them.
+    /// Appends `count` copies of this item. There are places for them.
     pub fn push_copies(&mut self, item: T, count: usize)
         requires { length self.old.vec.items + count ≤ self.old.under.count }
         ensures items { self.new.vec.items ≡ self.old.vec.items ++ replicate count item }
@@ -351,7 +351,7 @@ impl<T: Copy> WriterPlaces<T> {
         )
     }
 
-    /// A copy of these items, behind the others, where there are places for them.
+    /// Appends a copy of these items. There are places for them.
     #[inline(always)]
     pub fn extend_from_slice(&mut self, items: &[T])
         requires { length self.old.vec.items + length items.now ≤ self.old.under.count }

@@ -1,4 +1,4 @@
-//! The named refusals, lowest first: every layer answers these and no others.
+//! The errors of all layers, which return these and no others.
 ghost use Rattle.std.specs.Prelude.{◌≡◌};
 ghost use Rattle.arc_owners.specs.declared.error.OwnerError.TheVariants as owner;
 ghost use Rattle.arc_owners.specs.declared.error.TryReserveError.TheVariants as reserve;
@@ -6,7 +6,7 @@ ghost use Rattle.arc_owners.specs.declared.error.TryReserveError.TheVariants as 
 use std::alloc;
 use thiserror::Error;
 
-/// A request for memory was refused, or its size can't be asked for.
+/// A request for memory is refused, or its size can't be asked for.
 #[derive(Clone, Copy, Debug, PartialEq, Eq, Error)]
 #[error("allocation error")]
 pub struct AllocError;
@@ -23,18 +23,18 @@ impl<T: Drop> From<alloc::AllocFailed<T>> for AllocError {
     }
 }
 
-/// The block has as many owners as its count can tell.
+/// As many owners of the block live as its count can count.
 #[derive(Clone, Copy, Debug, PartialEq, Eq, Error)]
 #[error("count full")]
 pub struct CountFull;
 
-/// Why a window has no new owner beside it.
+/// Why no other owner of a window's block is made.
 #[derive(Clone, Copy, Debug, PartialEq, Eq, Error)]
 pub enum OwnerError {
-    /// A request for memory was refused.
+    /// A request for memory is refused.
     #[error("allocation error")]
     AllocError,
-    /// The count was found at its greatest.
+    /// As many owners live as the count can count.
     #[error("count full")]
     CountFull,
 }
@@ -63,16 +63,16 @@ impl From<CountFull> for OwnerError {
     }
 }
 
-/// Why a window has no more room.
+/// Why there is no room for more items.
 #[derive(Clone, Copy, Debug, PartialEq, Eq, Error)]
 pub enum TryReserveError {
-    /// Another owner stands on the block.
+    /// Another owner of the block lives.
     #[error("not unique")]
     NotUnique,
-    /// The block can't grow, or has no place here.
+    /// The block can't grow, or items behind the window are in the way.
     #[error("unsupported")]
     Unsupported,
-    /// A request for memory was refused.
+    /// A request for memory is refused.
     #[error("allocation error")]
     AllocError,
     /// The room asked for is more than a block can have.
@@ -96,7 +96,7 @@ impl From<alloc::AllocError> for TryReserveError {
     }
 }
 
-/// Why a range or a place isn't one of a window.
+/// Why a window can't be cut so.
 #[derive(Clone, Copy, Debug, PartialEq, Eq, Error)]
 pub enum RangeError {
     /// It goes past the length.

@@ -1,4 +1,4 @@
-//! What is told to the compiler.
+//! A hint to the compiler.
 ghost use Rattle.std.specs.Prelude.{IsTrue};
 
 /// A value of two cases.
@@ -7,8 +7,8 @@ enum Case {
     Second,
 }
 
-/// Tells the compiler that this holds, so that no test is left of what it excludes: `unreachable!`
-/// leaves the test, and a trap.
+/// Tells the compiler that this holds, so that it makes no test of what is excluded. `unreachable!`
+/// leaves the test and a trap.
 ///
 /// # Safety
 ///
@@ -20,7 +20,7 @@ pub unsafe fn assert_unchecked(holds: bool)
     if holds {
         return;
     }
-    // A third case, which there isn't: whoever compiles the `match` has nowhere to go.
+    // There is no third case: the compiler knows that the `match` isn't reached with this number.
     let number: u8 = 2;
     let at = &raw const number;
     match unsafe { (at as *const Case).read() } {

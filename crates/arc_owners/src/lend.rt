@@ -1,4 +1,4 @@
-//! Who may lend: memory of one's own, lent to the owners of a block, read by them, and had back at
-//! the end of their lease.
+//! For callers that lend memory of their own to the owners of a block. The owners read it, and it
+//! comes back at the end of their lease.
 
 pub use crate::memory::LentValue;

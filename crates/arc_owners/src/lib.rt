@@ -1,4 +1,4 @@
-//! The owners of a block, and the refusals that every layer above answers.
+//! The owners of a block, and the errors of all layers above.
 #![tactic(auto)]
 
 mod count;

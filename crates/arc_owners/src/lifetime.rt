@@ -6,8 +6,8 @@ ghost use base.SetCodes.{coded_share};
 
 use std::marker::{Model, PhantomData};
 
-/// A share of a lifetime, which lasts as long as the share isn't given up. It has no bytes, and is
-/// neither copied nor dropped.
+/// A share of a lifetime, which lasts at least as long as the share is kept. It has no bytes, and
+/// is neither copied nor dropped.
 pub struct LifetimeToken {
     pub marker: PhantomData<()>,
     pub ghost lifetime: { ℕ },
@@ -20,7 +20,7 @@ impl Model for LifetimeToken {
     ghost also_shares = { λ t _ κ. fshr_bor κ (λ q. flft (t.lifetime ∷ []) q) };
 }
 
-/// That a lifetime has ended, for which what was lent comes back. It has no bytes.
+/// That a lifetime has ended. What was lent for it comes back. It has no bytes.
 pub struct EndedLifetime {
     pub marker: PhantomData<()>,
     pub ghost lifetime: { ℕ },
@@ -70,7 +70,7 @@ impl LifetimeToken {
         LifetimeToken { marker }
     }
 
-    /// Ends the lifetime, of which nobody else has a share.
+    /// Ends the lifetime. Nobody else has a share of it.
     pub fn end(self) -> EndedLifetime
         requires { self.share ≡ full_share }
         ensures { result.lifetime ≡ self.lifetime }
@@ -81,12 +81,12 @@ impl LifetimeToken {
 }
 
 impl EndedLifetime {
-    /// Lets it go: who has nothing lent for the lifetime needs no end of it.
+    /// Forgets the share, where nothing is lent that has to come back.
     pub fn forget(self) {
         let EndedLifetime { marker: _ } = self;
     }
 
-    /// The same twice, for two who have something back.
+    /// The same twice, where two things come back.
     pub fn again(self) -> (EndedLifetime, EndedLifetime)
         ensures { (result.0.lifetime ≡ self.lifetime) × (result.1.lifetime ≡ self.lifetime) }
     {

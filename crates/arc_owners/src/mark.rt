@@ -1,7 +1,7 @@
-//! Marks: who may step on the count of a window's block.
+//! Marks: how many passes a window's block has.
 //!
-//! What the marks do differently, they do in methods of their own, so that a body which is generic
-//! in the mark is the same under both.
+//! What differs between the marks is in methods of their own. So a body that is generic in the mark
+//! is the same under both.
 ghost use Rattle.std.specs.Prelude.{◌≡◌, ◌≤◌, ℕ, Bool, true, false, List, refl};
 ghost use Rattle.arc_owners.specs.count.Invariant.{BlockId, Line};
 ghost use Rattle.arc_owners.specs.count.Steps.{IsHeld, IsSole, IsOf, IsLodged, IsOpened};
@@ -11,10 +11,10 @@ use crate::count::owner_without_lifetime::OwnerWithoutLifetime;
 use crate::count::word::{EndTokens, OwnerToken, PassState, Word, WordBorrow};
 
 mod sealed {
-    /// What no other crate can give a type.
+    /// A trait that no other crate can implement.
     pub trait Sealed {}
 
-    /// What no other crate can name or make, so that a call which takes one is this crate's alone.
+    /// A value that no other crate can name or make: a call that takes one belongs to this crate.
     pub struct Internal;
 }
 
@@ -25,9 +25,8 @@ pub trait Mark: sealed::Sealed {
     // Whether a block has one pass, which has seen its whole history.
     ghost whole: { Bool };
 
-    // A pass of this block, with this number, has seen these lines. It holds at both marks, but a
-    // body that is generic in the mark gets it from `show` alone, which takes a pass that is
-    // there.
+    // A pass of this block, with this number, has seen these lines. That holds under both marks.
+    // But a body that is generic in the mark gets it only from `show`, which takes a pass.
     ghost real: { BlockId → ℕ → List Line → Type 0 };
 
     /// The word of a new block, its first owner's right and the first pass. The block is lent to
@@ -36,8 +35,8 @@ pub trait Mark: sealed::Sealed {
         requires { 1 ≤ most }
         ensures { IsOpened most Self.whole lent result.0 result.1 result.2 };
 
-    /// Shows that a pass is there, which has seen this. It is used up, so nothing is added with it
-    /// afterwards.
+    /// Shows that there is a pass that has seen this. The pass is used up, so no entry is added
+    /// with it after that.
     fn show(pass: PassState)
         ensures { pass.bound ≡ true → Self.real pass.block pass.number pass.lines };
 
@@ -68,9 +67,10 @@ pub trait Mark: sealed::Sealed {
         ensures ended { Self.whole ≡ false → (result.0 ≡ true) × EndsWithNew own result.1 true };
 }
 
-/// Marks under which a block has many passes, and each call may have a new one.
+/// Marks under which a block has many passes, and each call may take a new one.
 pub trait Stepping: Mark {
-    /// A new pass of an owner's block, which has seen how the owner was made, and made nothing.
+    /// A new pass of an owner's block. It has seen how the owner was made, and nothing was made
+    /// with it.
     fn fork(own: &OwnerToken<Self>) -> PassState
         requires held { own.now.held ≡ true }
         requires mark { own.now.block.whole ≡ Self.Mark.whole }
@@ -84,7 +84,7 @@ pub trait Stepping: Mark {
     ghost many: { Self.Mark.whole ≡ false };
 }
 
-/// The mark of windows that each call and each drop may step for.
+/// The mark under which each call, and each drop, may take a new pass.
 #[derive(Clone, Copy, Debug, PartialEq, Eq)]
 pub struct Open;
 
@@ -123,7 +123,7 @@ impl Mark for Open {
         (found == 1, last, pass)
     }
 
-    /// It ends with a new pass, without a step.
+    /// It ends with a new pass, without an atomic step.
     fn let_go_sole(own: OwnerToken<Self>) -> (bool, PassState)
         requires held { IsSole own.block own }
         requires mark { own.block.whole ≡ false }
@@ -155,7 +155,7 @@ impl Stepping for Open {
     }
 }
 
-/// The mark of a block with one pass, which has seen its whole history: nothing comes between two
+/// The mark of a block with one pass, which has seen its whole history: no entry comes between two
 /// of its calls.
 #[derive(Clone, Copy, Debug, PartialEq, Eq)]
 pub struct Whole;
@@ -176,7 +176,7 @@ impl Mark for Whole {
         drop(pass);
     }
 
-    /// It is forgotten, without a step.
+    /// It is forgotten, and no step is made.
     unsafe fn let_go(
         place: *const u64,
         lodging: &WordBorrow,

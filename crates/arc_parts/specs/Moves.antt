@@ -12,9 +12,8 @@ use Rattle.arc_parts.specs.Window.{PartsView, window_of}
 use Rattle.arc_parts.specs.Steps.{Makes, Begins}
 
 module _ {T M H : Type 0} where
-  -- The window v was made of w by such a move. Where there is a new block the pass is that one's
-  -- afterwards. Where the window has left its block it is the old one's still, and no pass of v,
-  -- which has none.
+  -- The window v was made of w by such a move. Where there is a new block, the pass is the new
+  -- block's. Where the window left its block, the pass is still the old block's, and v has none.
   abbrev pub Moves : Move → (drops one_pass : Bool) → (w v : PartsView T M)
       → (before after : Pass H) → Type 0
   Moves Stays drops one_pass w v before after = (v ≡ w) × (after ≡ before)

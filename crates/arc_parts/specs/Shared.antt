@@ -2,7 +2,7 @@
 -- and how they make room. None stands on a caller's buffer, and their items need no drop.
 use Rattle.std.specs.Prelude.{◌≡◌, ℕ, ◌+◌, ◌-◌, ◌<◌, ◌≤◌, ◌==◌, nat_lt, Bool, true, false, ◌&&◌}
 use Rattle.std.specs.Prelude.{◌++◌, length, List, Option, Some, None, Result, Ok, Err, take}
-use Rattle.std.specs.Prelude.{if◌then◌else◌}
+use Rattle.std.specs.Prelude.{if◌then◌else◌, not}
 use Rattle.arc_owners.specs.history.Histories.{Counted}
 use Rattle.arc_owners.specs.declared.error.OwnerError.{OwnerError}
 use Rattle.arc_owners.specs.declared.error.OwnerError.TheVariants as owner_error
@@ -18,7 +18,7 @@ use Rattle.arc_buffer.specs.Slice.{IsEdge, edge_answer}
 use Rattle.arc_block.specs.declared.block.TheConstants.{MAX_OWNERS}
 use Rattle.arc_parts.specs.declared.room.Room.{Room}
 use Rattle.arc_block.specs.Block.{Sort, native, vector, buffer, raw, IsMemory, memory_info}
-use Rattle.arc_block.specs.Place.{Place, nowhere, static_data, on_block, at_owner}
+use Rattle.arc_block.specs.Place.{Place, nowhere, static_data, on_block, at_owner, owned_by}
 use Rattle.arc_parts.specs.Steps.{Shares}
 use Rattle.arc_block.specs.Table.{RowOf, sole_writer, one_writer_of_several}
 use Rattle.arc_parts.specs.Window.{PartsView}
@@ -72,6 +72,11 @@ module _ {N T M : Type 0} where
   abbrev pub extended : List T → RowOf N T M → RowOf N T M
   extended items w = record w { items = w.items ++ items }
 
+  -- the one or the other: the front, or the back
+  abbrev pub part_at : (front : Bool) → ℕ → RowOf N T M → RowOf N T M
+  part_at true at w = front_of at w
+  part_at false at w = after_advance at w
+
 -- Whether so many places from here on end where the other window begins, if it is one block on
 -- which both stand; or both stand on nothing.
 abbrev pub ends_at : {N M : Type 0} → ℕ → Place N M → Place N M → Bool
@@ -104,8 +109,8 @@ split_answer boundary items capacity at =
     if nat_lt capacity at then Err OutOfRange else
     if nat_lt at (length items) then edge_answer boundary items at else Ok tt
 
--- This owner ended, and that was added behind what the pass had seen. The pass goes on as another
--- block's: what it was then is one that is there.
+-- This owner ended, and its Down was added after what the pass had seen. The pass then became
+-- another block's. That there was a pass which saw the Down is kept as a fact.
 pub record LeavesShown (H : Type 0) (real : BlockId → ℕ → List Line → Type 0) (o : Owner)
     (before : Pass H) : Type 0 where
   pub left : Pass H
@@ -157,8 +162,8 @@ module _ {T M : Type 0} where
     StandsToSplitAt drops one_pass w v before after (on_block owner offset info) =
         StandsToSplit drops one_pass w v before after info.sort
 
-    -- A writer's places were split in two, where he stood then. The window keeps one part, and the
-    -- other was made, as another owner of the block; without a block both stand on nothing.
+    -- A writer's places were split in two where it stood. The window keeps one part. The other was
+    -- made as another owner of the block; without a block both stand on nothing.
     pub record SplitsWriter (drops one_pass : Bool)
         (keeps makes : PartsView T M → PartsView T M) (w kept made : PartsView T M)
         (before after : Pass H) : Type 0 where
@@ -169,6 +174,13 @@ module _ {T M : Type 0} where
       pub items : made.items ≡ (makes whole).items
       pub role : made.role ≡ (makes whole).role
       pub shares : Shares (makes whole).place between after made.place
+
+    -- the same by which part stays
+    abbrev pub SplitsWriterAt : (front_stays drops one_pass : Bool) → ℕ
+        → (w stays made : PartsView T M) → (before after : Pass H) → Type 0
+    SplitsWriterAt front_stays drops one_pass at w stays made before after =
+        SplitsWriter drops one_pass (part_at front_stays at) (part_at (not front_stays) at)
+        w stays made before after
 
     -- the part behind so many places was made, and the window keeps these
     abbrev pub SplitsWriterOff : (drops one_pass : Bool) → ℕ → (w front back : PartsView T M)
@@ -181,6 +193,13 @@ module _ {T M : Type 0} where
         → (before after : Pass H) → Type 0
     SplitsWriterTo drops one_pass at w front back before after =
         SplitsWriter drops one_pass (after_advance at) (front_of at) w back front before after
+
+-- The last of several writers is the only one, of the same items and places: on a new block that
+-- has the memory of theirs, as its first owner.
+pub record BecomesUnique {T M : Type 0} (one_pass : Bool) (w v : PartsView T M) : Type 0 where
+  pub owner : Owner
+  pub made : v ≡ record (as_unique w) { place = owned_by (Some owner) w.place }
+  pub first : IsFirst MAX_OWNERS one_pass Counted owner
 
 module _ {H : Type 0} where
   -- A split was refused: the count was found at its greatest; or, of a vector, memory for the block
@@ -200,7 +219,7 @@ module _ {M H : Type 0} where
   RefusesSplitAt (on_block (Some o) offset info) before after e =
       RefusesSplit info.sort o before after e
 
-  -- One of several writers is alone, as he was told where he asked; or he isn't. On no block nobody
+  -- One of several writers asked whether it is alone, and this was the answer. On no block no count
   -- is asked, and the answer is no.
   abbrev pub AsksAlone : Place (Option Owner) M → (before after : Pass H) → (found : Bool) → Type 0
   AsksAlone place before after found = at_owner place

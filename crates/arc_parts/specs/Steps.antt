@@ -10,7 +10,7 @@ use Rattle.arc_owners.specs.count.Invariant.{BlockId, Line}
 use Rattle.arc_owners.specs.count.Calls.{Owner, IsPassOf, IsPassOfNone, MayJoin, RefusesOwner}
 use Rattle.arc_owners.specs.count.Calls.{IsFirst, IsFreshPass}
 use Rattle.arc_owners.specs.count.Calls.{MakesAnother, Asks, EndsByItself, EndsShown}
-use Rattle.arc_owners.specs.count.Calls.{TakesBlock}
+use Rattle.arc_owners.specs.count.Calls.{TakesBlock, Leaves}
 use Rattle.arc_block.specs.Block.{Sort, vector, BlockInfo, memory_info, raw_info}
 use Rattle.arc_block.specs.Layouts.{vector_begins}
 use Rattle.arc_block.specs.Place.{Place, nowhere, static_data, on_block, at_owner}
@@ -28,7 +28,7 @@ module _ {M H : Type 0} where
   EndsAt place after =
       at_owner place (IsPassOfNone after) (λ o. (last : Bool) × EndsByItself o after last)
 
-  -- An attempt was lost through the owner that stands at a place. On no block none is lost.
+  -- An attempt failed of the owner that stands at a place. On no block none fails.
   abbrev pub MayJoinAt : Place (Option Owner) M → Pass H → Pass H → Type 0
   MayJoinAt place old new = at_owner place ⊥ (λ o. MayJoin o old new)
 
@@ -41,8 +41,8 @@ module _ {M H : Type 0} where
   Shares (on_block (Some o) offset facts) old new there = (other : Owner)
       × MakesAnother o old new other × (there ≡ on_block (Some other) offset facts)
 
-  -- no window was made: the count was found at its greatest, or the layout's clones want memory on
-  -- a block of this sort, which was refused, and nothing was added
+  -- No window was made. Either the count was at its greatest; or the layout lets a clone on a block
+  -- of this sort be refused for memory, and it was, and nothing was added.
   abbrev pub Refuses : (Sort → Bool) → Place (Option Owner) M → Pass H → Pass H → OwnerError
       → Type 0
   Refuses wants nowhere old new e = ⊥
@@ -99,12 +99,20 @@ module _ {M H : Type 0} where
   abbrev pub TakesAt : Place (Option Owner) M → Pass H → Pass H → Type 0
   TakesAt place old new = at_owner place (new ≡ old) (λ o. TakesBlock o old new)
 
-  -- It was refused: where all but the count was as wanted, that was asked and said no, and else
+  -- It was refused. Where all but the count was as wanted, the count was asked and said no. Else
   -- nothing was asked.
   pub record RefusesTaking (wanted : Type 0) (place : Place (Option Owner) M) (old new : Pass H)
       : Type 0 where
     pub asked : wanted → at_owner place ⊥ (λ o. Asks o old new false)
     pub unasked : ¬ wanted → new ≡ old
+
+module _ {M H : Type 0} where
+  -- The owner that stands at a place ended by one step, and was the last one or not. An `Arc` that
+  -- is a block by itself has no owner: nothing is added, and its window gets it, as a last owner
+  -- does.
+  abbrev pub LeavesLastAt : Place (Option Owner) M → (old new : Pass H) → (last : Bool) → Type 0
+  LeavesLastAt place old new last =
+      at_owner place ((last ≡ true) × (new ≡ old)) (λ o. Leaves o old new last)
 
 module _ {T M H : Type 0} where
   -- an array was refused: where only the count could decide, it was asked and said no, and else

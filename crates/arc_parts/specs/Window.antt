@@ -1,4 +1,4 @@
--- What is seen of a window and of its parts, and what holds of them.
+-- What contracts see of a window and of its parts, and what holds of them.
 use Rattle.std.specs.Prelude.{◌≡◌, ℕ, ◌+◌, ◌-◌, ◌≤◌, Bool, true, false, List, [], length}
 use Rattle.std.specs.Prelude.{Option, Some, None}
 use Rattle.arc_owners.specs.count.Calls.{Owner}
@@ -13,8 +13,8 @@ use Rattle.arc_parts.specs.declared.storage.Storage.{Storage}
 use Rattle.arc_parts.specs.declared.storage.Storage.TheVariants.{Nothing, Static, Native, Block}
 use Rattle.arc_parts.specs.declared.storage.Storage.TheVariants.{Raw}
 
--- what is seen of a window: its items, and where it stands: on a block as one of its owners, where
--- the block counts them
+-- what contracts see of a window: its items, and where it stands: on a block as one of its owners,
+-- where the block counts them
 pub record Window (T M : Type 0) : Type 0 where
   pub items : List T
   pub place : Place (Option Owner) M
@@ -101,8 +101,8 @@ IsAllPlaces len nowhere = ⊥
 IsAllPlaces len static_data = ⊥
 IsAllPlaces len (on_block block offset facts) = (offset ≡ 0) × (facts.size ≡ len)
 
--- A window whose list can be had as its block's vector: any part of one, as it is moved to the
--- front; but items that are dropped one by one are moved nowhere, so they have to be all.
+-- A window whose list can be had as its block's vector. Any part of a vector can, since it is moved
+-- to the front. But items that are dropped one by one aren't moved, so they have to be all of it.
 pub record IsVecPart {N T M : Type 0} (drops : Bool) (items : List T) (place : Place N M)
     : Type 0 where
   pub sort : IsOfSort vector place
@@ -123,7 +123,7 @@ pub record IsRawWhole {N T M : Type 0} (items : List T) (place : Place N M) : Ty
   pub sort : IsOfSort raw place
   pub whole : IsAllFull (length items) place
 
--- what is seen of a window's parts: a row of the table of lists, with its owner
+-- what contracts see of a window's parts: a row of the table of lists, with its owner
 abbrev pub PartsView : Type 0 → Type 0 → Type 0
 PartsView T M = RowOf (Option Owner) T M
 

@@ -56,10 +56,6 @@ with_capacity (sole_writer before) capacity = sole_writer capacity
 with_capacity (one_writer_of_several before) capacity = one_writer_of_several capacity
 with_capacity role capacity = role
 
--- a writer without the last so many of his places
-abbrev pub with_fewer : {N T M : Type 0} → ℕ → RowOf N T M → RowOf N T M
-with_fewer less w = record w { role = with_capacity w.role (capacity_of w.role - less) }
-
 module _ {N M : Type 0} where
   -- where a writer of so many items, which stands here, has room for more of them
   abbrev pub room_at : (drops : Bool) → (first item_size : ℕ) → Place N M → (len additional : ℕ)
@@ -274,8 +270,8 @@ module _ {T M H : Type 0} where
       × MakesRoom drops one_pass room old between before after (Ok tt)
       × (new ≡ with_more xs between)
 
-  -- A writer became a reader under a layout: the same parts, where they may stay, and else what no
-  -- items are made of.
+  -- A writer became a reader under a layout: the same parts, where they may stay, and else those
+  -- that no items make.
   abbrev pub Freezes : LayoutFacts → (drops one_pass : Bool) → (w v : PartsView T M)
       → (before after : Pass H) → Type 0
   Freezes layout drops one_pass w v before after =
@@ -293,8 +289,8 @@ module _ {M H : Type 0} where
   BecomesSoleAt has_any (on_block (Some o) offset info) len before after =
       MayWrite has_any info.sort × Asks o before after true
 
-  -- It did not: the count was asked where the block may be written there, and said no, and else
-  -- nothing was asked. On no block it had items.
+  -- It did not. Where the block may be written there, the count was asked and said no. Else nothing
+  -- was asked; on no block it had items.
   abbrev pub RefusesSoleAt : (has_any : Bool) → Place (Option Owner) M → (len : ℕ)
       → (before after : Pass H) → Type 0
   RefusesSoleAt has_any nowhere len before after = (1 ≤ len) × (after ≡ before)

@@ -1,8 +1,8 @@
 //! Parts: what a window is made of, whatever its kind and its layout.
 //!
-//! What all windows have in common stands here once: where a window without items stands, how far
-//! into its block a part begins, and how items and owner are reached. That a list is legal for its
-//! kind, and where it may be cut, is known to the windows alone.
+//! What all windows have in common is here: where a window without items stands, where in its block
+//! a part begins, and how items and owner are reached. Only the windows know that a list is legal
+//! for its kind, and where it may be cut.
 ghost use Rattle.arc_owners.specs.history.Histories.{Counted};
 ghost use Rattle.std.specs.Prelude.{◌≡◌, ◌≤◌, ◌==◌, ◌&&◌, false, length, []};
 ghost use Rattle.std.specs.Prelude.{Some, IfOk, IfErr, OnErr};
@@ -38,16 +38,16 @@ pub type PartsStorage<S, B, M, A, H> = Storage<
     SharedBuffer<<S as Slice>::Item, B, A>,
 >;
 
-/// A row of the table of lists, with its owner: the items, where they stand, and what may be done
-/// with them.
+/// A row of the table of lists, with its owner: the items, where they stand, and whether they are
+/// read or written.
 ///
 /// `B` is the type of callers' buffers and `M` that of their metadata.
 ///
-/// Where a call says what it adds on a block, it adds nothing on an `Arc` that is a block by
-/// itself: that has no owners of ours, and a pass of none.
+/// An `Arc` that is a block by itself has no owners that the library counts, and a pass of none.
+/// Where a call says what it adds on a block, it adds nothing on such an `Arc`.
 ///
-/// Dropped, parts end as a window does: under the mark `Open` with a new pass; under `Whole` their
-/// owner is a forgotten one.
+/// Parts that are dropped end as a window does: under `Open` with a new pass, and under `Whole`
+/// their owner is a forgotten one.
 pub struct Parts<
     S: Slice,
     B: Buffer<<S as Slice>::Item> + Drop = Vec<<S as Slice>::Item>,
@@ -102,7 +102,7 @@ impl<S: Slice, B: Buffer<S::Item> + Drop, M: Drop, A: Allocator + Copy, H: Mark>
     A,
     H,
 > {
-    /// The part from `start` to before `end` of what is stood on. Of a native block these are the
+    /// The part from `start` to before `end` of what is given. Of a native block these are the
     /// numbers of places, of others those of items.
     #[inline(always)]
     pub fn over(on: PartsStorage<S, B, M, A, H>, start: usize, end: usize, alloc: A) -> Self
@@ -117,7 +117,7 @@ impl<S: Slice, B: Buffer<S::Item> + Drop, M: Drop, A: Allocator + Copy, H: Mark>
         }
     }
 
-    /// What the parts stand on, from where to before where, and the allocator.
+    /// What the parts stand on, `start` and `end` in that, and the allocator.
     #[inline(always)]
     pub fn into_storage(self) -> (PartsStorage<S, B, M, A, H>, usize, usize, A)
         ensures within { IsWithin result.0 result.1 result.2 }
@@ -145,7 +145,7 @@ impl<S: Slice, B: Buffer<S::Item> + Drop, M: Drop, A: Allocator + Copy, H: Mark>
         }
     }
 
-    /// A slice that is there for good. No owner has it.
+    /// A `'static` slice. It has no owner.
     pub fn on_static(alloc: A, items: StaticSlice<S::Item>) -> Self
         ensures { result ≡ record { items = items; place = static_data; role = reader } }
     {
@@ -158,7 +158,7 @@ impl<S: Slice, B: Buffer<S::Item> + Drop, M: Drop, A: Allocator + Copy, H: Mark>
         }
     }
 
-    /// All of a native block that was just made; the pass becomes the block's.
+    /// All of a new native block. The pass becomes the block's.
     fn over_new<L: Layout>(
         alloc: A,
         block: NativeBlock<S, A, MAX_OWNERS, H>,
@@ -183,7 +183,7 @@ impl<S: Slice, B: Buffer<S::Item> + Drop, M: Drop, A: Allocator + Copy, H: Mark>
         }
     }
 
-    /// All items of a block of a caller's making, of which there are so many.
+    /// All items of a block of a caller's making, of which there are `end`.
     fn over_all(alloc: A, block: Block<S, B, M, A, MAX_OWNERS, H>, end: usize) -> Self
         requires all { end ≡ length block.items }
         requires places { length block.items ≤ block.facts.size }
@@ -201,9 +201,9 @@ impl<S: Slice, B: Buffer<S::Item> + Drop, M: Drop, A: Allocator + Copy, H: Mark>
         }
     }
 
-    /// A copy of the items: no items stand on nothing where the layout has static data, else they
-    /// stand on a new native block with exactly a place for each. The pass, which is of no block,
-    /// becomes the block's.
+    /// A copy of the items, on a new native block with exactly a place for each. No items, under a
+    /// layout that has static data, stand on nothing. The pass, which is of no block, becomes the
+    /// block's.
     ///
     /// # Errors
     ///
@@ -211,7 +211,7 @@ impl<S: Slice, B: Buffer<S::Item> + Drop, M: Drop, A: Allocator + Copy, H: Mark>
     ///
     /// # Allocates
     ///
-    /// Where the items need a block.
+    /// Once, where a block is needed.
     pub fn try_from_slice_as<L: Layout>(
         alloc: A,
         items: &[S::Item],
@@ -233,7 +233,7 @@ impl<S: Slice, B: Buffer<S::Item> + Drop, M: Drop, A: Allocator + Copy, H: Mark>
         Ok(Self::over_new::<L>(alloc, block, items.len(), new, pass))
     }
 
-    /// An array's items, which are moved as `try_from_slice_as` copies.
+    /// An array's items, which are moved into a block where `try_from_slice_as` copies them.
     ///
     /// # Errors
     ///
@@ -241,7 +241,7 @@ impl<S: Slice, B: Buffer<S::Item> + Drop, M: Drop, A: Allocator + Copy, H: Mark>
     ///
     /// # Allocates
     ///
-    /// Where the items need a block.
+    /// Once, where a block is needed.
     pub fn try_from_array_as<L: Layout, const N: usize>(
         alloc: A,
         array: [S::Item; N],
@@ -272,8 +272,8 @@ impl<S: Slice, B: Buffer<S::Item> + Drop, M: Drop, A: Allocator + Copy, H: Mark>
         self.end - self.start
     }
 
-    /// The items, of parts that a layout holds: only where an `Arc` may be a block by itself is it
-    /// asked what the parts stand on.
+    /// The items of parts that a layout holds. What the parts stand on is tested only where the
+    /// layout has an `Arc` as a block by itself.
     #[inline(always)]
     pub fn as_slice<L: Layout>(&self) -> &[S::Item]
         requires held { IsHeld (layout_facts L.Layout) self.now.place }
@@ -309,12 +309,14 @@ impl<S: Slice, B: Buffer<S::Item> + Drop, M: Drop, A: Allocator + Copy, H: Mark>
             Storage::Block(block) => block.range(self.start, self.end),
             Storage::Static(items) => items.range(self.start, self.end),
             Storage::Nothing(items) => items.range(self.start, self.end),
-            // It isn't reached, and reads as the others do, so that all are one read.
+            // This arm isn't reached. It reads as the others do, so that the compiler makes one
+            // read of all.
             Storage::Raw(shared) => shared.none.range(self.start, self.end),
         }
     }
 
-    /// Leaves the items from `start` to `end`, where they stand, also where these are none.
+    /// Keeps the items from `start` to before `end`. They stay where they stand, also where these
+    /// are none.
     #[inline(always)]
     pub fn keep(&mut self, start: usize, end: usize)
         requires range { (start ≤ end) × (end ≤ length self.old.items) }

@@ -14,24 +14,24 @@ use arc_owners::sizes::type_bytes;
 pub enum Room {
     /// The window has the places.
     Spare,
-    /// A new block of so many places.
+    /// A new block of this many places.
     Fresh(usize),
     /// The block's places behind the window.
     Behind,
-    /// All the block's places, once the items stand at its front.
+    /// All places of the block, after the items are moved to its front.
     Front,
-    /// The block, with so many places.
+    /// The block, which grows to this many places.
     Growth(usize),
-    /// The caller's buffer, which is asked for so many places more.
+    /// The caller's buffer, which is asked for this many places more.
     Own(usize),
-    /// Nowhere.
+    /// Nowhere, for this reason.
     Refused(TryReserveError),
 }
 
 /// The greatest number of places to which a block grows, and of bytes.
 pub const MOST: usize = 9223372036854775807;
 
-/// Whether so many places are no more than a block has at most, also in bytes.
+/// Whether a block may have this many places, also by their bytes.
 fn has_room<T>(places: usize) -> bool
     ensures { result ≡ not (is_too_large (type_size T.row) places) }
 {
@@ -41,7 +41,7 @@ fn has_room<T>(places: usize) -> bool
     }
 }
 
-/// Room by growth of a block of `size` places, for so many items behind `end`.
+/// Room by growth of a block of `size` places, for `additional` items behind `end`.
 fn growth_to<T>(is_vector: bool, size: usize, end: usize, additional: usize) -> Room
     ensures room { result ≡ growth (memory_sort is_vector) (type_size T.row) size end additional }
     ensures memory { IfOwn result ⊥ }
@@ -60,8 +60,7 @@ fn growth_to<T>(is_vector: bool, size: usize, end: usize, additional: usize) -> 
     }
 }
 
-/// Room by growth of a vector, to so many places, or to those that are needed where that is too
-/// much.
+/// Room by growth of a vector to `places`, or to the `needed` places where `places` are too many.
 fn vector_growth<T>(places: usize, needed: usize) -> Room
     ensures room { result ≡ vector_room (type_size T.row) places needed }
     ensures memory { IfOwn result ⊥ }
@@ -76,8 +75,8 @@ fn vector_growth<T>(places: usize, needed: usize) -> Room
     })
 }
 
-/// Where a writer of `len` items at `offset`, in a block of `size` places of which `full` are, has
-/// room for so many more. The block is a vector, or a native one.
+/// Where a writer of `len` items at `offset`, in a block of `size` places of which `full` are full,
+/// has room for `additional` more. The block is a vector, or a native one.
 pub fn room_in<S: Slice>(
     is_vector: bool,
     size: usize,

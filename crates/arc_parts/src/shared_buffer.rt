@@ -13,8 +13,8 @@ use std::sync::Arc;
 /// An `Arc` of a caller's buffer that is a block by itself: the language counts its owners.
 /// Contracts see the buffer's items.
 ///
-/// It begins with where items begin, of which there are none: so the read of windows under other
-/// layouts, which never stand on it, needn't ask what a window stands on.
+/// Its first field is a place where no items lie. So the other layouts, whose windows never stand
+/// on it, read a window's items without a test of what it stands on.
 #[derive(Drop)]
 pub struct SharedBuffer<T, B: Buffer<T> + Drop, A: Allocator> {
     pub(crate) none: StaticItems<T>,
@@ -48,7 +48,7 @@ impl<T, B: Buffer<T> + Drop, A: Allocator> SharedBuffer<T, B, A> {
         self.shared.as_slice().len()
     }
 
-    /// The items from `start` to before `end`, for which the buffer is asked.
+    /// The items from `start` to before `end`, which the buffer is asked for.
     pub(crate) fn range(&self, start: usize, end: usize) -> &[T]
         requires { (start ≤ end) × (end ≤ length self.now) }
         ensures { result.now ≡ sub self.now start end }
@@ -56,7 +56,7 @@ impl<T, B: Buffer<T> + Drop, A: Allocator> SharedBuffer<T, B, A> {
         &self.shared.as_slice()[..end][start..]
     }
 
-    /// The same buffer again, as another owner of the `Arc`. Takes no memory.
+    /// A clone of the `Arc`. It takes no memory.
     ///
     /// # Errors
     ///

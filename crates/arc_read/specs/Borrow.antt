@@ -11,8 +11,8 @@ use Rattle.arc_parts.specs.Window.{Window}
 use Rattle.arc_read.specs.Cuts.{cut_window}
 use Rattle.arc_read.specs.declared.borrow.ArcSliceBorrow.{ArcSliceBorrow}
 
--- where another owner of a window stands that was borrowed: with no items on nothing, where the
--- layout has static data
+-- where a window stands that is made of a borrowed part: on nothing where it has no items and the
+-- layout has static data, else where the part does
 abbrev pub clone_place : {T M : Type 0} → Bool → Window T M → Place (Option Owner) M
 clone_place has_static w =
     if has_static && (length w.items == 0) then nowhere else w.place

@@ -7,12 +7,13 @@ use Rattle.arc_block.specs.Place.{Place, moved, part_place}
 use Rattle.arc_parts.specs.Window.{Window}
 use Rattle.arc_parts.specs.Steps.{Shares}
 
--- the part from start to end, as the same owner: it stays where it stands, also with no items
+-- the window cut to the part from start to end: the same owner, at the same block also without
+-- items
 abbrev pub cut_window : {T M : Type 0} → Window T M → ℕ → ℕ → Window T M
 cut_window w start end = record { items = sub w.items start end; place = moved start w.place }
 
--- where another owner of the part from start to end stands: with no items on nothing, where the
--- layout has static data
+-- where a new window over the part from start to end stands: on nothing where it has no items and
+-- the layout has static data, else in the block
 abbrev pub sub_place : {T M : Type 0} → Bool → Window T M → ℕ → ℕ → Place (Option Owner) M
 sub_place has_static w start end = part_place has_static (sub w.items start end) start w.place
 
@@ -41,12 +42,12 @@ module _ {T M H : Type 0} where
     pub earlier : at < length w.items → (back ≡ cut_window w at (length w.items))
         × SharesPart has_static w 0 at old new front
 
--- where the part stands that a split which hands out the back makes anew: the back, or at the front
--- end the front, which then has no items
+-- where the new part of a split stands that hands out the back: it is the back, or at the front end
+-- the front, without items
 abbrev pub off_place : {T M : Type 0} → Bool → Window T M → ℕ → Place (Option Owner) M
 off_place has_static w at = sub_place has_static w at (if at == 0 then 0 else length w.items)
 
--- where the part stands that a split which hands out the front makes anew: the front, or at the
--- back end the back, which then has no items
+-- where the new part of a split stands that hands out the front: it is the front, or at the back
+-- end the back, without items
 abbrev pub to_place : {T M : Type 0} → Bool → Window T M → ℕ → Place (Option Owner) M
 to_place has_static w at = sub_place has_static w (if at == length w.items then at else 0) at

@@ -2,7 +2,7 @@
 use Rattle.std.specs.Prelude.{ℕ, ◌+◌, List, length}
 use Rattle.arc_block.specs.Place.{Place, nowhere, static_data, on_block}
 
--- the place in its block at which a window ends: what is read off its front leaves it there
+-- the place in its block at which a window ends, which reads off its front don't change
 abbrev pub end_place : {T N M : Type 0} → Place N M → List T → ℕ
 end_place nowhere items = 0
 end_place static_data items = 0

@@ -14,17 +14,18 @@ use arc_parts::parts::Parts;
 use std::alloc::{Allocator, Global};
 use std::marker::{Model, PhantomData};
 
-/// A part of a block that may have other owners, of a slice that is there for good, or of nothing.
-/// Clones and cuts share the block and copy no item.
+/// A window that is read: a part of a block that may have other owners, or of a `'static` slice, or
+/// nothing. Clones and cuts share the block and copy no item.
 ///
 /// `B` is the type of callers' buffers and `M` that of their metadata.
 ///
-/// Each call that makes, steps on or leaves a block has a form that ends in `_as` and takes a pass
-/// of the block, in which contracts read what was added to the block's history; a window that
-/// stands on no block has a pass of none, and so has one on an `Arc` that is a block by itself,
-/// whose owners the language counts. The plain form is that form with a new pass. Dropped, a
-/// window under the mark `Open` ends with a new pass. Under `Whole` only the `_as` forms are there,
-/// and a dropped window is a forgotten owner of its block.
+/// Each call that makes, steps on or leaves a block has a form that ends in `_as`. It takes a pass
+/// of the block, in which contracts read what is added to the block's history. The plain form is
+/// that form with a new pass. Two windows have a pass of no block: one that stands on no block, and
+/// one on an `Arc` that is a block by itself, whose owners the language counts.
+///
+/// A window under the mark `Open` that is dropped ends with a new pass. Under `Whole` there are the
+/// `_as` forms alone, and a window that is dropped is a forgotten owner of its block.
 pub struct ArcSlice<
     S: Slice,
     L: Layout = DefaultLayout,
@@ -71,7 +72,7 @@ impl<
     A: Allocator + Copy,
     H: Mark,
 > ArcSlice<S, L, B, M, A, H> {
-    /// A window with no items, which stands on nothing.
+    /// A window without items, which stands on nothing.
     pub fn new(alloc: A) -> Self
     where
         S: Emptyable,
@@ -81,8 +82,8 @@ impl<
         Self::from_parts(Parts::on_nothing(alloc))
     }
 
-    /// The window of these parts, which are those of a window that is read, with a list that is
-    /// legal, on what the layout holds. It adds nothing.
+    /// The window that is made of these parts: those of a reader, with a list that is legal for the
+    /// kind, on what the layout holds. It adds no entry.
     #[inline(always)]
     pub fn from_parts(parts: Parts<S, B, M, A, H>) -> Self
         requires role { parts.role ≡ reader }
@@ -96,7 +97,7 @@ impl<
         }
     }
 
-    /// What the window is made of. It adds nothing.
+    /// What the window is made of. It adds no entry.
     #[inline(always)]
     pub fn into_parts(self) -> Parts<S, B, M, A, H>
         ensures parts { result ≡ parts_of self }

@@ -1,14 +1,14 @@
--- The words behind a program's name, and what they are read from.
+-- The words behind a program's name, and the arguments that they are read from.
 use Rattle.std.specs.Prelude.{◌≡◌, ℕ, ◌+◌, List, [], ◌∷◌, length, take, Result, Ok, Err, ◌⊎◌}
 use Rattle.std.specs.Prelude.{IsUtf8}
 use Rattle.std.specs.declared.env.FillError.{FillError}
 use Rattle.std.specs.declared.env.FillError.TheVariants.{NotPresent, TooLong}
 
--- what an argument is answered: its bytes, or that there is none, or that it has no room
+-- the answer for an argument: its bytes, or that there is none, or that there is no room for it
 abbrev pub Answer : Type 0
 Answer = Result (List ℕ) FillError
 
--- what a call answered that writes to the front of a buffer, with the buffer after it
+-- the answer of a call that writes to the front of a buffer, with the buffer after it
 abbrev pub filled : Result ℕ FillError → List ℕ → Answer
 filled (Ok n) buf = Ok (take n buf)
 filled (Err e) buf = Err e
@@ -18,7 +18,7 @@ pub record IsTextOf (bytes word : List ℕ) : Type 0 where
   pub text : IsUtf8 bytes → word ≡ bytes
   pub other : ¬ IsUtf8 bytes → word ≡ []
 
--- the word of an argument that may be answered so: an empty one where it has no room
+-- the word of an argument with this answer: an empty one where there is no room for it
 abbrev pub IsWord : (Answer → Type 0) → List ℕ → Type 0
 IsWord answers word = (answers (Err TooLong) × (word ≡ []))
     ⊎ ((bytes : List ℕ) × answers (Ok bytes) × IsTextOf bytes word)

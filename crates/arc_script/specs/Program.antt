@@ -36,7 +36,7 @@ status_of (Err Alloc) = 1
 status_of (Err Read) = 3
 status_of (Err Write) = 4
 
--- the line that tells how the program is called
+-- the line that says how the program is called
 abbrev pub usage_text : List ℕ
 usage_text = codes "usage: arcs arc|boxed|vec|raw|storm N" ++ line_feed ∷ []
 
@@ -49,15 +49,17 @@ module _ (layout : ScriptLayout) where
     pub failures : reader'.failures ≡ reader.failures
     pub clean : NoFault writer writer'
 
-  -- a run that was given up; where a read failed, each whole line that came is answered
+  -- A run that ended by a fault. Where a read failed, each line whose line feed was read is
+  -- answered.
   pub record IsCut (reader reader' writer writer' : Traffic) (error : ScriptError) : Type 0 where
     pub text : Exchanges (BeginsReplyText layout) reader reader' writer writer'
-    pub broken : Exchanges (BreaksOff layout error) reader reader' writer writer'
+    pub broken : Exchanges (BreaksOff layout error reader'.last) reader reader' writer writer'
     pub answered : error ≡ Read
         → Exchanges (AnswersWhole layout) reader reader' writer writer'
     pub cause : IsCause reader reader' writer writer' error
 
-  -- a run of the script, its status, and what is told of it: nothing, or the line of its fault
+  -- a run of the script, its status, and what it wrote to standard error: nothing, or the line of
+  -- its fault
   pub record IsRun (reader reader' writer writer' faults faults' : Traffic) (status : ℕ)
       : Type 0 where
     pub outcome : Result (Unit {0}) ScriptError
@@ -77,8 +79,8 @@ pub record Runs (words : List (String Global)) (reader reader' writer writer' : 
   pub usage : AsksForNone words → (status ≡ 2) × (reader' ≡ reader) × (writer' ≡ writer)
       × Tells usage_text faults faults'
 
--- It does so for the words that it was given, or memory was refused for them, before anything was
--- read or written, and that was told.
+-- The program does so for the words that it was started with. Or memory was refused for these
+-- before anything was read or written, and that is the line on standard error.
 abbrev pub RunsGiven : (ℕ → Answer → Type 0) → Traffic → Traffic → Traffic → Traffic → Traffic
     → Traffic → ℕ → Type 0
 RunsGiven answers reader reader' writer writer' faults faults' status =

@@ -16,7 +16,7 @@ pub record AsksForStorm (workers : ℕ) (words : List (String Global)) : Type 0 
   pub some : 1 ≤ workers
   pub most : workers ≤ 64
 
--- how a storm ends: the vector was written, something was refused, or the write went wrong
+-- how a storm ends: the vector was written, something was refused, or the write failed
 pub data StormEnd : Type 0 where
   written : StormEnd
   refused : StormError → StormEnd
@@ -31,7 +31,7 @@ storm_status unwritten = 4
 abbrev pub storm_text : List ℕ
 storm_text = hex (42 ∷ []) ++ line_feed ∷ []
 
--- the line in which a refusal is told
+-- the line on standard error for a refusal
 abbrev pub storm_fault_text : StormError → List ℕ
 storm_fault_text (Owner AllocError) = codes "allocation error" ++ line_feed ∷ []
 storm_fault_text (Owner CountFull) = codes "count full" ++ line_feed ∷ []
@@ -46,13 +46,13 @@ StormWrites (refused error) writer writer' = writer' ≡ writer
 StormWrites unwritten writer writer' =
     TakesFront storm_text writer writer' × (faults writer' ≡ faults writer + 1)
 
--- what is told of it: nothing, or the line of its fault
+-- what it wrote to standard error: nothing, or the line of its fault
 abbrev pub StormTells : StormEnd → (told told' : Traffic) → Type 0
 StormTells written told told' = told' ≡ told
 StormTells (refused error) told told' = Tells (storm_fault_text error) told told'
 StormTells unwritten told told' = Tells (fault_text Write) told told'
 
--- a storm, its status, and what is written and told
+-- a storm, its status, and what it wrote to the writer and to standard error
 pub record IsStorm (writer writer' told told' : Traffic) (status : ℕ) : Type 0 where
   pub end : StormEnd
   pub answered : status ≡ storm_status end

@@ -1,4 +1,4 @@
-//! Readers and writers that tell what passed.
+//! Readers and writers, with what their calls have given or taken.
 ghost use Rattle.std.specs.Prelude.{◌≡◌, ◌≤◌, ℕ, List, Option, length, IfOk};
 ghost use Rattle.std.specs.Borrow.{ftrue};
 ghost use Rattle.std.specs.Io.KnownBytes.{ReadConsumes, WriteAppends};
@@ -9,17 +9,17 @@ use std::io;
 use std::io::{Read, Write};
 use std::marker::Model;
 
-/// What gives a script its bytes: std's `read`, which tells its bytes and counts its failures and
-/// the ends it found.
+/// A reader that gives a script its bytes: `read` of std. Contracts read in `traffic` which bytes
+/// it has given, how many reads failed, and how many found the end.
 pub trait Source {
-    /// What its reads have given so far.
+    /// What its reads have given.
     ghost traffic: { Self → Traffic };
 
-    /// What its reads will give from here on, where that is known.
+    /// What its further reads give, where that is known.
     ghost remaining: { Self → Option (List ℕ) };
 
-    /// Reads into the front of `buf`, and answers how many bytes: none where `buf` is empty or the
-    /// end was found.
+    /// Reads into the front of `buf`, and answers how many bytes: 0 where `buf` is empty or the end
+    /// is found.
     ///
     /// # Errors
     ///
@@ -30,10 +30,10 @@ pub trait Source {
         ensures bytes { ReadConsumes (remaining self.old) (remaining self.new) result buf.new };
 }
 
-/// What takes a script's replies: std's `write`, which tells its bytes and counts its failures and
-/// the writes that took nothing.
+/// A writer that takes a script's replies: `write` of std. Contracts read in `traffic` which bytes
+/// it has taken, how many writes failed, and how many took nothing.
 pub trait Sink {
-    /// What its writes have taken so far.
+    /// What its writes have taken.
     ghost traffic: { Self → Traffic };
 
     /// What it holds, where that is known.
@@ -53,16 +53,17 @@ pub trait Sink {
 /// A call of a reader or a writer.
 #[derive(Clone, Copy)]
 pub struct Call<'a> {
-    /// What was lent to the call.
+    /// The slice that is lent to the call.
     pub slice: &'a [u8],
-    /// How many of its first bytes passed, `None` where the call failed.
+    /// How many of its first bytes the call gives or takes, `None` where it fails.
     pub passed: Option<usize>,
 }
 
-/// All the calls so far. It has no bytes, and its methods do nothing at run time.
+/// The calls of a reader or writer up to here. It has no bytes, and its methods do nothing at run
+/// time.
 #[derive(Drop)]
 pub struct Log {
-    /// What the calls gave or took.
+    /// What the calls have given or taken.
     pub ghost traffic: { Traffic },
 }
 
@@ -71,14 +72,14 @@ impl Model for Log {
 }
 
 impl Log {
-    /// No call yet.
+    /// A log without calls.
     pub fn new() -> Log
         ensures { result.traffic ≡ no_traffic }
     {
         Log {}
     }
 
-    /// The calls so far, and then this one.
+    /// The log with one call more.
     pub fn then(&self, _call: &Call) -> Log
         ensures { result.traffic
             ≡ after_call self.now.traffic _call.now.slice.now _call.now.passed }
@@ -87,7 +88,7 @@ impl Log {
     }
 }
 
-/// A reader or a writer of std's, with what it has told.
+/// A reader or writer of std, with the log of its calls.
 #[derive(Drop)]
 pub struct Counted<T> {
     device: T,
@@ -101,7 +102,7 @@ impl<T> Model for Counted<T> {
 }
 
 impl<T> Counted<T> {
-    /// A device from which nothing was asked yet.
+    /// A reader or writer, with a log without calls.
     pub fn new(device: T) -> Self
         ensures { result ≡ record { device = device; traffic = no_traffic } }
     {

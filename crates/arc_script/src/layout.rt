@@ -25,10 +25,10 @@ pub trait NamedLayout: Layout
 where
     Self::Writable: LayoutMut,
 {
-    /// Which it is.
+    /// Its name.
     ghost named: { Named };
 
-    /// A script's tables under it are run as its name says.
+    /// A script's tables under the layout are run with the setting of its name.
     ghost run_so: { byte_setting (layout_facts Self.Layout) Self.Writable.ANY
         Self.clone_wants ≡ script_setting Self.named };
 }

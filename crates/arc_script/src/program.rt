@@ -14,7 +14,7 @@ ghost use Rattle.arc_script.specs.Storms.{AsksForStorm, IsStorm};
 use crate::io::{Sink, Source};
 use crate::layout::ScriptLayout;
 use crate::script::{ScriptError, run_script, write_out};
-use crate::storm::OpenGate;
+use crate::storm::{Gate, OpenGate};
 use arc_owners::error::AllocError;
 use std::alloc::{Allocator, Global};
 use std::env::FillError;
@@ -26,15 +26,15 @@ use storms::{run_storm, workers_of};
 
 pub mod storms;
 
-/// How long a word of the program's may be, in bytes: each that it knows is shorter.
+/// How many bytes are read of a word at most. Each word that the program knows is shorter.
 const WORD: usize = 64;
 
-/// What a program was started with.
+/// The arguments with which a program is started.
 pub trait Arguments {
     ghost use Rattle.std.specs.Io.{WritesAtMost};
     ghost use Rattle.arc_script.specs.Arguments.{Answer, filled};
 
-    /// What may be answered for an argument: by its number, and the room that there is for it.
+    /// What `arg` may answer for an argument, by its number and the room that it gets.
     ghost answers: { Self → ℕ → ℕ → Answer → Type 0 };
 
     /// Writes argument `i` to the front of `buf`, and answers its length.
@@ -47,11 +47,11 @@ pub trait Arguments {
         ensures answer { answers self.now i (length buf.new) (filled result buf.new) };
 }
 
-/// The arguments that the system gives. Of them nothing is known: std's contract says no more than
-/// how long an answer is.
+/// The arguments that the system gives. Nothing is known of them but how long an answer is, as
+/// std's contract says.
 #[derive(Clone, Copy)]
 pub struct OfSystem<'a, E> {
-    /// Where the system's arguments are asked for.
+    /// What gives the system's arguments.
     pub env: &'a E,
 }
 
@@ -63,7 +63,7 @@ impl<E: Env> Arguments for OfSystem<'_, E> {
     }
 }
 
-/// The line in which a fault is told.
+/// The line on standard error for a fault.
 fn fault_line(error: ScriptError) -> &'static [u8]
     ensures { result.now ≡ fault_text error }
 {
@@ -74,8 +74,7 @@ fn fault_line(error: ScriptError) -> &'static [u8]
     }
 }
 
-/// Writes a line to standard error, as far as it takes it: whether all of it was written changes
-/// nothing.
+/// Writes a line to standard error. Where a write of it fails nothing is done about that.
 fn tell<F: Sink>(faults: &mut F, line: &[u8])
     ensures told { Tells line.now (F.traffic faults.old) (F.traffic faults.new) }
     ensures line_taken { Takes (F.traffic faults.old) (F.traffic faults.new)
@@ -84,8 +83,8 @@ fn tell<F: Sink>(faults: &mut F, line: &[u8])
     let _ = write_out(faults, line);
 }
 
-/// The status that a fault ends with, and its line on standard error. A failed write of the line
-/// changes no status.
+/// Writes the line of a fault to standard error, and answers the status of the fault. A write of
+/// that line that fails changes no status.
 fn report<F: Sink>(faults: &mut F, error: ScriptError) -> u8
     ensures status { result ≡ status_of (Err error) }
     ensures told { Tells (fault_text error) (F.traffic faults.old) (F.traffic faults.new) }
@@ -100,26 +99,35 @@ fn report<F: Sink>(faults: &mut F, error: ScriptError) -> u8
     }
 }
 
-/// Runs the program on its words, and answers its status.
+/// Runs the program on its words, and answers its status:
 ///
 /// For one word that stands for a layout, `arc`, `boxed`, `vec` or `raw`, it runs the script that
 /// the reader gives with windows under that: 0 where all of it was answered,
 /// 1 where memory was refused, 3 where a read failed, 4 where a write failed or took nothing. For
-/// `storm` with a number from 1 to 64 so many threads clone one window; it writes the vector that
-/// comes back: 0 where that was written, 1 where something was refused, 4 where the write failed;
-/// no input is read. A fault is told to `faults` in one line. For any other words it tells the
-/// usage there, and answers 2 before any input is read.
+/// `storm` with a number from 1 to 64 so many threads clone one window, and pass the gate; it
+/// writes the vector that comes back: 0 where that was written, 1 where something was refused, 4
+/// where the write failed; no input is read. A fault is told to `faults` in one line. For any other
+/// words it tells the usage there, and answers 2 before any input is read.
 ///
 /// # Allocates
 ///
 /// As `run_script`, or as `storm`.
 pub fn run_args<
     T: Threads + Wait + Sync + AllocGlobal,
+    G: Gate + Sync,
     R: Source,
     W: Sink,
     F: Sink,
     A: Allocator + Copy,
->(rt: &T, alloc: A, words: &[String], reader: &mut R, writer: &mut W, faults: &mut F) -> u8
+>(
+    rt: &T,
+    gate: &G,
+    alloc: A,
+    words: &[String],
+    reader: &mut R,
+    writer: &mut W,
+    faults: &mut F,
+) -> u8
     ensures script { (layout : ScriptLayout) → AsksFor layout words.now
         → IsRun layout (R.traffic reader.old) (R.traffic reader.new) (W.traffic writer.old)
         (W.traffic writer.new) (F.traffic faults.old) (F.traffic faults.new) result }
@@ -142,7 +150,7 @@ pub fn run_args<
 {
     let Some(layout) = layout_of(words) else {
         if let Some(workers) = workers_of(words) {
-            return run_storm(rt, &OpenGate, workers, writer, faults);
+            return run_storm(rt, gate, workers, writer, faults);
         }
         tell(faults, b"usage: arcs arc|boxed|vec|raw|storm N\n");
         return 2;
@@ -175,7 +183,7 @@ fn word_for(layout: ScriptLayout) -> &'static str
     }
 }
 
-/// The layout for which the words ask, `None` where they are no one word for one.
+/// The layout whose word is the only one of these, or `None`.
 #[tactic(auto, using(crate::proofs::Layouts::asks_for_none))]
 fn layout_of(words: &[String]) -> Option<ScriptLayout>
     ensures { MatchOption result ((layout : ScriptLayout) → ¬ AsksFor layout words.now)
@@ -196,7 +204,7 @@ fn layout_of(words: &[String]) -> Option<ScriptLayout>
     None
 }
 
-/// The text of some bytes, empty where they are none.
+/// The bytes as text; empty where they aren't UTF-8.
 fn text_of(bytes: &[u8]) -> &str
     ensures { IsTextOf bytes.now result.now }
 {
@@ -206,7 +214,7 @@ fn text_of(bytes: &[u8]) -> &str
     }
 }
 
-/// The word of argument `i`, if there is one.
+/// The word of argument `i`, or `None` where there is no such argument.
 fn word<G: Arguments>(given: &G, alloc: Global, i: usize) -> Result<Option<String>, AllocError>
     ensures { IfOk result (λ found. MatchOption found
         (G.answers given.now i WORD (Err NotPresent))
@@ -220,8 +228,8 @@ fn word<G: Arguments>(given: &G, alloc: Global, i: usize) -> Result<Option<Strin
     }
 }
 
-/// The words behind the program's name, each in its order. One that isn't text, or is longer than
-/// each word that the program knows, stands here as an empty word.
+/// The words behind the program's name, in their order. An empty word stands for one that isn't
+/// text, or that is longer than each word that the program knows.
 ///
 /// # Errors
 ///
@@ -229,7 +237,7 @@ fn word<G: Arguments>(given: &G, alloc: Global, i: usize) -> Result<Option<Strin
 ///
 /// # Allocates
 ///
-/// For each word, and for their list.
+/// Once for each word, and for their list.
 pub fn words<G: Arguments>(given: &G, alloc: Global) -> Result<Vec<String>, AllocError>
     ensures { IfOk result (λ words. AreWords (λ i. G.answers given.now i WORD)
         (map string_bytes words.items)) }
@@ -244,8 +252,9 @@ pub fn words<G: Arguments>(given: &G, alloc: Global) -> Result<Vec<String>, Allo
     unreachable!()
 }
 
-/// Runs the program on the words that it was given, as `run_args` says, and answers its status. 1
-/// where memory is refused for them; that is told to `faults` too.
+/// Runs the program on the words that it was given, as `run_args` says, through a gate that holds
+/// nobody up, and answers its status. 1 where memory is refused for the words; that is told to
+/// `faults` too.
 ///
 /// # Allocates
 ///
@@ -271,7 +280,7 @@ pub fn start<T: Threads + Wait + Sync + AllocGlobal, G: Arguments, R: Source, W:
         ⊎ GivesAll (R.traffic reader.old) (R.traffic reader.new) (R.remaining reader.old) }
 {
     match words(given, alloc) {
-        Ok(words) => run_args(rt, alloc, &words, reader, writer, faults),
+        Ok(words) => run_args(rt, &OpenGate, alloc, &words, reader, writer, faults),
         Err(_) => report(faults, ScriptError::Alloc),
     }
 }

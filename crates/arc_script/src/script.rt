@@ -8,7 +8,7 @@ ghost use Rattle.arc_script.specs.Script.{HasNoFeed, IsReplyText, OfWholeLines};
 ghost use Rattle.arc_block.specs.Owned.{IsKept};
 ghost use Rattle.arc_block.specs.declared.block.TheConstants.{MAX_OWNERS};
 ghost use Rattle.arc_script.specs.State.{CarriesOutSaid};
-ghost use Rattle.arc_script.specs.Script.{script_setting};
+ghost use Rattle.arc_script.specs.Script.{lends, script_setting};
 ghost use Rattle.arc_forms.specs.Seen.{line_command};
 ghost use Rattle.arc_forms.specs.Commands.{ByteReply};
 ghost use Rattle.std.specs.Option.{option_map};
@@ -35,20 +35,20 @@ use std::alloc::Allocator;
 use std::sync::Wait;
 use thiserror::Error;
 
-/// How many bytes are read at once, and how many bytes of replies are held at most before they go
-/// out.
+/// How many bytes are read at most by one call. As soon as as many bytes of replies are held, these
+/// are written.
 const PIECE: usize = 65536;
 
-/// Why a script was not run to its end.
+/// Why a script isn't run to its end.
 #[derive(Clone, Copy, Debug, PartialEq, Eq, Error)]
 pub enum ScriptError {
-    /// A read failed.
+    /// A read fails.
     #[error("read failed")]
     Read,
-    /// A write failed, or took nothing.
+    /// A write fails, or takes nothing.
     #[error("write failed")]
     Write,
-    /// Memory for a piece of the input, for a line, for its items or for replies was refused.
+    /// Memory is refused: for a piece of the input, for a line, for its items or for replies.
     #[error("allocation error")]
     Alloc,
 }
@@ -61,11 +61,11 @@ impl From<AllocError> for ScriptError {
     }
 }
 
-/// Writes the bytes, in as many calls as it takes.
+/// Writes the bytes, in as many calls as that takes.
 ///
 /// # Errors
 ///
-/// `Write` where a call failed or took nothing: those before it took a beginning of the bytes.
+/// `Write` where a call fails or takes nothing. The calls before it took a beginning of the bytes.
 pub fn write_out<W: Sink>(writer: &mut W, bytes: &[u8]) -> Result<(), ScriptError>
     ensures ok { OnOk result
         ((W.traffic writer.new).bytes ≡ (W.traffic writer.old).bytes ++ bytes.now) }
@@ -91,7 +91,7 @@ pub fn write_out<W: Sink>(writer: &mut W, bytes: &[u8]) -> Result<(), ScriptErro
 /// The windows of a script, over bytes.
 type ByteTable<L, A> = Table<Plain<u8>, L, Vec<u8, A>, u64, A>;
 
-/// Carries out a command, and appends what it is answered.
+/// Carries out a command that doesn't only lend, and appends what it is answered.
 #[inline(always)]
 fn answer_command<L: NamedLayout, A: Allocator + Copy>(
     table: &mut ByteTable<L, A>,
@@ -101,6 +101,7 @@ fn answer_command<L: NamedLayout, A: Allocator + Copy>(
 ) -> Result<(), AllocError>
 where
     L::Writable: LayoutMut,
+    requires { lends (line_command command) ≡ false }
     ensures ok { OnOk result (AnswersInto L.named (Some (line_command command)) table.old table.new
         out.old.items out.new.items) }
     ensures err { OnErr result (out.new.items ≡ out.old.items) }
@@ -111,9 +112,14 @@ where
     push_answer(out, &reply)
 }
 
-/// Carries out the command that a line was read as, and appends what it is answered; a line that
-/// says none changes nothing else. The items that a `show` is answered go from the window into the
-/// reply's text. `Err` where memory is refused for that text, of which nothing is left then.
+/// Carries out the command of a line, and appends the text of its reply to `out`. For a line that
+/// says none, it appends `bad line`. The items of a `show` go from the window into the text,
+/// without a copy between.
+///
+/// # Errors
+///
+/// `AllocError` where memory is refused for that text, of which nothing is appended then. The
+/// command is carried out.
 #[inline(always)]
 fn answer<L: NamedLayout, A: Allocator + Copy>(
     table: &mut ByteTable<L, A>,
@@ -141,7 +147,7 @@ where
     }
 }
 
-/// The same, wherever it isn't known what the line says.
+/// `answer`, for callers that don't know which command the line says.
 #[inline(always)]
 fn answer_said<L: NamedLayout, A: Allocator + Copy>(
     table: &mut ByteTable<L, A>,
@@ -167,11 +173,11 @@ where
     }
 }
 
-/// A script that is being run: its windows, what has come of a line, and the replies that have not
-/// gone out. It can't be dropped: it ends by `end`, which ends its windows.
+/// A script that is being run: its windows, what is held of a line, and the replies that are not
+/// yet written. It can't be dropped: it ends by `end`, which ends its windows.
 ///
-/// What has one begins with `agree` of its table, which does nothing: so the types of the table's
-/// kind are named there, as the borrow checker asks.
+/// Each of its methods begins with the table's `agree`, which does nothing. That call names the
+/// types of the table's kind, as the borrow checker asks.
 struct Engine<L: NamedLayout, A: Allocator + Copy>
 where
     L::Writable: LayoutMut,
@@ -211,7 +217,8 @@ where
         }
     }
 
-    /// Holds more of the line, or only that it is too long.
+    /// Holds the bytes as more of the line. Of a line of more than `LONGEST_LINE` bytes it holds
+    /// only that it is too long.
     fn hold(&mut self, bytes: &[u8]) -> Result<(), AllocError>
         ensures ok { OnOk result ((line : List ℕ) → Holds self.old.line.items self.old.too_long line
             → Holds self.new.line.items self.new.too_long (line ++ bytes.now)) }
@@ -228,7 +235,7 @@ where
         Ok(())
     }
 
-    /// Reads the line that is held.
+    /// Reads the line that is held as a command, or as `None` where it says none.
     fn read_line(&self) -> Result<Option<Command<A>>, AllocError>
         ensures { IfOk result (λ said. (line : List ℕ)
             → Holds self.now.line.items self.now.too_long line → IsReadAs line said) }
@@ -240,7 +247,7 @@ where
         parse(self.alloc, &self.line)
     }
 
-    /// Answers the line that is held.
+    /// Answers the line that is held. Then none is held.
     #[inline(never)]
     fn end_line(&mut self, rt: &impl Wait) -> Result<(), AllocError>
         ensures ok { OnOk result
@@ -260,7 +267,7 @@ where
         Ok(())
     }
 
-    /// Answers a line where it stands, whatever it says.
+    /// Answers a line that isn't held, whatever it says.
     #[inline(never)]
     fn answer_any(&mut self, rt: &impl Wait, line: &[u8]) -> Result<(), AllocError>
         ensures ok { OnOk result (Ends L.named line.now false self.old.table self.new.table
@@ -276,7 +283,7 @@ where
         answer_said(&mut self.table, rt, said, &mut self.out)
     }
 
-    /// Answers a line where it stands. Of the line that is held nothing changes.
+    /// Answers a line that isn't held. The line that is held stays as it is.
     #[inline(always)]
     fn answer_in_place(&mut self, rt: &impl Wait, line: &[u8]) -> Result<(), AllocError>
         ensures ok { OnOk result (Ends L.named line.now false self.old.table self.new.table
@@ -295,8 +302,8 @@ where
         }
     }
 
-    /// Takes the end of a line and its line feed, and answers the line: where it stands, if nothing
-    /// of it came before.
+    /// Takes the rest of a line up to its line feed, and answers the line. A line of which nothing
+    /// is held is answered without being held.
     fn close_line(&mut self, rt: &impl Wait, bytes: &[u8]) -> Result<(), AllocError>
         requires { HasNoFeed bytes.now }
         ensures ok { OnOk result ((writer : Traffic)
@@ -316,8 +323,8 @@ where
         Ok(())
     }
 
-    /// Writes the replies that are held. None is held afterwards, also where the write failed:
-    /// nothing goes out behind a gap.
+    /// Writes the replies that are held. None is held afterwards, also where the write fails: so no
+    /// later reply is written behind a gap.
     fn flush<W: Sink>(&mut self, writer: &mut W) -> Result<(), ScriptError>
         ensures ok { OnOk result
             ((W.traffic writer.new).bytes ≡ (W.traffic writer.old).bytes ++ self.old.out.items) }
@@ -339,8 +346,8 @@ where
         written
     }
 
-    /// Takes the end of a line and its line feed, and answers the line. Replies go out where many
-    /// are held, so that between two lines fewer than `PIECE` bytes of them are held.
+    /// Takes the rest of a line up to its line feed, answers the line, and writes the replies that
+    /// are held where these are `PIECE` bytes or more.
     fn take_line<W: Sink>(
         &mut self,
         rt: &impl Wait,
@@ -368,7 +375,7 @@ where
         Ok(())
     }
 
-    /// Takes a piece of the input.
+    /// Takes a piece of the input: answers its lines, and holds what is behind the last line feed.
     fn feed<W: Sink>(
         &mut self,
         rt: &impl Wait,
@@ -397,8 +404,9 @@ where
         Ok(())
     }
 
-    /// Reads a piece of the input, answers its lines and writes their replies, also those to the
-    /// lines before one for which memory was refused. `false` at the end of the input.
+    /// Reads a piece of the input, answers its lines and writes their replies. Where memory is
+    /// refused for a line, it writes the replies to the lines before. It answers `false` at the end
+    /// of the input.
     fn take_piece<R: Source, W: Sink>(
         &mut self,
         rt: &impl Wait,
@@ -421,8 +429,8 @@ where
         ensures drained { IfOk result (λ more. more ≡ false → IsAtEnd (R.remaining reader.new)) }
         ensures begun { IfErr result (λ fault. (r w : Traffic)
             → IsRunning L.named r (R.traffic reader.old) w (W.traffic writer.old) self.old
-            → Exchanges (IsBrokenOff L.named fault self.new.table) r (R.traffic reader.new)
-            w (W.traffic writer.new)) }
+            → Exchanges (IsBrokenOff L.named fault (R.traffic reader.new).last self.new.table)
+            r (R.traffic reader.new) w (W.traffic writer.new)) }
         ensures answered { IfErr result (λ fault. fault ≡ ScriptError.Read → (r w : Traffic)
             → IsRunning L.named r (R.traffic reader.old) w (W.traffic writer.old) self.old
             → Exchanges (OfWholeLines (IsThrough L.named self.new.table)) r (R.traffic reader.new)
@@ -443,10 +451,10 @@ where
                 self.flush(writer)?;
                 Ok(true)
             }
-            // Nothing is written behind a call that went wrong.
+            // Nothing is written behind a write that failed.
             Err(ScriptError::Write) => Err(ScriptError::Write),
             // A write that fails is the fault, also where memory was refused before: `Alloc` says
-            // that every reply that had room was taken.
+            // that every reply that had room is written.
             Err(fault) => {
                 self.flush(writer)?;
                 Err(fault)
@@ -454,14 +462,14 @@ where
         }
     }
 
-    /// Answers what stands behind the last line feed, unless it is empty.
+    /// Answers what is behind the last line feed, unless that is empty.
     fn answer_rest(&mut self, rt: &impl Wait) -> Result<(), AllocError>
-        ensures ok { OnOk result ((start input : List ℕ) (writer : Traffic)
-            → HasRead L.named start input writer self.old
-            → IsAnswered L.named start input writer self.new.out.items self.new.table) }
-        ensures err { OnErr result ((start input : List ℕ) (writer : Traffic)
-            → HasRead L.named start input writer self.old
-            → IsBegun L.named ScriptError.Alloc start input writer self.new.out.items
+        ensures ok { OnOk result ((early : ℕ) (start input : List ℕ) (writer : Traffic)
+            → HasRead L.named early start input writer self.old
+            → IsAnswered L.named early start input writer self.new.out.items self.new.table) }
+        ensures err { OnErr result ((early : ℕ) (start input : List ℕ) (writer : Traffic)
+            → HasRead L.named early start input writer self.old
+            → IsBegun L.named ScriptError.Alloc early start input writer self.new.out.items
             self.new.table) }
     {
         self.table.agree();
@@ -472,18 +480,18 @@ where
         Ok(())
     }
 
-    /// Answers what stands behind the last line feed, unless it is empty, and writes what is held,
-    /// also where memory was refused for that line.
+    /// Answers what is behind the last line feed, unless that is empty, and writes the replies that
+    /// are held, also where memory is refused for that line.
     fn finish<W: Sink>(&mut self, rt: &impl Wait, writer: &mut W) -> Result<(), ScriptError>
-        ensures ok { OnOk result ((start input : List ℕ)
-            → HasRead L.named start input (W.traffic writer.old) self.old
-            → IsAnswered L.named start input (W.traffic writer.new) [] self.new.table) }
+        ensures ok { OnOk result ((early : ℕ) (start input : List ℕ)
+            → HasRead L.named early start input (W.traffic writer.old) self.old
+            → IsAnswered L.named early start input (W.traffic writer.new) [] self.new.table) }
         ensures taken { Takes (W.traffic writer.old) (W.traffic writer.new)
             (W.contents writer.old) (W.contents writer.new) }
         ensures clean { OnOk result (NoFault (W.traffic writer.old) (W.traffic writer.new)) }
-        ensures err { IfErr result (λ fault. (start input : List ℕ)
-            → HasRead L.named start input (W.traffic writer.old) self.old
-            → IsBegun L.named fault start input (W.traffic writer.new) [] self.new.table) }
+        ensures err { IfErr result (λ fault. (early : ℕ) (start input : List ℕ)
+            → HasRead L.named early start input (W.traffic writer.old) self.old
+            → IsBegun L.named fault early start input (W.traffic writer.new) [] self.new.table) }
         ensures fault { IfErr result (IsWhy (W.traffic writer.old) (W.traffic writer.new)) }
     {
         self.table.agree();
@@ -493,8 +501,7 @@ where
         Ok(())
     }
 
-    /// Runs a script to its end, or to the first fault. The windows that are left then stay as they
-    /// are.
+    /// Runs a script to its end, or to the first fault. It leaves the windows as they are.
     fn run<R: Source, W: Sink>(
         &mut self,
         rt: &impl Wait,
@@ -519,8 +526,9 @@ where
             (((R.traffic reader.new).failures ≡ (R.traffic reader.old).failures)
             × NoFault (W.traffic writer.old) (W.traffic writer.new)) }
         ensures begun { IfErr result (λ fault.
-            Exchanges (IsBrokenOff L.named fault self.new.table) (R.traffic reader.old)
-            (R.traffic reader.new) (W.traffic writer.old) (W.traffic writer.new)) }
+            Exchanges (IsBrokenOff L.named fault (R.traffic reader.new).last self.new.table)
+            (R.traffic reader.old) (R.traffic reader.new) (W.traffic writer.old)
+            (W.traffic writer.new)) }
         ensures answered { IfErr result (λ fault. fault ≡ ScriptError.Read
             → Exchanges (OfWholeLines (IsThrough L.named self.new.table)) (R.traffic reader.old)
             (R.traffic reader.new) (W.traffic writer.old) (W.traffic writer.new)) }
@@ -538,8 +546,8 @@ where
         unreachable!()
     }
 
-    /// Ends the engine, and with it the windows that are left. Answers the passes of their blocks,
-    /// none of which has a live owner.
+    /// Ends the engine and the windows that are left. It answers the passes of their blocks, of
+    /// which none has a live owner.
     fn end(self) -> Passes<A>
         ensures ended { IsKept MAX_OWNERS [] result.of_blocks.items }
         ensures blocks { length result.of_blocks.items ≡ self.table.table.blocks }
@@ -573,8 +581,8 @@ fn room<A: Allocator>(alloc: A) -> Result<Vec<u8, A>, AllocError>
     Ok(vec![in alloc; 0u8; PIECE]?)
 }
 
-/// Runs a script as `run_script` says, ends every window that is left, and answers with the result
-/// the passes of the blocks, which tell all that was done to them.
+/// Runs a script as `run_script` says, and ends every window that is left. With the result it
+/// answers the passes of the blocks, which have seen their whole histories.
 fn run_to_end<L: NamedLayout, R: Source, W: Sink, A: Allocator + Copy>(
     rt: &impl Wait,
     alloc: A,
@@ -600,9 +608,9 @@ where
         × NoFault (W.traffic writer.old) (W.traffic writer.new)) }
     ensures ended { IsKept MAX_OWNERS [] result.1.of_blocks.items }
     ensures begun { IfErr result.0 (λ fault.
-        Exchanges (ThenEnds L.named (IsBrokenOff L.named fault) result.1.of_blocks.items)
-        (R.traffic reader.old) (R.traffic reader.new) (W.traffic writer.old)
-        (W.traffic writer.new)) }
+        Exchanges (ThenEnds L.named (IsBrokenOff L.named fault (R.traffic reader.new).last)
+        result.1.of_blocks.items) (R.traffic reader.old) (R.traffic reader.new)
+        (W.traffic writer.old) (W.traffic writer.new)) }
     ensures answered { IfErr result.0 (λ fault. fault ≡ ScriptError.Read
         → Exchanges (OfWholeLines
         (ThenEnds L.named (IsThrough L.named) result.1.of_blocks.items))
@@ -643,9 +651,9 @@ where
     ensures begun { OnErr result
         (Exchanges (BeginsReplyText L.named) (R.traffic reader.old) (R.traffic reader.new)
         (W.traffic writer.old) (W.traffic writer.new)) }
-    ensures broken { IfErr result (λ fault. Exchanges (BreaksOff L.named fault)
-        (R.traffic reader.old) (R.traffic reader.new) (W.traffic writer.old)
-        (W.traffic writer.new)) }
+    ensures broken { IfErr result (λ fault.
+        Exchanges (BreaksOff L.named fault (R.traffic reader.new).last) (R.traffic reader.old)
+        (R.traffic reader.new) (W.traffic writer.old) (W.traffic writer.new)) }
     ensures answered { IfErr result (λ fault. fault ≡ ScriptError.Read
         → Exchanges (AnswersWhole L.named) (R.traffic reader.old) (R.traffic reader.new)
         (W.traffic writer.old) (W.traffic writer.new)) }
@@ -657,25 +665,26 @@ where
     result
 }
 
-/// Runs a script: each line of the input is answered by one line of the output, and the windows go
-/// with the run.
+/// Runs a script: answers each line of the input by one line of the output. Each window is released
+/// at the end, and on every fault.
 ///
-/// It reads in pieces of at most 65,536 bytes, holds no more of a line than 65,536 bytes, and
-/// writes the replies when a piece is done and whenever 65,536 bytes of them are held. Each window
-/// is released at the end and on every fault.
+/// It reads in pieces of at most 65,536 bytes, and holds at most 65,536 bytes of a line. It writes
+/// the replies when a piece is done, and whenever 65,536 bytes of them are held.
 ///
 /// # Errors
 ///
-/// - `Read` where a read failed: what was written are the replies to each whole line that came, and
-///   to nothing behind the last line feed.
-/// - `Write` where a write failed or took nothing: what was written is a beginning of the replies.
-/// - `Alloc` where memory was refused: all but one at most of the replies to the lines that were
-///   carried out were written.
+/// - `Read` where a read fails: written are the replies to all lines whose line feed was read, and
+///   no other.
+/// - `Write` where a write fails or takes nothing: written is a beginning of the replies.
+/// - `Alloc` where memory is refused: written are the replies to the lines that were carried out,
+///   but perhaps not the last one.
+///
+/// On each error, every line that ended before the last read has its whole reply.
 ///
 /// # Allocates
 ///
-/// For a piece of the input, a line that came in two pieces, the items of a command, replies that
-/// are held, and what the commands ask for.
+/// For a piece of the input, for a line that comes in two pieces, for the items of a command, for
+/// replies that are held, and for what the commands ask for.
 pub fn run_script<R: Source, W: Sink, A: Allocator + Copy>(
     rt: &impl Wait,
     alloc: A,
@@ -699,9 +708,9 @@ pub fn run_script<R: Source, W: Sink, A: Allocator + Copy>(
     ensures begun { OnErr result
         (Exchanges (BeginsReplyText layout) (R.traffic reader.old) (R.traffic reader.new)
         (W.traffic writer.old) (W.traffic writer.new)) }
-    ensures broken { IfErr result (λ fault. Exchanges (BreaksOff layout fault)
-        (R.traffic reader.old) (R.traffic reader.new) (W.traffic writer.old)
-        (W.traffic writer.new)) }
+    ensures broken { IfErr result (λ fault.
+        Exchanges (BreaksOff layout fault (R.traffic reader.new).last) (R.traffic reader.old)
+        (R.traffic reader.new) (W.traffic writer.old) (W.traffic writer.new)) }
     ensures answered { IfErr result (λ fault. fault ≡ ScriptError.Read
         → Exchanges (AnswersWhole layout) (R.traffic reader.old) (R.traffic reader.new)
         (W.traffic writer.old) (W.traffic writer.new)) }
@@ -717,7 +726,8 @@ pub fn run_script<R: Source, W: Sink, A: Allocator + Copy>(
     }
 }
 
-/// Each input has replies, and is cut into lines in one way.
+/// Each input has replies, and is cut into lines in one way only. Does nothing: its contract is the
+/// law.
 pub fn every_input_is_answered()
     ensures answered { (layout : ScriptLayout) (input : List ℕ)
         → (text : List ℕ) × IsReplyText layout input text }

@@ -1,5 +1,7 @@
 //! A storm of clones: threads that clone one window through one reference, and release each clone.
-ghost use Rattle.std.specs.Prelude.{◌≡◌, ◌∷◌, [], IfOk};
+ghost use Rattle.std.specs.Prelude.{◌≡◌, ◌≤◌, ◌∷◌, [], IfErr, IfOk};
+ghost use Rattle.arc_owners.specs.declared.error.OwnerError.TheVariants as owner;
+ghost use Rattle.arc_script.specs.declared.storm.StormError.TheVariants as storm_error;
 
 use arc_block::layout::VecLayout;
 use arc_buffer::kinds::Plain;
@@ -15,11 +17,11 @@ const CLONES: usize = 1000;
 
 /// What a worker passes between each clone and its release.
 pub trait Gate {
-    /// Returns when this worker may go on; the first one is number 1.
+    /// Returns when this worker may go on. Workers are numbered from 1.
     fn pass(&self, worker: usize);
 }
 
-/// A gate that holds nobody up.
+/// A gate that lets everybody through at once.
 #[derive(Clone, Copy)]
 pub struct OpenGate;
 
@@ -27,13 +29,13 @@ impl Gate for OpenGate {
     fn pass(&self, _worker: usize) {}
 }
 
-/// Why a storm doesn't give its vector.
+/// Why a storm doesn't give its vector back.
 #[derive(Clone, Copy, Debug, PartialEq, Eq, Error)]
 pub enum StormError {
-    /// A clone was refused, or memory for the vector, for its window or for the list of threads.
+    /// A clone is refused, or memory for the vector, for its window or for the list of threads.
     #[error(transparent)]
     Owner(OwnerError),
-    /// A thread could not be started.
+    /// A thread can't be started.
     #[error("no thread")]
     Thread,
     /// Another window stands on the vector.
@@ -42,18 +44,24 @@ pub enum StormError {
 }
 
 impl From<alloc::AllocError> for StormError {
+    ghost from_gives = { λ _ e. e ≡ storm_error.Owner owner.AllocError };
+
     fn from(_: alloc::AllocError) -> Self {
         StormError::Owner(OwnerError::AllocError)
     }
 }
 
 impl<T: Drop> From<alloc::AllocFailed<T>> for StormError {
+    ghost from_gives = { λ _ e. e ≡ storm_error.Owner owner.AllocError };
+
     fn from(_: alloc::AllocFailed<T>) -> Self {
         StormError::Owner(OwnerError::AllocError)
     }
 }
 
 impl From<OwnerError> for StormError {
+    ghost from_gives = { λ error e. e ≡ storm_error.Owner error };
+
     fn from(error: OwnerError) -> Self {
         StormError::Owner(error)
     }
@@ -64,7 +72,8 @@ type Window = ArcSlice<Plain<u8>, VecLayout>;
 
 /// A window over the vector [42].
 fn window_made(alloc: Global) -> Result<Window, StormError>
-    ensures { IfOk result (λ window. window.items ≡ 42 ∷ []) }
+    ensures made { IfOk result (λ window. window.items ≡ 42 ∷ []) }
+    ensures refused { IfErr result (λ e. e ≡ storm_error.Owner owner.AllocError) }
 {
     let bytes = Vec::from_slice(alloc, &[42])?;
     match Window::try_from_vec(alloc, bytes) {
@@ -73,8 +82,7 @@ fn window_made(alloc: Global) -> Result<Window, StormError>
     }
 }
 
-/// What one worker does: it clones the window, passes the gate and releases the clone, again and
-/// again.
+/// What one worker does, 1,000 times: it clones the window, passes the gate and releases the clone.
 fn work<G: Gate>(
     rt: &impl Wait,
     window: &Window,
@@ -89,7 +97,7 @@ fn work<G: Gate>(
     Ok(())
 }
 
-/// Lets so many workers work, each in a thread of its own, and waits until all have ended.
+/// Starts `workers` threads that work, and waits until all have ended.
 fn work_in_threads<R: Threads + Wait + Sync, G: Gate + Sync>(
     rt: &R,
     alloc: Global,
@@ -113,26 +121,29 @@ fn work_in_threads<R: Threads + Wait + Sync, G: Gate + Sync>(
     })
 }
 
-/// Makes a window of the vector [42], which so many workers, each in a thread of its own, clone
-/// 1,000 times each through one reference, passing the gate between a clone and its release; and
-/// takes the vector back.
+/// Makes a window of the vector [42], which so many workers, from 1 to 64, each in a thread of its
+/// own, clone 1,000 times each through one reference, passing the gate between a clone and its
+/// release; and takes the vector back.
 ///
 /// # Errors
 ///
-/// - `Owner` where a clone is refused, or memory for the vector, its window or the list of threads.
-/// - `Thread` where a thread is refused.
+/// - `Owner` where a clone is refused, or memory for the vector, for its window or for the list of
+///   threads.
+/// - `Thread` where a thread can't be started.
 /// - `Taken` where another window stands on the vector at the end.
 ///
 /// # Allocates
 ///
-/// For the vector, its window and the list of threads; each clone may.
+/// For the vector, for its window and for the list of threads.
 pub fn storm<R: Threads + Wait + Sync, G: Gate + Sync>(
     rt: &R,
     alloc: Global,
     workers: usize,
     gate: &G,
 ) -> Result<Vec<u8>, StormError>
-    ensures { IfOk result (λ bytes. bytes.items ≡ 42 ∷ []) }
+    requires some { 1 ≤ workers }
+    requires most { workers ≤ 64 }
+    ensures vector { IfOk result (λ bytes. bytes.items ≡ 42 ∷ []) }
 {
     let window = window_made(alloc)?;
     work_in_threads(rt, alloc, &window, gate, workers)?;

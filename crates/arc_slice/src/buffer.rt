@@ -1,4 +1,4 @@
-//! What a window's items may be: the kinds of slices and their traits; and callers' buffers.
+//! The kinds of slices, with their traits, and callers' buffers.
 
 pub use arc_buffer::buffer::{
     AsMutBuffer, AsRefBuffer, BorrowMetadata, Buffer, BufferMut, Lend, LendMut,

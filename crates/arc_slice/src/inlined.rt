@@ -1,4 +1,4 @@
-//! Windows that have short lists in themselves.
+//! Windows that have short lists of bytes in themselves.
 
 pub use arc_small::{
     SmallArcByteText, SmallArcBytes, SmallArcSlice, SmallArcStr, SmallByteText, SmallBytes,

@@ -1,4 +1,4 @@
-//! How a window's block is kept.
+//! Layouts: on what a window may stand.
 
 pub use arc_block::layout::{
     AnyBufferLayout, ArcLayout, BoxedSliceLayout, CloneNoAllocLayout, DefaultLayout,

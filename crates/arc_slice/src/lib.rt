@@ -1,4 +1,4 @@
-//! Windows into memory that is shared: cut and cloned without a copy. These are the names that a
+//! Windows into shared memory, which are cut and cloned without a copy. These are the names that a
 //! user imports, at the paths of the Rust crate.
 #![tactic(auto)]
 

@@ -6,7 +6,7 @@ use arc_owners::mark::Open;
 use arc_read::slice::ArcSlice;
 use std::alloc::Global;
 
-/// A window over bytes.
+/// A window that reads bytes.
 pub type ArcBytes<L = DefaultLayout, B = Vec<u8>, M = (), A = Global, H = Open> = ArcSlice<
     Plain<u8>,
     L,
@@ -16,7 +16,7 @@ pub type ArcBytes<L = DefaultLayout, B = Vec<u8>, M = (), A = Global, H = Open> 
     H,
 >;
 
-/// A window over text, which is always valid UTF-8.
+/// A window that reads text, which is always valid UTF-8.
 pub type ArcStr<L = DefaultLayout, B = Vec<u8>, M = (), A = Global, H = Open> = ArcSlice<
     Text,
     L,
@@ -26,7 +26,7 @@ pub type ArcStr<L = DefaultLayout, B = Vec<u8>, M = (), A = Global, H = Open> = 
     H,
 >;
 
-/// A window over bytes that are text by convention.
+/// A window that reads bytes that are text by convention.
 pub type ArcByteText<L = DefaultLayout, B = Vec<u8>, M = (), A = Global, H = Open> = ArcSlice<
     ByteText,
     L,

@@ -46,9 +46,9 @@ module _ {H : Type 0} where
   MayAsk true here old new found = Along here old new (λ o p q. Asks o p q found)
   MayAsk false here old new found = new ≡ old
 
-  -- Whether nobody else has a part of the block of this sort on which a window stands. The count is
-  -- asked; a caller's buffer is asked after it, and may say no though the window is alone; of an
-  -- `Arc` nobody is asked.
+  -- Whether no other owner has a part of the block of this sort on which a window stands. The count
+  -- is asked; a caller's buffer is asked after it, and may say no though the window is alone; of an
+  -- `Arc` no count is asked.
   abbrev pub AsksSort : Sort → Stand → List (Pass H) → List (Pass H) → Bool → Type 0
   AsksSort native here old new answer = Along here old new (λ o p q. Asks o p q answer)
   AsksSort vector here old new answer = Along here old new (λ o p q. Asks o p q answer)

@@ -13,6 +13,11 @@ abbrev pub split_at : Part → ℕ
 split_at (Back at) = at
 split_at (Front at) = at
 
+-- whether a window with so many items is split at the end of which that leaves nothing
+abbrev pub is_end : (len : ℕ) → Part → Bool
+is_end len (Back at) = at == 0
+is_end len (Front at) = at == len
+
 module _ {T M : Type 0} where
   -- the command to hand out this part of the window with this number
   abbrev pub part_command : ℕ → Part → ListCmd T M
@@ -22,8 +27,7 @@ module _ {T M : Type 0} where
   -- Whether the window itself is handed out, and what was made stays under its number. So it is of
   -- a split at one of its ends.
   abbrev pub is_itself : Row T M → Part → Bool
-  is_itself row (Back at) = at == 0
-  is_itself row (Front at) = at == length row.items
+  is_itself row part = is_end (length row.items) part
 
   -- the row of the window's owner then, where it stays under its number
   abbrev pub rest_of : Row T M → Part → Row T M

@@ -48,13 +48,13 @@ HasPlaces boundary items capacity (Back at) = CanSplit boundary items capacity a
 HasPlaces boundary items capacity (Front at) = IsEdge boundary items at
 
 module _ {H : Type 0} where
-  -- A window that stands here asked whether it is alone, and this was said. On no block nobody is
+  -- A window that stands here asked whether it is alone, and this was said. On no block no count is
   -- asked, and the answer is no.
   abbrev pub AsksAt : Stand → List (Pass H) → List (Pass H) → (found : Bool) → Type 0
   AsksAt None old new found = (found ≡ false) × (new ≡ old)
   AsksAt (Some here) old new found = Along (Some here) old new (λ o p q. Asks o p q found)
 
-  -- the window ended as an owner here, and is the first owner of a block more there
+  -- the window ended as an owner here, and is the first owner of a new block there
   pub record MovesTo (here there : Stand) (old new : List (Pass H)) : Type 0 where
     pub between : List (Pass H)
     pub left : Along here old between (λ o p q. (last : Bool) × Leaves o p q last)

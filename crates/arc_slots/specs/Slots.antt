@@ -15,8 +15,8 @@ use Rattle.arc_slots.specs.declared.window.Held.TheVariants.{Read, Several, Smal
 use Rattle.arc_slots.specs.declared.window.ReadOnly.{ReadOnly}
 use Rattle.arc_slots.specs.declared.window.ReadOnly.TheVariants as read_only
 
--- what is seen of a slot: its window, what that may do, and the number of the block on which it
--- stands
+-- what contracts see of a slot: its window, what that may do, and the number of the block on which
+-- it stands
 pub record SlotView (T M : Type 0) : Type 0 where
   pub window : Window T M
   pub role : Role

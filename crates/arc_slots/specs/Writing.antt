@@ -71,8 +71,8 @@ is_new LeavesCount = false
 is_new NewEmpty = true
 
 module _ {T M H : Type 0} where
-  -- A slot's writer is a reader from now on, by where his window went: where he stood, or as the
-  -- first owner of a block more, of no places. No writer stands on an `Arc`.
+  -- A slot's writer became a reader: where it stood, or as the first owner of a new block of no
+  -- places. No writer stands on an `Arc`.
   abbrev pub FreezesBy : Move → (drops : Bool) → (old new : SlotView T M)
       → (before after : List (Pass H)) → Type 0
   FreezesBy Stays drops old new before after = (row_of new ≡ as_reader (row_of old))
@@ -89,8 +89,8 @@ module _ {T M H : Type 0} where
   IsUnchanged old new before after = (new ≡ old) × (after ≡ before)
 
   -- A slot's window has this room, and these items behind its others: on the block on which it
-  -- stood, or as the first owner of a block more. Or it was refused the room, and nothing changed.
-  -- A caller's buffer makes its own room, or refuses it.
+  -- stood, or as the first owner of a new block. Or it was refused the room, and nothing changed. A
+  -- caller's buffer makes its own room, or refuses it.
   abbrev pub Fills : (drops : Bool) → Room → List T → (old new : SlotView T M)
       → (before after : List (Pass H)) → Result (Unit {0}) TryReserveError → Type 0
   Fills drops (Fresh places) items old new before after (Ok done) =

@@ -1,5 +1,4 @@
-//! What the window of a slot is answered to a command: each call of its window, with the tests that
-//! come before it.
+//! The answers of a slot's window to commands: each call of the window, with the tests before it.
 
 use crate::passes::Passes;
 use crate::slot::{Slot, Writing};
@@ -66,7 +65,7 @@ where
         }
     }
 
-    /// The metadata of the window's block, if that was made with some.
+    /// The metadata of the window's block, if that has some.
     pub(crate) fn meta(&self, passes: &Passes<A>) -> TableReply<S, B, M, A>
     where
         M: Copy,
@@ -120,8 +119,8 @@ where
         }
     }
 
-    /// Makes room for so many items more in the window. As each way to write it is a call of its
-    /// own, so that nothing is tested or cleared for what another would write.
+    /// Makes room for `additional` items more in the window. Each way to write a window is a call
+    /// of its own, so that nothing is tested or cleared for what another would write.
     #[inline(never)]
     pub(crate) fn reserve(
         &mut self,
@@ -137,7 +136,7 @@ where
         self.fill(Writing::Nothing(additional), passes)
     }
 
-    /// Puts an item behind those of the window.
+    /// Appends an item to those of the window.
     #[inline(never)]
     pub(crate) fn push(&mut self, item: S::Item, passes: &mut Passes<A>) -> TableReply<S, B, M, A>
         requires pass { HasPassFor passes.old.of_blocks.items (stand_of (Some self.old)) }
@@ -149,7 +148,7 @@ where
         self.fill(Writing::Item(item), passes)
     }
 
-    /// Puts items behind those of the window.
+    /// Appends items to those of the window.
     #[inline(never)]
     pub(crate) fn extend(
         &mut self,
@@ -166,8 +165,7 @@ where
         self.fill(Writing::Items(items), passes)
     }
 
-    /// Writes into the window: room is made, and what is written goes behind its items. Refused, it
-    /// is let go.
+    /// Writes into the window: makes room, and appends what is written. What is refused is dropped.
     #[inline(always)]
     fn fill(
         &mut self,
@@ -200,7 +198,7 @@ where
         Reply::Ok
     }
 
-    /// Makes room for so many items more in the window, if that takes no memory.
+    /// Makes room for `additional` items more in the window, if that takes no memory.
     pub(crate) fn reclaim(
         &mut self,
         additional: usize,
@@ -224,7 +222,7 @@ where
         Reply::No
     }
 
-    /// A join is on two windows (`join_at`), and of one alone there is none.
+    /// Answers `Kind`: a join is on two windows (`join_at`), and never on one.
     pub(crate) fn join(&self, passes: &Passes<A>) -> TableReply<S, B, M, A>
         ensures { (next i j : ℕ) → Answers ⟦<S as TableUnder<L, A>>⟧.setting next (command.Join i j)
             self.now passes.now.of_blocks.items (seen_reply S.items_in S.items_in_box B.list result)
@@ -249,7 +247,7 @@ where
         Reply::Ok
     }
 
-    /// Leaves the window's first `len` items, or all where it has no more.
+    /// Keeps the window's first `len` items, or all where it has no more.
     pub(crate) fn cut(&mut self, len: usize, passes: &Passes<A>) -> TableReply<S, B, M, A>
         ensures { (next i : ℕ) → Answers ⟦<S as TableUnder<L, A>>⟧.setting next
             (command.Trunc i len) self.old passes.now.of_blocks.items
@@ -327,7 +325,7 @@ where
     ghost use Rattle.arc_slots.specs.Slots.{stand_of};
     ghost use Rattle.arc_slots.specs.Stands.{HasBlockPass, LivesOn};
 
-    /// Ends the window, whatever the table is run under.
+    /// Ends the window, under every layout and kind.
     #[tactic(auto, using(crate::proofs::Told::many_along, crate::proofs::Taken::has_both))]
     pub(crate) fn drop_window(self, passes: &mut Passes<A>)
         requires pass { HasBlockPass passes.old.of_blocks.items (stand_of (Some self)) }

@@ -1,4 +1,5 @@
-//! What the window of one of several writers is answered to a command, or who is to be one.
+//! The answers to commands of a window of one of several writers, and of one that becomes such a
+//! window.
 
 use crate::part::Part;
 use crate::passes::Passes;
@@ -40,8 +41,8 @@ where
     ghost use Rattle.arc_slots.specs.Stands.{HasPassFor};
     ghost use Rattle.arc_slots.specs.Writing.{IsLegal, seen_writing, write_command};
 
-    /// Makes the window, which is written alone, one of several on its block, if its kind has such
-    /// windows and it stands on no caller's buffer.
+    /// Makes a sole writer's window one of several on its block, if its kind has such windows and
+    /// it stands on no caller's buffer.
     pub(crate) fn share(self, passes: &Passes<A>) -> (TableReply<S, B, M, A>, Option<Self>)
         ensures { (next i : ℕ) → Answers ⟦<S as TableUnder<L, A>>⟧.setting next (command.Share i)
             self passes.now.of_blocks.items (seen_reply S.items_in S.items_in_box B.list result.0)
@@ -61,7 +62,7 @@ where
         }
     }
 
-    /// Makes the window, which is one of several, the only one, if it is alone.
+    /// Makes a window of one of several writers that of the only one, if no other owner lives.
     pub(crate) fn make_unique(
         self,
         passes: &mut Passes<A>,
@@ -82,7 +83,7 @@ where
         }
     }
 
-    /// Adds nothing to the history of the window's block, which is legal. Does nothing: its
+    /// Adds no entry to the history of the window's block, which is legal. Does nothing: its
     /// contract is the law.
     fn adds_nothing(&self, passes: &Passes<A>)
         requires { HasPassFor passes.now.of_blocks.items (stand_of (Some self.now)) }
@@ -92,13 +93,13 @@ where
         passes.attest(self.block);
     }
 
-    /// Splits the places of the window, which is one of several, and hands out the part, on no
-    /// vector: `split_places`. A window of a vector moves first: `leave_vector`.
+    /// Splits the places of a window of one of several writers, and hands out the part:
+    /// `split_places`. A window on a vector first moves to a native block: `leave_vector`.
     ///
     /// # Errors
     ///
-    /// `AllocError` where memory is refused for the block to which a window of a vector moves
-    /// first.
+    /// - `CountFull` on a native block, exactly where `MAX_OWNERS` owners live.
+    /// - `AllocError` on a vector, where memory for the native block is refused.
     fn try_split_beside(
         &mut self,
         rt: &impl Wait,
@@ -130,12 +131,12 @@ where
         }
     }
 
-    /// Splits the places of the window, which is one of several, and hands out a part, if there is
-    /// room for it.
+    /// Splits the places of a window of one of several writers, and hands out a part, if there is
+    /// room for it in the table.
     ///
     /// # Errors
     ///
-    /// What the command is answered instead.
+    /// The reply, where no part is handed out.
     #[inline(never)]
     pub(crate) fn hand_out_places(
         &mut self,
@@ -172,8 +173,8 @@ where
         }
     }
 
-    /// Writes into the window, which is one of several: room is made, and what is written goes
-    /// behind its items. Refused, it is let go.
+    /// Writes into a window of one of several writers: makes room, and appends what is written.
+    /// What is refused is dropped.
     #[inline(always)]
     pub(crate) fn fill_beside(
         &mut self,
@@ -202,8 +203,8 @@ where
         Reply::Ok
     }
 
-    /// Makes room for so many items more in the window, which is one of several, if that takes no
-    /// memory.
+    /// Makes room for `additional` items more in a window of one of several writers, if that takes
+    /// no memory.
     pub(crate) fn reclaim_beside(
         &mut self,
         additional: usize,

@@ -24,8 +24,8 @@ use std::alloc::Allocator;
 use std::mem;
 use std::sync::Wait;
 
-/// Whether the window on which a command is may be another one afterwards, or have gone: then the
-/// command takes it by value.
+/// Whether the command takes its window by value, since that may be another one afterwards, or be
+/// gone.
 #[inline(always)]
 fn is_turning<C: Carried>(command: &Cmd<C>) -> bool
     ensures { result ≡ is_turning command.now }
@@ -45,11 +45,11 @@ fn is_turning<C: Carried>(command: &Cmd<C>) -> bool
     )
 }
 
-/// The window ends, if there is one, whatever the table is run under. Takes no memory.
+/// Ends the window, if there is one, under every layout and kind. It takes no memory.
 ///
 /// # History
 ///
-/// On a block that counts its owners Down.
+/// On a block that counts its owners: Down.
 pub fn drop_at<
     S: TableKind,
     L: Layout,
@@ -79,7 +79,7 @@ where
     Reply::Ok
 }
 
-/// Carries out a command that turns the window, or ends it: the reply, and the window that there is
+/// Carries out a command that takes the window by value: the reply, and the window that there is
 /// then.
 ///
 /// # History
@@ -122,21 +122,21 @@ where
             slot.drop_window(passes);
             (Reply::Ok, None)
         }
-        // The others turn no window.
+        // No other command takes its window by value.
         _ => unreachable!(),
     }
 }
 
-/// Carries out a command on the window where it stands: the window that was made beside it, where
-/// there is room for it.
+/// Carries out a command on the window in its place. It answers the window that is made beside it,
+/// where there is room for that.
 ///
 /// # Errors
 ///
-/// The reply, where no window was made.
+/// The reply, where no window is made.
 ///
 /// # Allocates
 ///
-/// As the command's call of the window, and for the pass of a first block.
+/// What the window's call takes, and for the pass of a first block.
 ///
 /// # History
 ///
@@ -192,16 +192,17 @@ where
     }
 }
 
-/// Carries out a command on the window that is here, if there is one: the window that was made
-/// beside it, where there is room for it. That is to go under the next number, which is the reply.
+/// Carries out a command on the window that is here, if there is one. It answers the window that is
+/// made beside it, where there is room for that. The caller puts it under the next number, which is
+/// the reply.
 ///
 /// # Errors
 ///
-/// The reply, where no window was made.
+/// The reply, where no window is made.
 ///
 /// # Allocates
 ///
-/// As the command's call of the window, and for the pass of a first block.
+/// What the window's call takes, and for the pass of a first block.
 ///
 /// # History
 ///

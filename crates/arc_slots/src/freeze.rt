@@ -1,4 +1,4 @@
-//! A written window that is read from now on.
+//! A window that is written becomes one that is read.
 ghost use Rattle.std.specs.Prelude.{◌≡◌, ◌<◌, true, length, Some, IfOk, IfErr};
 ghost use Rattle.std.specs.Vec.{vec_capacity};
 ghost use Rattle.arc_block.specs.LayoutFacts.{layout_facts};
@@ -23,7 +23,7 @@ use arc_owners::owners::Pass;
 use arc_read::slice::ArcSlice;
 use std::alloc::Allocator;
 
-/// The window, which is written, as one that is read, by `try_freeze_as`.
+/// A window that is written, as one that is read: `try_freeze_as`.
 fn freeze_window<
     S: TableKind,
     L: Layout,
@@ -62,7 +62,7 @@ where
                 Err(window) => Err(Held::Several(window)),
             }
         }
-        // Never so: the window is written.
+        // This arm isn't reached: the window is written.
         other => Err(other),
     }
 }
@@ -78,8 +78,8 @@ where
     L::Writable: LayoutMut,
     S::Small: SmallOf<S, L, M, A>,
 {
-    /// Whether a first block has to be made for the window, which is written, to be read: it stands
-    /// on none, and the layout has no static data.
+    /// Whether a block has to be made for the window, which is written, to be read: it stands on
+    /// none, and the layout has no static data.
     #[tactic(auto, using(crate::proofs::Freezing::new_is))]
     pub fn wants_block_to_read(&self) -> bool
         requires { is_writer self.now.role ≡ true }
@@ -93,21 +93,21 @@ where
         self.block.is_none() && !L::STATIC
     }
 
-    /// The window, which is one that is written, as one that is read: where it stands, or on a
-    /// block of no places.
+    /// A window that is written, as one that is read. It stays where it stands, or goes to a block
+    /// of no places.
     ///
     /// # Errors
     ///
-    /// The window itself, on a block that the layout doesn't hold, and on none under a layout
-    /// without static data, where memory for a block is refused.
+    /// The window itself comes back on a block that the layout doesn't hold, and on no block, under
+    /// a layout without static data, where memory for a block is refused.
     ///
     /// # Allocates
     ///
-    /// Only there: a block.
+    /// Once for a window on no block, under a layout without static data.
     ///
     /// # History
     ///
-    /// None. A first block's history begins.
+    /// None. Where a block is made its history begins.
     pub fn try_freeze(self, passes: &mut Passes<A>) -> Result<Self, Self>
         requires writes { is_writer self.role ≡ true }
         requires pass { HasPassFor passes.old.of_blocks.items (stand_of (Some self)) }

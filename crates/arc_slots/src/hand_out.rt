@@ -31,13 +31,13 @@ where
     ghost use Rattle.arc_slots.specs.Slots.{stand_of};
     ghost use Rattle.arc_slots.specs.Stands.{HasPassFor};
 
-    /// Hands out a clone of the window, if that isn't written and there is room for it. As each way
-    /// to hand out it is a call of its own, so that no place is cleared for what another would hand
-    /// out.
+    /// Hands out a clone of the window, if the window isn't written and there is room in the table.
+    /// Each way to hand out a window is a call of its own, so that no place is cleared for what
+    /// another would hand out.
     ///
     /// # Errors
     ///
-    /// What the command is answered instead.
+    /// The reply, where nothing is handed out.
     #[inline(never)]
     pub(crate) fn hand_out_clone(
         &self,
@@ -73,7 +73,7 @@ where
     ///
     /// # Errors
     ///
-    /// What the command is answered instead.
+    /// The reply, where nothing is handed out.
     #[inline(never)]
     pub(crate) fn hand_out_range(
         &self,
@@ -114,7 +114,7 @@ where
     ///
     /// # Errors
     ///
-    /// What the command is answered instead.
+    /// The reply, where nothing is handed out.
     #[inline(never)]
     pub(crate) fn hand_out_split(
         &mut self,

@@ -23,12 +23,12 @@ use arc_kinds::place::set_slot;
 use std::alloc::Allocator;
 use std::mem;
 
-/// Joins the windows that are here, if both are of several writers: then the other one is gone.
-/// Where none is here, or no other one, nothing changes.
+/// Joins the two windows, if both are of several writers: then the second one is gone. Where there
+/// aren't two windows nothing changes.
 ///
 /// # History
 ///
-/// Joined, Down of the other.
+/// Joined on a block: Down of the second window.
 pub fn join_at<
     S: Commands<A>,
     L: Layout,
@@ -86,16 +86,17 @@ where
         }
     }
 
-    /// Puts the places of another window behind this one's, with the items that lie there: both are
-    /// of several writers. The other owner ends. Takes no memory.
+    /// Puts the places of another window, with the items that lie there, behind this one's. Both
+    /// are of several writers. The other owner ends. It takes no memory.
     ///
     /// # Errors
     ///
-    /// The other window, where both aren't neighbours on one block. Everything is then as before.
+    /// The other window comes back where they aren't neighbours on one block. Nothing is changed
+    /// then.
     ///
     /// # History
     ///
-    /// Joined, on a block Down of the other.
+    /// Joined on a block: Down of the other owner.
     pub fn try_join(&mut self, other: Self, passes: &mut Passes<A>) -> Result<(), Self>
         requires role { is_several self.old.role ≡ true }
         requires other_role { is_several other.role ≡ true }

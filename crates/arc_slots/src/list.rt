@@ -9,7 +9,8 @@ ghost use Rattle.arc_slots.specs.Slots.{with_slot};
 use arc_kinds::place::set_slot;
 use std::alloc::Allocator;
 
-/// Whether there is room for an item more. Takes memory only where the places don't do.
+/// Makes room for an item more, and answers whether there is some. It takes memory only where there
+/// are too few places.
 #[inline(always)]
 fn room_for_one<X, A: Allocator>(items: &mut Vec<X, A>) -> bool
     ensures items { items.new.items ≡ items.old.items }
@@ -21,21 +22,21 @@ fn room_for_one<X, A: Allocator>(items: &mut Vec<X, A>) -> bool
     items.reserve(1).is_ok()
 }
 
-/// Windows under their numbers. A number keeps eight bytes, for good, which say at which place its
-/// window lies; a place says whose it is, and serves another number when that window has gone.
+/// Windows under their numbers. A number keeps eight bytes for good, which say in which place its
+/// window is. A place says whose window it has. It serves another number when the window has gone.
 pub struct Slots<X, A: Allocator> {
     /// Of each number, the place of its window.
     pub index: Vec<usize, A>,
-    /// Of each place, the number to which it was given last.
+    /// Of each place, the number that has or had it last.
     pub numbers: Vec<usize, A>,
     /// The windows at their places, `None` where one has gone.
     pub places: Vec<Option<X>, A>,
-    /// Places whose windows have gone: each is looked at before it is given again.
+    /// Places whose windows have gone. Each is tested before it is used again.
     pub free: Vec<usize, A>,
 }
 
 impl<X, A: Allocator> Slots<X, A> {
-    /// The place of the window with this number, if it was made and hasn't gone.
+    /// The place of the window with this number, if there is one.
     #[inline(always)]
     pub fn place_of(&self, number: usize) -> Option<usize>
         requires { IsIndexed self.now.index.items self.now.numbers.items self.now.places.items }
@@ -63,7 +64,7 @@ impl<X, A: Allocator> Slots<X, A> {
         Some(place)
     }
 
-    /// The window with this number, if it was made and hasn't gone.
+    /// The window with this number, if there is one.
     pub fn get(&self, number: usize) -> Option<&X>
         requires { IsIndexed self.now.index.items self.now.numbers.items self.now.places.items }
         ensures { MatchOption result (option_flatten (slice_get (windows_of self.now.index.items
@@ -77,8 +78,8 @@ impl<X, A: Allocator> Slots<X, A> {
         self.places[place].as_ref()
     }
 
-    /// Whether there is room for a window more, where it is wanted. Takes memory for it there, and
-    /// so that its place can be given again.
+    /// Whether there is room for a window more, where it is wanted. Memory is taken for it, and for
+    /// a later entry of its place in the list of places that may be used again.
     #[inline(always)]
     pub fn room_if(&mut self, wanted: bool) -> bool
         ensures index { self.new.index.items ≡ self.old.index.items }
@@ -129,8 +130,8 @@ impl<X, A: Allocator> Slots<X, A> {
         Some(place)
     }
 
-    /// Gives a place to the list of those to be given again, where that is wanted and the window
-    /// that was there has gone.
+    /// Puts a place into the list of those that may be used again, where that is wanted and its
+    /// window has gone.
     #[inline(always)]
     pub fn settle(&mut self, wanted: bool, place: usize)
         ensures index { self.new.index.items ≡ self.old.index.items }
@@ -188,7 +189,7 @@ impl<X, A: Allocator> Slots<X, A> {
         self.places.push_reserved(Some(window));
     }
 
-    /// Puts a window that was made, if one was, under the next number.
+    /// Puts a window, if there is one, under the next number.
     #[inline(always)]
     pub fn push_made(&mut self, made: Option<X>)
         requires indexed { IsIndexed self.old.index.items self.old.numbers.items

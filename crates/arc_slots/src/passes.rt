@@ -35,7 +35,7 @@ impl<A: Allocator> Passes<A> {
         }
     }
 
-    /// Takes back what was lent for a block.
+    /// Takes back the pass that `lend` gave for a block.
     pub fn give_back(&mut self, block: Option<usize>, pass: Pass<Whole>)
         requires { HasNumber self.old.of_blocks.items block }
         ensures { self.new.of_blocks.items ≡ put_back self.old.of_blocks.items block pass }
@@ -55,8 +55,8 @@ impl<A: Allocator> Passes<A> {
         }
     }
 
-    /// Takes back what was lent for a block; or where a first block was made, keeps its pass under
-    /// the next number. Answers the number of the block.
+    /// Takes back the pass that `lend` gave for a block. Where a first block was made, it keeps
+    /// that block's pass under the next number. It answers the number of the block.
     pub fn keep(&mut self, block: Option<usize>, begins: bool, pass: Pass<Whole>) -> Option<usize>
         requires number { HasNumber self.old.of_blocks.items block }
         requires room { begins ≡ true
@@ -83,7 +83,7 @@ impl<A: Allocator> Passes<A> {
     ///
     /// # Allocates
     ///
-    /// Where there is no room.
+    /// Once, where there are too few places.
     pub fn reserve_for(&mut self, begins: bool) -> Result<(), AllocError>
         ensures items { self.new.of_blocks.items ≡ self.old.of_blocks.items }
         ensures room { OnOk result (begins ≡ true

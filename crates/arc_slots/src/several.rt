@@ -1,4 +1,4 @@
-//! The window of one of several writers on a block.
+//! The window of one of several writers, in a slot.
 ghost use Rattle.std.specs.Prelude.{◌≡◌, ◌<◌, true, false, length, Err, Some};
 ghost use Rattle.std.specs.Prelude.{IfErr, IfOk, OnErr, OnOk};
 ghost use Rattle.std.specs.Mem.{type_size};
@@ -37,8 +37,8 @@ use arc_write::slice_mut::ArcSliceMut;
 use std::alloc::Allocator;
 use std::sync::Wait;
 
-/// Writes into a window of several, by a call that its kind has: room is made, and the items are
-/// put behind the others. Refused, nothing changes, and what was to be written is let go.
+/// Writes into a window of one of several writers, by a call that its kind has: makes room, and
+/// appends the items. Where it is refused nothing changes, and what was to be written is dropped.
 #[inline(always)]
 fn write_beside_as<
     S: Commands<A>,
@@ -77,8 +77,8 @@ fn write_beside_as<
     }
 }
 
-/// Moves a window of several from its vector to a native block, by a call that its kind has, and
-/// answers the new block's pass.
+/// Moves a window of one of several writers from its vector to a native block, by a call that its
+/// kind has, and answers the new block's pass.
 fn try_leave_vector_as<
     S: Commands<A>,
     K: LayoutMut,
@@ -102,8 +102,8 @@ fn try_leave_vector_as<
     }
 }
 
-/// Splits the places of a window of several, which stands on no vector, and answers the part that
-/// is handed out.
+/// Splits the places of a window of one of several writers that stands on no vector, and answers
+/// the part that is handed out.
 fn split_as<
     S: Commands<A>,
     K: LayoutMut,
@@ -150,8 +150,8 @@ where
     L::Writable: LayoutMut,
     S::Small: SmallOf<S, L, M, A>,
 {
-    /// Items of the window, which is one of several, need no drop. Does nothing: its contract is
-    /// the law.
+    /// Items of a window of one of several writers need no drop. Does nothing: its contract is the
+    /// law.
     pub fn known_undropped(&self)
         requires { is_several self.now.role ≡ true }
         ensures { S.DROPS ≡ false }
@@ -162,7 +162,7 @@ where
         }
     }
 
-    /// Whether the window, which is one of several, stands on a vector, from which it moves before
+    /// Whether the window, of one of several writers, stands on a vector. It moves from that before
     /// its places are split.
     pub fn is_on_vector(&self) -> bool
         requires { is_several self.now.role ≡ true }
@@ -174,12 +174,12 @@ where
         }
     }
 
-    /// Whether the places of the window, which is one of several, may be split so.
+    /// Whether the places of a window of one of several writers may be split so.
     ///
     /// # Errors
     ///
-    /// `OutOfRange` of a back that begins behind all places, and of a front that ends behind the
-    /// items; `NotBoundary` where the items may not be cut there.
+    /// `OutOfRange` where a back begins behind all places, or a front ends behind the items; else
+    /// `NotBoundary` where the items may not be cut there.
     pub fn check_places(&self, part: Part) -> Result<(), RangeError>
         requires role { is_several self.now.role ≡ true }
         ensures answer { result ≡ places_answer S.boundary self.now.window.items
@@ -196,16 +196,16 @@ where
         }
     }
 
-    /// The window, which is one of several, as the only one that is written, where it stands on a
-    /// block and no other owner of that lives. Takes no memory.
+    /// A window of one of several writers, as that of the only one, where it stands on a block that
+    /// no other owner has. It takes no memory.
     ///
     /// # Errors
     ///
-    /// The window itself.
+    /// The window itself comes back.
     ///
     /// # History
     ///
-    /// On a block Alone, which says whether it is.
+    /// On a block: Alone with the answer.
     pub fn try_into_unique(self, passes: &mut Passes<A>) -> Result<Self, Self>
         requires role { is_several self.role ≡ true }
         requires pass { HasPassFor passes.old.of_blocks.items (stand_of (Some self)) }
@@ -233,12 +233,12 @@ where
         }
     }
 
-    /// Makes room for so many items more in the window, which is one of several, if that takes no
-    /// memory: where its places don't do, it has to be alone.
+    /// Makes room for `additional` items more in a window of one of several writers, if that takes
+    /// no memory. Where the window has too few places, no other owner may live.
     ///
     /// # History
     ///
-    /// On a block, where the window hasn't the places already, Alone with the answer.
+    /// On a block, where the window has too few places: Alone with the answer.
     pub fn try_reclaim_beside(&mut self, additional: usize, passes: &mut Passes<A>) -> bool
         requires role { is_several self.old.role ≡ true }
         requires pass { HasPassFor passes.old.of_blocks.items (stand_of (Some self.old)) }
@@ -284,12 +284,12 @@ where
         }
     }
 
-    /// The window, which is written alone, as one of several, where it stands on no caller's
-    /// buffer. Takes no memory.
+    /// A sole writer's window, as that of one of several, where it stands on no caller's buffer. It
+    /// takes no memory.
     ///
     /// # Errors
     ///
-    /// The window itself.
+    /// The window itself comes back.
     pub fn try_share(self) -> Result<Self, Self>
         requires writes { is_sole self.role ≡ true }
         requires shares { S.Calls.calls.shares ≡ true }
@@ -315,20 +315,20 @@ where
         Err(Slot::written(window, block))
     }
 
-    /// Moves the window, which is one of several on a vector, to a native block with as many
-    /// places, as its first owner. Refused, the window is as before.
+    /// Moves a window of one of several writers from a vector to a native block with as many
+    /// places, as its first owner.
     ///
     /// # Errors
     ///
-    /// `AllocError` where memory for the block is refused.
+    /// `AllocError` where memory for the block is refused. The window is then as before.
     ///
     /// # Allocates
     ///
-    /// The block.
+    /// Once.
     ///
     /// # History
     ///
-    /// On the vector Down. The new block's history begins.
+    /// Down on the vector, without an atomic step. The new block's history begins.
     pub fn leave_vector(&mut self, passes: &mut Passes<A>) -> Result<(), OwnerError>
         requires role { is_several self.old.role ≡ true }
         requires vector { is_vector_at (row_of self.old).place ≡ true }
@@ -365,16 +365,17 @@ where
         }
     }
 
-    /// Splits the places of the window, which is one of several on no vector, and hands out the
-    /// part. Refused, the window is as before.
+    /// Splits the places of a window of one of several writers that stands on no vector, and hands
+    /// out the part.
     ///
     /// # Errors
     ///
-    /// On a block `CountFull`, exactly where `MAX_OWNERS` owners live.
+    /// `CountFull` on a block, exactly where `MAX_OWNERS` owners live. The window is then as
+    /// before.
     ///
     /// # History
     ///
-    /// On a block Up, or Full where refused.
+    /// On a block: Up, or Full where it is refused.
     pub fn split_places(
         &mut self,
         rt: &impl Wait,
@@ -408,21 +409,22 @@ where
         Ok(Slot { window, block })
     }
 
-    /// Writes into the window, which is one of several, by a call that its kind has: `what` goes
-    /// behind its items. Refused, nothing changes, and what was to be written is let go.
+    /// Writes into a window of one of several writers, by a call that its kind has: makes room, and
+    /// appends `what`.
     ///
     /// # Errors
     ///
-    /// `TryReserveError`, as `try_reserve` of such a window.
+    /// Those of `try_reserve` of such a window. Nothing changes then, and what was to be written is
+    /// dropped.
     ///
     /// # Allocates
     ///
-    /// Where its places don't do: a first block, or a larger one.
+    /// Where the window has too few places: for a first block, or a larger one.
     ///
     /// # History
     ///
-    /// On a block, where the window hasn't the places already, Alone with the answer. A first
-    /// block's history begins.
+    /// On a block, where the window has too few places: Alone with the answer. Where a first block
+    /// is made its history begins.
     #[inline(always)]
     pub fn write_beside(
         &mut self,

@@ -25,8 +25,8 @@ use std::marker::Model;
 use std::sync::Wait;
 
 /// A window, and the number of the block that it stands on, if it stands on one. It can't be
-/// dropped: each ends by `release`, since a window that is dropped would stay an owner of its block
-/// for good.
+/// dropped: each ends by `release`. A window that is dropped would stay an owner of its block for
+/// good.
 pub struct Slot<S: TableKind, L: Layout, B: BufferMut<S::Item> + Drop, M: Drop, A: Allocator + Copy>
 where
     L::Writable: LayoutMut,
@@ -59,7 +59,7 @@ where
 /// What is written into a window, where X holds items and T is one.
 #[derive(Drop)]
 pub enum Writing<X, T> {
-    /// Nothing, but room is made for so many items more.
+    /// Nothing. Room is made for so many items more.
     Nothing(usize),
     /// An item.
     Item(T),
@@ -70,7 +70,7 @@ pub enum Writing<X, T> {
 impl<T, A: Allocator> Writing<Vec<T, A>, T> {
     ghost use Rattle.arc_slots.specs.Writing.{seen_writing, additional_of};
 
-    /// For how many items there is to be room.
+    /// How many items there has to be room for.
     #[inline(always)]
     pub fn additional(&self) -> usize
         ensures { result ≡ additional_of (seen_writing self.now) }
@@ -83,8 +83,8 @@ impl<T, A: Allocator> Writing<Vec<T, A>, T> {
     }
 }
 
-/// Writes into a window, by a call that its kind has: room is made, and the items are put behind
-/// the others. Refused, nothing changes, and what was to be written is let go.
+/// Writes into a window, by a call that its kind has: makes room, and appends the items. Where it
+/// is refused nothing changes, and what was to be written is dropped.
 #[inline(always)]
 fn write_as<
     S: Commands<A>,
@@ -154,10 +154,7 @@ where
     ghost use Rattle.arc_owners.specs.count.Calls.{Leaves};
     ghost use Rattle.arc_slots.specs.Stands.{HasPassFor, is_numbered};
     ghost use Rattle.arc_slots.specs.Calls.{Along, AsksPlace, Beside, MayAsk, RefusesAt};
-    ghost use Rattle.arc_commands.specs.Changes.{cut_row, off_part, part_of, to_part};
-    ghost use Rattle.arc_commands.specs.Changes.{is_writable_at, may_write_at};
-    ghost use Rattle.arc_commands.specs.Changes.{truncated};
-    ghost use Rattle.arc_slots.specs.Splits.{IsSplit};
+    ghost use Rattle.arc_commands.specs.Changes.{is_writable_at, may_write_at, part_of, truncated};
     ghost use Rattle.arc_commands.specs.Blocks.{is_reader, is_several, is_small, is_sole};
     ghost use Rattle.arc_commands.specs.Blocks.{is_writer};
     ghost use Rattle.arc_slots.specs.Slots.{IsSlotRole, held, row_of, stand_of, window_in};
@@ -165,7 +162,7 @@ where
     ghost use Rattle.arc_parts.specs.Writers.{Reclaims};
     ghost use Rattle.std.specs.Vec.{vec_capacity};
 
-    /// A window over a slice that is there for good and legal, under a layout with static data.
+    /// A window over a legal `'static` slice, under a layout with static data.
     pub fn on_static(alloc: A, items: StaticSlice<S::Item>) -> Self
         requires layout { L.STATIC ≡ true }
         requires legal { ∥ S.is_legal items ∥₁ }
@@ -221,7 +218,7 @@ where
         }
     }
 
-    /// Whether the window is one that is written, alone or by one of several.
+    /// Whether the window is written, by a sole writer or one of several.
     pub fn is_writer(&self) -> bool
         ensures { result ≡ is_writer self.now.role }
     {
@@ -231,7 +228,7 @@ where
         }
     }
 
-    /// Whether the window is one that is written alone.
+    /// Whether the window is a sole writer's.
     pub fn is_written(&self) -> bool
         ensures answer { result ≡ is_sole self.now.role }
         ensures other { result ≡ false → is_several self.now.role ≡ false
@@ -243,7 +240,7 @@ where
         }
     }
 
-    /// Whether the window is one of several that are written.
+    /// Whether the window is one of several writers'.
     pub fn is_several(&self) -> bool
         ensures answer { result ≡ is_several self.now.role }
         ensures shares { result ≡ true → S.SHARES ≡ true }
@@ -254,7 +251,7 @@ where
         }
     }
 
-    /// Whether the window is one that is read, and no small one.
+    /// Whether the window is read, and no small one.
     pub fn is_read(&self) -> bool
         ensures answer { result ≡ is_reader self.now.role }
         ensures reads { result ≡ true → self.now.role ≡ reader }
@@ -297,8 +294,7 @@ where
         }
     }
 
-    /// The metadata of the block on which the window, which is no small one, stands, if that was
-    /// made with some.
+    /// The metadata that the block of the window, which is no small one, was made with, or `None`.
     pub fn metadata(&self) -> Option<&M>
         requires { is_small self.now.role ≡ false }
         ensures some { IfSome result (λ m. metadata_at self.now.window.place ≡ Some m.now) }
@@ -324,12 +320,12 @@ where
         }
     }
 
-    /// Whether `start` to `end` is a range of the window, which isn't one that is written.
+    /// Whether `start` to `end` is a range of the window, which isn't written.
     ///
     /// # Errors
     ///
-    /// `OutOfRange` where it ends behind the items, `InvalidRange` where it ends before it starts,
-    /// `NotBoundary` where the items may not be cut there.
+    /// `OutOfRange` where the end is past the length, else `InvalidRange` where the start is past
+    /// the end, else `NotBoundary` where the kind may not be cut at one of them.
     pub fn check_range(&self, start: usize, end: usize) -> Result<(), RangeError>
         requires { is_writer self.now.role ≡ false }
         ensures answer { result ≡ range_answer S.boundary self.now.window.items start end }
@@ -358,7 +354,8 @@ where
     ///
     /// # Errors
     ///
-    /// `OutOfRange` behind the items, `NotBoundary` where these may not be cut.
+    /// `OutOfRange` where that is past the length, else `NotBoundary` where the kind may not be cut
+    /// there.
     pub fn check_at(&self, at: usize) -> Result<(), RangeError>
         ensures answer { result ≡ edge_answer S.boundary self.now.window.items at }
         ensures ok { IsOk result ↔ IsEdge S.boundary self.now.window.items at }
@@ -377,7 +374,8 @@ where
         ensures row { row_of self.new ≡ after_advance by (row_of self.old) }
         ensures stand { stand_of (Some self.new) ≡ stand_of (Some self.old) }
     {
-        // An exit each: a join of the four has a goal of all.
+        // Each arm leaves the function: so the prover has a goal for each, and not one for all
+        // four.
         match &mut self.window {
             Held::Read(window) => {
                 window.advance(by);
@@ -398,7 +396,7 @@ where
         }
     }
 
-    /// Leaves the first `len` items of the window, which is no small one. It stays on its block.
+    /// Keeps the first `len` items of the window, which is no small one. It stays on its block.
     pub fn truncate(&mut self, len: usize)
         requires large { is_small self.old.role ≡ false }
         requires at { IsEdge S.boundary self.old.window.items len }
@@ -414,20 +412,17 @@ where
         }
     }
 
-    /// Another window with the same items at the same place, an owner more of the same block.
+    /// Another window with the same items at the same place: one owner more of the same block. It
+    /// takes no memory.
     ///
     /// # Errors
     ///
-    /// On a block `CountFull`, exactly where `MAX_OWNERS` owners live, and `AllocError`, only where
-    /// the layout's clones may want memory on a block of its sort.
-    ///
-    /// # Allocates
-    ///
-    /// Only where the layout's clones want memory on a block of its sort.
+    /// - `CountFull` on a block that counts its owners, exactly where `MAX_OWNERS` of them live.
+    /// - `AllocError` on an `Arc` that is a block by itself, where that refuses to be cloned.
     ///
     /// # History
     ///
-    /// On a block that counts its owners Up, or Full where refused.
+    /// On a block that counts its owners: Up, or Full where it is refused.
     #[inline(always)]
     pub fn try_clone(&self, rt: &impl Wait, passes: &mut Passes<A>) -> Result<Self, OwnerError>
         requires cuts { is_writer self.now.role ≡ false }
@@ -451,20 +446,17 @@ where
         }
     }
 
-    /// A window over the items from `start` to `end`, an owner more of the same block, or with no
-    /// items on nothing where the layout has static data.
+    /// A window over the items from `start` to before `end`: one owner more of the same block.
+    /// Without items, under a layout that has static data, it stands on nothing. It takes no
+    /// memory.
     ///
     /// # Errors
     ///
     /// Those of `try_clone`, where the part stands on a block.
     ///
-    /// # Allocates
-    ///
-    /// Only where `try_clone` does.
-    ///
     /// # History
     ///
-    /// Where the part stands on a block that counts its owners Up, or Full where refused.
+    /// Where the part stands on a block that counts its owners: Up, or Full where it is refused.
     #[inline(always)]
     pub fn try_subslice(
         &self,
@@ -498,132 +490,17 @@ where
         }
     }
 
-    /// Splits the window at `at`, and hands out the back: at the front end that is the window
-    /// itself. Refused, the window is as before.
+    /// The window as a sole writer's, where its block may be written and no other owner of that
+    /// lives, or where it has no items and stands on no block. It takes no memory.
     ///
     /// # Errors
     ///
-    /// Those of `try_clone`; none where one part has no items and the layout has static data.
-    ///
-    /// # Allocates
-    ///
-    /// Only where `try_clone` does.
+    /// The window itself comes back on a block that may not be written, beside another owner, and
+    /// on no block with items.
     ///
     /// # History
     ///
-    /// On a block that counts its owners Up, or Full where refused; none where one part has no
-    /// items and the layout has static data.
-    pub fn try_split_off(
-        &mut self,
-        rt: &impl Wait,
-        at: usize,
-        passes: &mut Passes<A>,
-    ) -> Result<Self, OwnerError>
-        requires reads { self.old.role ≡ reader }
-        requires at { IsEdge S.boundary self.old.window.items at }
-        requires pass { HasPassFor passes.old.of_blocks.items (stand_of (Some self.old)) }
-        ensures start { IfOk result (λ back. at ≡ 0 → IsSplit self.old back self.new
-            (row_of self.old) (off_part L.STATIC (row_of self.old) at)
-            passes.old.of_blocks.items passes.new.of_blocks.items) }
-        ensures later { IfOk result (λ back. 0 < at → IsSplit self.old self.new back
-            (cut_row (row_of self.old) 0 at) (off_part L.STATIC (row_of self.old) at)
-            passes.old.of_blocks.items passes.new.of_blocks.items) }
-        ensures kept { IfErr result (λ _. self.new ≡ self.old) }
-        ensures refused { IfErr result (RefusesAt L.clone_wants
-            (off_part L.STATIC (row_of self.old) at).place (stand_of (Some self.old))
-            passes.old.of_blocks.items passes.new.of_blocks.items) }
-    {
-        let block = self.block;
-        let Held::Read(front) = &mut self.window else {
-            unreachable!()
-        };
-        let mut pass = passes.lend(block);
-        let made = front.try_split_off_as(rt, at, &mut pass);
-        passes.give_back(block, pass);
-        let back = match made {
-            Ok(window) => window,
-            Err(e) => return Err(e),
-        };
-        if at == 0 {
-            self.block = part_block::<L>(block, front.len());
-            let window = Held::Read(back);
-            return Ok(Slot { window, block });
-        }
-        let block = part_block::<L>(block, back.len());
-        let window = Held::Read(back);
-        Ok(Slot { window, block })
-    }
-
-    /// Splits the window at `at`, and hands out the front: at the back end that is the window
-    /// itself. Refused, the window is as before.
-    ///
-    /// # Errors
-    ///
-    /// Those of `try_clone`; none where one part has no items and the layout has static data.
-    ///
-    /// # Allocates
-    ///
-    /// Only where `try_clone` does.
-    ///
-    /// # History
-    ///
-    /// On a block that counts its owners Up, or Full where refused; none where one part has no
-    /// items and the layout has static data.
-    pub fn try_split_to(
-        &mut self,
-        rt: &impl Wait,
-        at: usize,
-        passes: &mut Passes<A>,
-    ) -> Result<Self, OwnerError>
-        requires reads { self.old.role ≡ reader }
-        requires at { IsEdge S.boundary self.old.window.items at }
-        requires pass { HasPassFor passes.old.of_blocks.items (stand_of (Some self.old)) }
-        ensures end { IfOk result (λ front. at ≡ length self.old.window.items → IsSplit self.old
-            front self.new (row_of self.old) (to_part L.STATIC (row_of self.old) at)
-            passes.old.of_blocks.items passes.new.of_blocks.items) }
-        ensures earlier { IfOk result (λ front. at < length self.old.window.items → IsSplit
-            self.old self.new front
-            (cut_row (row_of self.old) at (length self.old.window.items))
-            (to_part L.STATIC (row_of self.old) at)
-            passes.old.of_blocks.items passes.new.of_blocks.items) }
-        ensures kept { IfErr result (λ _. self.new ≡ self.old) }
-        ensures refused { IfErr result (RefusesAt L.clone_wants
-            (to_part L.STATIC (row_of self.old) at).place (stand_of (Some self.old))
-            passes.old.of_blocks.items passes.new.of_blocks.items) }
-    {
-        let block = self.block;
-        let Held::Read(back) = &mut self.window else {
-            unreachable!()
-        };
-        let len = back.len();
-        let mut pass = passes.lend(block);
-        let made = back.try_split_to_as(rt, at, &mut pass);
-        passes.give_back(block, pass);
-        let front = match made {
-            Ok(window) => window,
-            Err(e) => return Err(e),
-        };
-        if len == at {
-            self.block = part_block::<L>(block, back.len());
-            let window = Held::Read(front);
-            return Ok(Slot { window, block });
-        }
-        let block = part_block::<L>(block, front.len());
-        let window = Held::Read(front);
-        Ok(Slot { window, block })
-    }
-
-    /// The window as one that is written, where its block may be written and no other owner of that
-    /// lives, or where it has no items and stands on none. Takes no memory.
-    ///
-    /// # Errors
-    ///
-    /// The window itself: on a block that may not be written, or beside another owner, on none with
-    /// items.
-    ///
-    /// # History
-    ///
-    /// On a block that may be written Alone, which says whether it is.
+    /// On a block that may be written: Alone with the answer.
     pub fn try_into_mut(self, passes: &mut Passes<A>) -> Result<Self, Self>
         requires reads { self.role ≡ reader }
         requires pass { HasPassFor passes.old.of_blocks.items (stand_of (Some self)) }
@@ -659,7 +536,8 @@ where
         }
     }
 
-    /// Whether a first block has to be made for so many items more in the window, which is written.
+    /// Whether a first block has to be made for `additional` items more in the window, which is a
+    /// sole writer's.
     #[inline(always)]
     pub fn wants_block(&self, additional: usize) -> bool
         requires { is_writer self.now.role ≡ true }
@@ -679,20 +557,21 @@ where
         }
     }
 
-    /// Writes into the window, which is one that is written, by a call that its kind has: `what`
-    /// goes behind its items. Refused, nothing changes, and what was to be written is let go.
+    /// Writes into a sole writer's window, by a call that its kind has: makes room, and appends
+    /// `what`.
     ///
     /// # Errors
     ///
-    /// `TryReserveError`, as `try_reserve` of such a window.
+    /// Those of `try_reserve` of such a window. Nothing changes then, and what was to be written is
+    /// dropped.
     ///
     /// # Allocates
     ///
-    /// Where its places don't do: a first block, or a larger one.
+    /// Where the window has too few places: for a first block, or a larger one.
     ///
     /// # History
     ///
-    /// None. A first block's history begins.
+    /// None. Where a first block is made its history begins.
     #[inline(always)]
     pub fn write(
         &mut self,
@@ -730,8 +609,8 @@ where
         }
     }
 
-    /// Whether there is room for so many items more without memory in the window, which is one
-    /// that is written; then it is made.
+    /// Makes room for `additional` items more in a sole writer's window where that takes no memory,
+    /// and answers whether there is room.
     pub fn try_reclaim(&mut self, additional: usize) -> bool
         requires writes { is_sole self.old.role ≡ true }
         ensures row { Reclaims
@@ -746,12 +625,13 @@ where
         window.try_reclaim(additional)
     }
 
-    /// Whether nobody else has a part of what the window stands on: on a block the count is asked,
-    /// and a caller's buffer after it. `false` on no block, and of an `Arc`. Takes no memory.
+    /// Whether no other owner has a part of what the window stands on. On a block the count is
+    /// read, and of a caller's buffer the buffer is asked too. The answer is `false` on no block,
+    /// and on an `Arc`. It takes no memory.
     ///
     /// # History
     ///
-    /// On a block, but for an `Arc`, Alone with what the count says.
+    /// On a block that is no `Arc`: Alone with what the count says.
     pub fn is_unique(&self, passes: &mut Passes<A>) -> bool
         requires reads { self.now.role ≡ reader }
         requires pass { HasPassFor passes.old.of_blocks.items (stand_of (Some self.now)) }
@@ -767,11 +647,11 @@ where
         alone
     }
 
-    /// Ends the window: the last owner gives its block back. Takes no memory.
+    /// Ends the window: the last owner gives its block back. It takes no memory.
     ///
     /// # History
     ///
-    /// On a block that counts its owners Down, which says whether it was the last.
+    /// On a block that counts its owners: Down, which tells whether the owner was the last one.
     pub fn release(self, passes: &mut Passes<A>)
         requires { HasPassFor passes.old.of_blocks.items (stand_of (Some self)) }
         ensures { Along (stand_of (Some self)) passes.old.of_blocks.items

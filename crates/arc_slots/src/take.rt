@@ -39,7 +39,7 @@ pub enum Taking {
 }
 
 impl Taking {
-    /// Whether it is for windows that are written too.
+    /// Whether it may be taken of windows that are written too.
     fn for_writers(self) -> bool
         ensures { result ≡ is_writers self }
     {
@@ -50,16 +50,16 @@ impl Taking {
     }
 }
 
-/// What parts that are read stand on, taken out, as a reply.
+/// What the parts of a reader stand on, taken out, as a reply.
 ///
 /// # Errors
 ///
-/// The parts.
+/// The parts come back.
 ///
 /// # History
 ///
-/// Taken, Alone and Down. Refused, Alone with no where only the count could decide, and else
-/// nothing.
+/// Taken: Alone with yes, then Down. Refused: Alone with no, where only the count could decide;
+/// else nothing.
 fn try_into_reply<S: Commands<A>, B: BufferMut<S::Item> + Drop, M: Drop, A: Allocator + Copy>(
     parts: Parts<S, B, M, A, Whole>,
     what: Taking,
@@ -100,11 +100,11 @@ fn try_into_reply<S: Commands<A>, B: BufferMut<S::Item> + Drop, M: Drop, A: Allo
 ///
 /// # Errors
 ///
-/// The parts; the pass is then as before.
+/// The parts come back; the pass is then as before.
 ///
 /// # History
 ///
-/// Taken, Down without a step.
+/// Taken: Down, without an atomic step. Refused: nothing.
 fn try_sole_into_reply<S: Commands<A>, B: BufferMut<S::Item> + Drop, M: Drop, A: Allocator + Copy>(
     parts: SoleParts<S, B, M, A, Whole>,
     what: Taking,
@@ -155,17 +155,17 @@ where
     ghost use Rattle.arc_slots.specs.Taking.{can_have};
     ghost use Rattle.arc_slots.specs.declared.take.Taking.TheVariants.{Vector as vector_of};
 
-    /// What the window stands on, which is read, taken out, as a reply: where it can be had so, and
-    /// no other owner lives.
+    /// What a window that is read stands on, taken out, as a reply: where it is of the sort that is
+    /// asked for, and no other owner lives.
     ///
     /// # Errors
     ///
-    /// The window itself.
+    /// The window itself comes back.
     ///
     /// # History
     ///
-    /// Taken, Alone and Down. Refused, Alone with no where only the count could decide, and else
-    /// nothing.
+    /// Taken: Alone with yes, then Down. Refused: Alone with no, where only the count could decide;
+    /// else nothing.
     fn try_take(self, what: Taking, passes: &mut Passes<A>) -> Result<TableReply<S, B, M, A>, Self>
     where
         S: Commands<A>,
@@ -197,15 +197,15 @@ where
         }
     }
 
-    /// The same of a window that is written, whose owner is alone.
+    /// The same of a sole writer's window.
     ///
     /// # Errors
     ///
-    /// The window itself; then nothing was added.
+    /// The window itself comes back. Nothing is added then.
     ///
     /// # History
     ///
-    /// Taken, Down without a step.
+    /// Taken: Down, without an atomic step. Refused: nothing.
     fn try_take_written(
         self,
         what: Taking,
@@ -243,17 +243,17 @@ where
         }
     }
 
-    /// The vector on which the window stands, which is one of several, taken out, as a reply: where
-    /// it can be had so, and no other owner lives.
+    /// The vector on which a window of one of several writers stands, taken out, as a reply: where
+    /// it stands on one, and no other owner lives.
     ///
     /// # Errors
     ///
-    /// The window itself.
+    /// The window itself comes back.
     ///
     /// # History
     ///
-    /// Taken, Alone and Down. Refused, Alone with no where only the count could decide, and else
-    /// nothing.
+    /// Taken: Alone with yes, then Down. Refused: Alone with no, where only the count could decide;
+    /// else nothing.
     fn try_take_beside(self, passes: &mut Passes<A>) -> Result<TableReply<S, B, M, A>, Self>
     where
         S: Commands<A>,
@@ -285,12 +285,12 @@ where
         }
     }
 
-    /// The items of the window, which is read, for good, where it stands on no block. Takes no
-    /// memory.
+    /// The items of a window that is read, as a `'static` slice, where it stands on no block. It
+    /// takes no memory.
     ///
     /// # Errors
     ///
-    /// The window itself.
+    /// The window itself comes back.
     fn try_into_static(self) -> Result<StaticSlice<S::Item>, Self>
         requires reads { self.role ≡ reader }
         ensures items { IfOk result (λ items. items ≡ self.window.items) }
@@ -348,7 +348,7 @@ where
         }
     }
 
-    /// Takes out the vector on which the window stands, which is one of several, if it can be had;
+    /// Takes out the vector on which a window of one of several writers stands, if that can be had;
     /// then the window is gone. Nothing else is taken out of such a window.
     fn take_beside(
         self,
@@ -371,8 +371,8 @@ where
         }
     }
 
-    /// Takes out what the window stands on, if it is for its role and can be had; then the window
-    /// is gone.
+    /// Takes out what the window stands on, if that is for a window of its role and can be had;
+    /// then the window is gone.
     pub(crate) fn take(
         self,
         what: Taking,

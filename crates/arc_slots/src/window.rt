@@ -1,4 +1,4 @@
-//! The window of a slot, of any role.
+//! The window of a slot, whatever its role.
 ghost use Rattle.std.specs.Prelude.{◌≡◌, Bool, true, false, IfErr, IfOk};
 ghost use Rattle.arc_owners.specs.count.Calls.{Leaves};
 ghost use Rattle.arc_buffer.specs.Slice.{IsRange, sub};
@@ -24,15 +24,15 @@ use std::sync::Wait;
 pub enum Held<R, W, V, K> {
     /// One that is read.
     Read(R),
-    /// One that is written alone.
+    /// A sole writer's.
     Write(W),
-    /// One of several that are written.
+    /// One of several writers'.
     Several(V),
     /// A small one.
     Small(K),
 }
 
-/// The window of a slot, of which K is a writer's layout.
+/// The window of a slot. K is a writer's layout.
 pub type AnyWindow<S, L, K, B, M, A> = Held<
     ArcSlice<S, L, B, M, A, Whole>,
     ArcSliceMut<S, K, 1, B, M, A, Whole>,
@@ -40,8 +40,8 @@ pub type AnyWindow<S, L, K, B, M, A> = Held<
     SmallWindow<S, L, M, A>,
 >;
 
-/// A window that isn't written: one that is read, or a small one. What is cloned or cut of a slot's
-/// window is one, and smaller than what a slot holds.
+/// A window that isn't written: one that is read, or a small one. Clones and cuts of a slot's
+/// window are of this type, which is smaller than what a slot holds.
 pub enum ReadOnly<R, K> {
     /// One that is read.
     Read(R),
@@ -49,13 +49,13 @@ pub enum ReadOnly<R, K> {
     Small(K),
 }
 
-/// The window that a clone or a cut of a slot's is.
+/// The type of clones and cuts of a slot's window.
 pub type ReadOnlyWindow<S, L, B, M, A> = ReadOnly<
     ArcSlice<S, L, B, M, A, Whole>,
     SmallWindow<S, L, M, A>,
 >;
 
-/// The window that a clone or a cut is, as a slot holds it.
+/// A clone or cut, as a slot holds it.
 #[inline(always)]
 pub(crate) fn hold_window<
     S: TableKind,

@@ -4,8 +4,8 @@ use Rattle.std.proofs.Common.{drop, sym, ap, ◌∙◌, arith, length-drop}
 use Rattle.std.proofs.lemmas.List.{take-append-drop, length-take-le, take-take}
 use Rattle.arc_buffer.specs.Slice.{sub}
 
--- What is seen of a list in an array that has places for more: the list, and what stands in front
--- of it and behind it, of which no call tells anything.
+-- A list in an array that has places for more: the list, and what stands in front of it and behind
+-- it, which no call shows.
 pub record Inlined : Type 0 where
   pub items : List ℕ
   pub front : List ℕ

@@ -1,4 +1,4 @@
--- What a small window ends as, where what it has in it is lent to be changed.
+-- What a small window is once a borrow of what it holds has ended.
 use Rattle.std.specs.Prelude.{ℕ}
 use Rattle.std.specs.Borrow.{Lends, Fml, RattleType, MutBor, u8 as byte}
 use Rattle.std.specs.declared.alloc.Allocator as allocator
@@ -19,7 +19,7 @@ module _ (S L B M A H Error Writable : RattleType) (s : kind.Ghosts S.Denot ℕ 
     (l : layout.Ghosts L.Denot Writable.Denot) (b : buffer.Ghosts B.Denot ℕ)
     (a : allocator.Ghosts A.Denot) (h : mark.Ghosts H.Denot)
     (parts : MutBor (PartsView ℕ M.Denot)) where
-  -- once the borrow r ends, it is what r shows last
+  -- once the borrow r ends, the window is what r shows last
   abbrev pub lends_either : MutBor (Either Inlined (Window ℕ M.Denot)) → Fml
   lends_either r =
       Lends (the_row S L B M A H Error Writable s l b a h)

@@ -22,8 +22,8 @@ abbrev pub row_of : {M : Type 0} → Either Inlined (Window ℕ M) → PartsView
 row_of (Left small) = inline_row small.items
 row_of (Right window) = parts_of window
 
--- What holds of each small window: one with its bytes in itself has no more than the limit, and
--- stands on nothing; any other is read.
+-- What holds of each small window. One with its bytes in itself has at most the limit, and stands
+-- on nothing. Any other is read.
 pub record IsSmall {T M : Type 0} (w : PartsView T M) : Type 0 where
   pub short : w.role ≡ inline → (length w.items ≤ inline_limit) × (w.place ≡ nowhere)
   pub read : (w.role ≡ inline → ⊥) → w.role ≡ reader
@@ -36,7 +36,7 @@ pub record MakesSmall {T M : Type 0} (has_static drops one_pass : Bool)
   pub long : inline_limit < length items
       → (w.role ≡ reader) × Makes has_static drops one_pass items (window_of w)
 
--- Where a small window goes that is to be one of another layout: its bytes in itself stay there.
+-- Where a small window goes that changes its layout. Bytes in itself stay there.
 abbrev pub small_move : {O M : Type 0} → LayoutFacts → Role → Place (Option O) M → Move
 small_move layout inline place = Stays
 small_move layout reader place = layout_move layout place

@@ -15,9 +15,9 @@ use either::{Either, Left, Right};
 use std::alloc::{Allocator, Global};
 use std::marker::Model;
 
-/// A list of bytes: in the window itself where it is within the limit of `SmallSlice` and was
-/// copied there, and else a window that is read. Short lists take no memory, and their clones and
-/// cuts touch no count.
+/// A list of bytes. It lies in the window itself where it was copied there and has at most
+/// `inline_limit()` bytes; else this is a window that is read. A list in the window takes no
+/// memory, and its clones and cuts read and change no count.
 pub struct SmallArcSlice<
     S: Slice<Item = u8>,
     L: Layout = DefaultLayout,
@@ -79,7 +79,7 @@ impl<
     ghost use Rattle.std.specs.Borrow.{sem};
     ghost use Rattle.arc_small.specs.Lends.{lends_either};
 
-    /// A window with no bytes, in itself under every layout.
+    /// A window without bytes, which lies in itself under every layout.
     pub fn new() -> Self
     where
         S: Emptyable,
@@ -90,7 +90,7 @@ impl<
         }
     }
 
-    /// The short list, or the window that is read, which this one is.
+    /// The short list, or the window that is read.
     #[inline(always)]
     pub fn as_either(&self) -> &Either<SmallSlice<S, L>, ArcSlice<S, L, B, M, A, H>>
         ensures { row_of result.now ≡ self.now }
@@ -98,8 +98,8 @@ impl<
         &self.either
     }
 
-    /// The short list, or the window that is read, which this one is, to be changed: what is
-    /// written there it is afterwards. It adds nothing.
+    /// The short list, or the window that is read, to be changed: afterwards it is what is written
+    /// there. It adds no entry.
     #[inline(always)]
     pub fn as_either_mut(&mut self) -> &mut Either<SmallSlice<S, L>, ArcSlice<S, L, B, M, A, H>>
         ensures* writes_back { sem 𝓛 (lends_either S.row L.row B.row M.row A.row H.row
@@ -110,7 +110,7 @@ impl<
         &mut self.either
     }
 
-    /// The short list, or the window that is read, which this one is. It adds nothing.
+    /// The short list, or the window that is read, by value. It adds no entry.
     #[inline(always)]
     pub fn into_either(self) -> Either<SmallSlice<S, L>, ArcSlice<S, L, B, M, A, H>>
         ensures { row_of result ≡ self }

@@ -1,4 +1,4 @@
-//! Small windows: lists of bytes that lie in the window itself where they are short.
+//! Small windows: short lists of bytes, which lie in the window itself.
 #![tactic(auto)]
 
 pub use arc::SmallArcSlice;

@@ -1,8 +1,8 @@
-//! How many bytes a window has in itself.
+//! How many bytes a window may have in itself.
 ghost use Rattle.std.specs.Prelude.{◌≡◌};
 ghost use Rattle.arc_block.specs.Inline.{inline_limit};
 
-/// How many bytes a window has in itself at most, under every layout.
+/// The most bytes that a window has in itself, under every layout.
 #[inline(always)]
 pub fn inline_limit() -> usize
     ensures { result ≡ inline_limit }

@@ -13,11 +13,12 @@ use arc_read::range;
 use std::marker::{Model, PhantomData};
 use std::str;
 
-/// A list of at most thirty bytes, under every layout, in the value itself. It is copied freely,
-/// and no call of it takes memory or adds to a history.
+/// A list of at most 30 bytes, under every layout, in the value itself. It is copied freely. No
+/// call of it takes memory or adds an entry.
 #[derive_where(Clone, Copy)]
 pub struct SmallSlice<S: Slice<Item = u8>, L: Layout = DefaultLayout> {
-    // It has no bytes. With it the value begins where a word does, and a copy is one of four words.
+    // A field without bytes. It lets the value begin where a word does, so that it is copied as
+    // four words.
     words: [u64; 0],
     start: u8,
     end: u8,
@@ -57,7 +58,7 @@ impl<S: Slice<Item = u8>, L: Layout> Model for SmallSlice<S, L> {
 }
 
 impl<S: Slice<Item = u8>, L: Layout> SmallSlice<S, L> {
-    /// The list without bytes.
+    /// A list without bytes.
     pub fn empty() -> Self
     where
         S: Emptyable,
@@ -72,7 +73,7 @@ impl<S: Slice<Item = u8>, L: Layout> SmallSlice<S, L> {
         }
     }
 
-    /// A copy of the bytes, which are legal, where they are within the limit.
+    /// A copy of the bytes, which are legal, or `None` where they are more than the limit.
     fn of_legal(items: &[u8]) -> Option<Self>
         requires { ∥ S.is_legal items.now ∥₁ }
         ensures some { IsSome result ↔ length items.now ≤ inline_limit }
@@ -92,7 +93,8 @@ impl<S: Slice<Item = u8>, L: Layout> SmallSlice<S, L> {
         })
     }
 
-    /// A copy of the bytes, where they are within the limit, of a kind of which each list is legal.
+    /// A copy of the bytes, or `None` where they are more than the limit, of a kind of which each
+    /// list is legal.
     pub(super) fn of_any(items: &[u8]) -> Option<Self>
     where
         S: AnyItems,
@@ -102,7 +104,7 @@ impl<S: Slice<Item = u8>, L: Layout> SmallSlice<S, L> {
         Self::of_legal(items)
     }
 
-    /// A copy of the bytes, where they are within the limit.
+    /// A copy of the bytes, or `None` where they are more than `inline_limit()`.
     pub fn new(items: &[u8]) -> Option<Self>
     where
         S: CopySlice,
@@ -112,7 +114,7 @@ impl<S: Slice<Item = u8>, L: Layout> SmallSlice<S, L> {
         Self::of_legal(items)
     }
 
-    /// The same list once more.
+    /// A copy of the list.
     #[inline(always)]
     pub(super) fn copied(&self) -> Self
         ensures { result ≡ self.now }
@@ -199,7 +201,7 @@ impl<S: Slice<Item = u8>, L: Layout> SmallSlice<S, L> {
         let _ = &self.bytes;
     }
 
-    /// Leaves the bytes from `start` to `end`.
+    /// Keeps the bytes from `start` to before `end`.
     #[inline(always)]
     fn keep(&mut self, start: usize, end: usize)
     where
@@ -211,7 +213,7 @@ impl<S: Slice<Item = u8>, L: Layout> SmallSlice<S, L> {
         self.start += start as u8;
     }
 
-    /// The bytes from `start` to `end`.
+    /// A copy of the bytes from `start` to before `end`.
     #[inline(always)]
     pub fn subslice(&self, start: usize, end: usize) -> Self
     where
@@ -252,7 +254,7 @@ impl<S: Slice<Item = u8>, L: Layout> SmallSlice<S, L> {
         self.keep(n, end);
     }
 
-    /// Leaves the list's first `n` bytes, or all where it has no more.
+    /// Keeps the list's first `n` bytes, or all where it has no more.
     pub fn truncate(&mut self, n: usize)
     where
         S: Subsliceable,
@@ -269,7 +271,7 @@ impl<S: Slice<Item = u8>, L: Layout> SmallSlice<S, L> {
 const _: () = prove!(size_of::<SmallSlice<Plain<u8>>>() == 32);
 
 impl<L: Layout> SmallSlice<Text, L> {
-    /// A copy of the text, where it is within the limit.
+    /// A copy of the text, or `None` where it is more than `inline_limit()` bytes.
     pub fn new_str(text: &str) -> Option<Self>
         ensures some { IsSome result ↔ length text.now ≤ inline_limit }
         ensures items { IfSome result (λ small. small.items ≡ text.now) }
@@ -277,7 +279,7 @@ impl<L: Layout> SmallSlice<Text, L> {
         Self::of_legal(text.as_bytes())
     }
 
-    /// The text.
+    /// The bytes as a `str`.
     pub fn as_str(&self) -> &str
         ensures { result.now ≡ self.now.items }
     {

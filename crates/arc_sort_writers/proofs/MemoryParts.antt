@@ -147,21 +147,3 @@ cut_owned {T} {M} sort o size full offset xs start end n ordered inside short fi
     ∙ ap (λ b. if b then make (take n part) n else make part
     (writer_capacity {M = M} true info offset (end - start)))
     (sym (lt-ltb n (length part) some))
-
--- all of the memory's items
-pub new_part : {T M : Type 0} (sort : Sort) (drops : Bool) (o : Owner) (size full offset : ℕ)
-    (xs : List T) (end : ℕ) → offset ≡ 0 → end ≡ length xs → full ≡ length xs
-    → memory_part {M = M} sort drops o size full offset xs 0 end ≡ writer_over sort drops (Some o)
-    xs size
-new_part {T} {M} sort drops o size full offset xs end front is all =
-    let items : sub xs 0 end ≡ xs = ap (λ n. sub xs 0 n) is ∙ sub-whole xs in
-    let last : offset + (end - 0) ≡ full = omega (arith, is, all, front) in
-    let room : size - offset ≡ size = omega (arith, front) in
-    let free : writer_capacity {M = M} drops (memory_info sort drops size full) offset
-    (end - 0) ≡ size =
-    full_capacity M sort drops size full offset (end - 0) last ∙ room in
-    λ i. record {
-      items = items i;
-      place = on_block (Some o) (front i) (memory_info sort drops size (all i));
-      role = sole_writer (free i);
-    }

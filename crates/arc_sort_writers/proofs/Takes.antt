@@ -1,5 +1,5 @@
 -- One of several writers on a native block: what he took back, and what is seen of him.
-use Rattle.std.proofs.Common.{◌≡◌, ℕ, Bool, false, List, sym, ap, ◌∙◌, subst}
+use Rattle.std.proofs.Common.{◌≡◌, ℕ, Bool, true, false, List, sym, ap, ◌∙◌, subst}
 use denote.RawPtr.{Ptr}
 use Rattle.arc_owners.specs.declared.memory.header_room.HeaderRoom.{HeaderRoom}
 use Rattle.arc_memory.specs.KeptPlaces.{kept_in}
@@ -10,6 +10,7 @@ use Rattle.arc_memory.specs.declared.kept.Kept.TheVariants.{Places, Items}
 use Rattle.arc_memory.specs.declared.frozen_places.FrozenPlaces.{FrozenPlaces}
 use Rattle.arc_memory.specs.LentRanges.{LentRange}
 use Rattle.arc_memory.specs.SharedWriters.{writer_owner, writer_value, writer_range, writer_items}
+use Rattle.arc_memory.specs.WriterParts.{SplitsOwner}
 use Rattle.arc_memory.specs.declared.shared_writer.SharedWriter.{SharedWriter}
 use Rattle.arc_owners.specs.count.Calls.{Owner, MakesAnother}
 use Rattle.arc_owners.specs.declared.count.tokens.Pass.{Pass}
@@ -103,3 +104,17 @@ limited_alike greatest one_pass o other old new made limited = record {
   most = ap (λ p. p.block.most) made.made ∙ limited.most;
   whole = ap (λ p. p.block.whole) made.made ∙ limited.whole;
 }
+
+-- both owners of what one had are limited as he is
+pub limited_both : {H : Type 0} (greatest : ℕ) (one_pass front_stays : Bool)
+    (o front back : Owner) (old new : Pass H) → SplitsOwner front_stays o old new front back
+    → IsLimited greatest one_pass o
+    → IsLimited greatest one_pass front × IsLimited greatest one_pass back
+limited_both greatest one_pass true o front back old new split limited = (
+  subst (IsLimited greatest one_pass) (sym split.stays) limited,
+  limited_alike greatest one_pass o back old new split.made limited,
+)
+limited_both greatest one_pass false o front back old new split limited = (
+  limited_alike greatest one_pass o front old new split.made limited,
+  subst (IsLimited greatest one_pass) (sym split.stays) limited,
+)

@@ -1,4 +1,5 @@
--- What is seen of a sole writer's parts on a native block, whose own places are parted from others.
+-- What contracts see of a sole writer's parts on a native block, whose own places are parted from
+-- others.
 use Rattle.std.specs.Prelude.{◌≡◌, ℕ, ◌+◌, ◌-◌, ◌<◌, Bool, true, false, [], length}
 use Rattle.std.specs.Prelude.{Option, Some, None}
 use Rattle.arc_owners.specs.count.Calls.{Owner}
@@ -22,7 +23,7 @@ module _ {T M A : Type 0} where
       (memory_info native drops m.places.under.whole
       (m.places.under.start + length m.places.vec.items + length m.behind.items))
 
-  -- what is seen of him: the items in his own places, which are all that he has
+  -- what contracts see of him: the items in his own places, which are all that he has
   abbrev pub cut_native : Bool → Option Owner → CutMemory T A → PartsView T M
   cut_native drops owner m = record {
     items = m.places.vec.items;

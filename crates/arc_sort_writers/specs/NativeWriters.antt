@@ -69,7 +69,7 @@ module _ {T : Type 0} where
     size = places;
   }
 
-  -- what is seen of one that has this range of lent memory
+  -- what contracts see of one that has this range of lent memory
   abbrev pub native_writer_seen : {V Z H : Type 0} {MAX : ℕ} {G : Ghosts H}
       → SharedWriter T V Z MAX H G → NativeWriter T
   native_writer_seen w = record {

@@ -1,4 +1,4 @@
--- What is seen of a sole writer's parts, by the sort of their block.
+-- What contracts see of a sole writer's parts, by the sort of their block.
 use Rattle.std.specs.Prelude.{◌≡◌, ℕ, ◌+◌, ◌-◌, ◌≤◌, Bool, true, false, List, length}
 use Rattle.std.specs.Prelude.{Some}
 use Rattle.std.specs.declared.vec.Vec.{Vec}

@@ -82,7 +82,7 @@ impl<S: Slice, B: BufferMut<S::Item> + Drop, M: Drop, A: Allocator + Copy, H: Ma
     A,
     H,
 > {
-    /// They stand on a caller's buffer.
+    /// They stand on a caller's buffer: the answer is `true`.
     #[tactic(auto, using(crate::proofs::Soles::is_buffer_sort))]
     pub fn is_on_buffer(&self) -> bool
         ensures { IsTrue result ↔ IsOfBuffer self.now.place }
@@ -91,7 +91,7 @@ impl<S: Slice, B: BufferMut<S::Item> + Drop, M: Drop, A: Allocator + Copy, H: Ma
         true
     }
 
-    /// They stand on no vector.
+    /// They stand on no vector: the answer is `false`.
     pub fn is_on_vector(&self) -> bool
         ensures { result ≡ is_vector_at self.now.place }
     {
@@ -99,7 +99,8 @@ impl<S: Slice, B: BufferMut<S::Item> + Drop, M: Drop, A: Allocator + Copy, H: Ma
         false
     }
 
-    /// They stand on a block that counts its owners and may be written.
+    /// They stand on a block that counts its owners and may be written. Does nothing: its contract
+    /// is the law.
     #[tactic(auto, using(crate::proofs::Soles::buffer_writes))]
     pub fn known_place(&self)
         ensures { IsWriterPlace self.now.place }
@@ -124,7 +125,7 @@ impl<S: Slice, B: BufferMut<S::Item> + Drop, M: Drop, A: Allocator + Copy, H: Ma
         }
     }
 
-    /// How many places there are for items, from the first of them on.
+    /// How many places there are, from the first item on.
     pub fn capacity(&self) -> usize
         ensures capacity { result ≡ capacity_of self.now.role }
         ensures enough { length self.now.items ≤ result }
@@ -140,13 +141,17 @@ impl<S: Slice, B: BufferMut<S::Item> + Drop, M: Drop, A: Allocator + Copy, H: Ma
         }
     }
 
-    /// All items of a caller's buffer, which stays where it is put now, with its metadata where
-    /// there is some. The pass becomes the block's.
+    /// All items of a caller's buffer, which lies beside the count, with its metadata, if there is
+    /// some. The pass becomes the block's.
     ///
     /// # Errors
     ///
     /// Buffer and metadata come back where memory for the block is refused; the pass is then as
     /// before.
+    ///
+    /// # Allocates
+    ///
+    /// Once.
     pub fn try_from_buffer_as(
         alloc: A,
         buffer: B,
@@ -183,7 +188,7 @@ impl<S: Slice, B: BufferMut<S::Item> + Drop, M: Drop, A: Allocator + Copy, H: Ma
         }
     }
 
-    /// Where there is room for so many items more.
+    /// Where there is room for `additional` items more.
     pub fn room(&self, additional: usize) -> Room
         ensures room { result ≡ room_for S.DROPS (type_size S.Item.row) self.now additional }
         ensures spare { IfSpare result
@@ -212,7 +217,7 @@ impl<S: Slice, B: BufferMut<S::Item> + Drop, M: Drop, A: Allocator + Copy, H: Ma
         }
     }
 
-    /// Asks the buffer for places for so many items more.
+    /// Asks the buffer for places for `additional` items more.
     fn try_grow(&mut self, additional: usize) -> Result<(), TryReserveError>
         requires { capacity_of self.old.role ≡ size_at self.old.place - offset_at self.old.place }
         ensures grown { OnOk result ((places : ℕ)
@@ -231,7 +236,7 @@ impl<S: Slice, B: BufferMut<S::Item> + Drop, M: Drop, A: Allocator + Copy, H: Ma
         }
     }
 
-    /// Moves the items to the front of the buffer; those before them stand behind them then.
+    /// Moves the items to the front of the buffer; those that lay before them are then behind them.
     fn to_front(&mut self)
         requires { S.DROPS ≡ false }
         ensures shifted { self.new ≡ with_room Front self.old }

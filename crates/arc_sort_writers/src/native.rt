@@ -33,19 +33,19 @@ use std::alloc::{Allocator, Global};
 use std::cmp::max;
 use std::marker::{Model, PhantomData};
 
-/// A row of the table of lists that its only owner writes, on a native block whose memory he has,
-/// or on nothing: the items, where they stand, and how many places they have.
+/// A row of the table of lists that its only owner writes, on a native block whose memory the owner
+/// has, or on nothing: the items, where they stand, and how many places they have.
 ///
-/// Dropped, they end as a window does.
+/// Parts that are dropped end as a window does.
 pub struct SoleNative<S: Slice, M: Drop = (), A: Allocator + Copy = Global, H: Mark = Open> {
-    // None where they stand on nothing: then there are no places.
+    // `None` where they stand on nothing, and then there are no places.
     count: Option<NativeCount<MAX_OWNERS, H>>,
-    // His places alone hold the items. Behind them lie those that were cut off, where items are
-    // dropped one by one. Else these may be places that aren't his: who was one of several writers
-    // keeps the places that he had, until he wants room.
+    // The items lie in the writer's own places. Behind these lie the items that were cut off, where
+    // items are dropped one by one. Else the block may have places there that aren't the writer's:
+    // one of several writers who became the only one keeps his places until he asks for room.
     memory: CutMemory<S::Item, A>,
     alloc: A,
-    // Metadata of a native block, which has none.
+    // The type of metadata, of which a native block has none.
     marker: PhantomData<M>,
 }
 
@@ -82,8 +82,8 @@ impl<S: Slice, M: Drop, A: Allocator + Copy, H: Mark> Drop for SoleNative<S, M, 
     }
 }
 
-/// All of a writer's memory, with the items that are to be dropped with it: where they are dropped
-/// one by one these are all that lie there, and else his own.
+/// All of a writer's memory, with the items that are to be dropped with it: all that lie there,
+/// where they are dropped one by one, and else the writer's own.
 #[inline(always)]
 fn whole_of<S: Slice, A: Allocator>(memory: CutMemory<S::Item, A>) -> WriterMemory<S::Item, A>
     requires { IsCutFor S.DROPS memory }
@@ -98,8 +98,8 @@ fn whole_of<S: Slice, A: Allocator>(memory: CutMemory<S::Item, A>) -> WriterMemo
     memory.into_own()
 }
 
-/// The places from `start` to `end` of all that hold items as the writer's own. Items behind them
-/// are forgotten, as are those before, unless they are dropped one by one.
+/// The places from `start` to before `end`, of which each holds an item, as the writer's own. Items
+/// behind them are forgotten, and those before them too; items that are dropped one by one stay.
 fn part_of<S: Slice, A: Allocator>(
     memory: WriterMemory<S::Item, A>,
     start: usize,
@@ -151,8 +151,8 @@ fn kept_part<T: Drop, A: Allocator>(
     part
 }
 
-/// Makes it memory of so many places, with the items that it keeps in the same places. None lie
-/// behind the writer's, who has all places there then.
+/// Grows the memory to so many places, with the items that it keeps in the same places. No items
+/// lie behind the writer's, who then has all places there.
 fn grown<S: Slice, A: Allocator>(
     memory: &mut CutMemory<S::Item, A>,
     alloc: A,
@@ -190,7 +190,7 @@ impl<S: Slice, M: Drop, A: Allocator + Copy, H: Mark> SoleNative<S, M, A, H> {
         }
     }
 
-    /// They stand on no caller's buffer.
+    /// They stand on no caller's buffer: the answer is `false`.
     pub fn is_on_buffer(&self) -> bool
         ensures { IsTrue result ↔ IsOfBuffer self.now.place }
     {
@@ -200,7 +200,7 @@ impl<S: Slice, M: Drop, A: Allocator + Copy, H: Mark> SoleNative<S, M, A, H> {
         }
     }
 
-    /// They stand on no vector.
+    /// They stand on no vector: the answer is `false`.
     pub fn is_on_vector(&self) -> bool
         ensures { result ≡ is_vector_at self.now.place }
     {
@@ -210,7 +210,8 @@ impl<S: Slice, M: Drop, A: Allocator + Copy, H: Mark> SoleNative<S, M, A, H> {
         }
     }
 
-    /// They stand on nothing, or on a block that counts its owners and may be written.
+    /// They stand on nothing, or on a block that counts its owners and may be written. Does
+    /// nothing: its contract is the law.
     pub fn known_place(&self)
         ensures { IsWriterPlace self.now.place }
     {
@@ -236,7 +237,7 @@ impl<S: Slice, M: Drop, A: Allocator + Copy, H: Mark> SoleNative<S, M, A, H> {
         self.memory.as_slice()
     }
 
-    /// How many places there are for items, from the first of them on.
+    /// How many places there are, from the first item on.
     #[inline(always)]
     pub fn capacity(&self) -> usize
         ensures capacity { result ≡ capacity_of self.now.role }
@@ -255,7 +256,7 @@ impl<S: Slice, M: Drop, A: Allocator + Copy, H: Mark> SoleNative<S, M, A, H> {
         self.memory.capacity() - self.memory.len()
     }
 
-    /// Where there is room for so many items more.
+    /// Where there is room for `additional` items more.
     pub fn room(&self, additional: usize) -> Room
         ensures room { result ≡ room_for S.DROPS (type_size S.Item.row) self.now additional }
         ensures fresh { IfFresh result (λ places. (self.now.place ≡ nowhere)
@@ -283,8 +284,8 @@ impl<S: Slice, M: Drop, A: Allocator + Copy, H: Mark> SoleNative<S, M, A, H> {
         room_in::<S>(false, size, full, offset, len, additional)
     }
 
-    /// No items, with so many places: for none on nothing, else on a new native block. The pass,
-    /// which is of no block, becomes the block's.
+    /// No items, with `capacity` places, on a new native block. No places stand on nothing. The
+    /// pass, which is of no block, becomes the block's.
     ///
     /// # Errors
     ///
@@ -292,7 +293,7 @@ impl<S: Slice, M: Drop, A: Allocator + Copy, H: Mark> SoleNative<S, M, A, H> {
     ///
     /// # Allocates
     ///
-    /// Once, except for none.
+    /// Once, except for no places.
     pub fn try_with_capacity_as(
         alloc: A,
         capacity: usize,
@@ -343,7 +344,7 @@ impl<S: Slice, M: Drop, A: Allocator + Copy, H: Mark> SoleNative<S, M, A, H> {
         }
     }
 
-    /// So many zeros, on a new native block with exactly a place for each; none stand on nothing.
+    /// `count` zeros, on a new native block with exactly a place for each. None stand on nothing.
     /// The pass, which is of no block, becomes the block's.
     ///
     /// # Errors
@@ -371,7 +372,7 @@ impl<S: Slice, M: Drop, A: Allocator + Copy, H: Mark> SoleNative<S, M, A, H> {
         }
     }
 
-    /// An array's items, which are moved as `try_from_slice_as` copies.
+    /// An array's items, which are moved into a block where `try_from_slice_as` copies them.
     ///
     /// # Errors
     ///
@@ -401,7 +402,7 @@ impl<S: Slice, M: Drop, A: Allocator + Copy, H: Mark> SoleNative<S, M, A, H> {
         }
     }
 
-    /// All items of this memory, which becomes that of a new block. The pass becomes the block's.
+    /// All items of this memory, which becomes a new block's. The pass becomes that block's.
     #[tactic(auto, using(crate::proofs::CutNatives::keeps_both))]
     fn on_new(alloc: A, memory: WriterMemory<S::Item, A>, pass: &mut Pass<H>) -> Self
         requires start { memory.places.under.start ≡ 0 }
@@ -443,27 +444,27 @@ impl<S: Slice, M: Drop, A: Allocator + Copy, H: Mark> SoleNative<S, M, A, H> {
         }
     }
 
-    /// Makes room for so many items more.
+    /// Makes room for `additional` items more behind those that there are.
     ///
     /// # Errors
     ///
-    /// Where the window hasn't the places already, in this order:
+    /// Where there are too few places, in this order:
     ///
     /// - `Unsupported` where items that are dropped one by one end before the block's full places.
     /// - `CapacityOverflow` where a block would have to grow to more than 2^63 - 1 places or bytes.
     /// - `AllocError` where memory is refused for a larger block, or for a first one of any size.
     ///
-    /// Everything is then as before.
+    /// Nothing is changed then.
     ///
     /// # Allocates
     ///
-    /// Once for a first block, and once where the block grows: where the places behind the items
-    /// aren't enough, unless items that aren't dropped one by one are no more than the places in
-    /// front of them, and the whole block is large enough.
+    /// Once for a first block, and once where the block grows. It grows where the places behind the
+    /// items aren't enough, unless the items can be moved to its front: they aren't dropped one by
+    /// one, they are no more than the places in front of them, and the whole block is large enough.
     ///
     /// # History
     ///
-    /// Nothing is added. Where a first block is made, the pass, which was of none, becomes that
+    /// None. Where a first block is made, the pass, which is of no block before, becomes that
     /// block's.
     #[inline(always)]
     pub fn try_reserve_as(
@@ -486,7 +487,8 @@ impl<S: Slice, M: Drop, A: Allocator + Copy, H: Mark> SoleNative<S, M, A, H> {
         self.try_make_room(additional, pass)
     }
 
-    /// `try_reserve_as` where there may be no room yet, apart so that the test is inlined alone.
+    /// `try_reserve_as` where there may be no room yet, which stands apart, so that only the test
+    /// before it is inlined.
     #[cold]
     #[inline(never)]
     fn try_make_room(
@@ -505,7 +507,7 @@ impl<S: Slice, M: Drop, A: Allocator + Copy, H: Mark> SoleNative<S, M, A, H> {
     {
         match self.room(additional) {
             Room::Spare => Ok(()),
-            // The block is no caller's buffer.
+            // This arm isn't reached: the block is no caller's buffer.
             Room::Own(_) => unreachable!(),
             Room::Behind => {
                 self.widen();
@@ -527,7 +529,7 @@ impl<S: Slice, M: Drop, A: Allocator + Copy, H: Mark> SoleNative<S, M, A, H> {
         }
     }
 
-    /// Stands on a new block of so many places instead.
+    /// Goes from nothing to a new block of `places` places.
     fn try_fresh(&mut self, places: usize, pass: &mut Pass<H>) -> Result<(), AllocError>
         requires places { 1 ≤ places }
         requires pass { IsPassOfNone pass.old }
@@ -539,7 +541,7 @@ impl<S: Slice, M: Drop, A: Allocator + Copy, H: Mark> SoleNative<S, M, A, H> {
         Ok(())
     }
 
-    /// Makes the block one of so many places.
+    /// Grows the block to `places` places.
     fn try_grow(&mut self, places: usize) -> Result<(), AllocError>
         requires { CanGrowNative S.DROPS self.old places }
         ensures grown { OnOk result (self.new ≡ with_room (Growth places) self.old) }
@@ -550,7 +552,7 @@ impl<S: Slice, M: Drop, A: Allocator + Copy, H: Mark> SoleNative<S, M, A, H> {
         grown::<S, A>(&mut self.memory, self.alloc, places)
     }
 
-    /// Has all places up to the end of the block.
+    /// Takes all places up to the end of the block.
     fn widen(&mut self)
         requires { S.DROPS ≡ false }
         ensures wider { self.new ≡ with_room Behind self.old }

@@ -1,9 +1,10 @@
 //! One of several writers on a native block.
 ghost use Rattle.arc_owners.specs.history.Histories.{Counted};
 ghost use Rattle.std.specs.Prelude.{◌≡◌, ◌==◌, ◌+◌, ◌-◌, ◌^◌, ◌<◌, ◌≤◌, ◌++◌, ◌∷◌, [], Bool};
-ghost use Rattle.std.specs.Prelude.{length, take, true, false, ◌&&◌, IfOk, IfErr, is_ok};
+ghost use Rattle.std.specs.Prelude.{length, take, true, false, ◌&&◌, IfOk, IfErr, IfSome, is_ok};
+ghost use Rattle.std.specs.Prelude.{is_some};
 ghost use Rattle.arc_owners.specs.count.Calls.{IsPassFor, IsPassOfNone, IsNewPass, Learns};
-ghost use Rattle.arc_owners.specs.count.Calls.{MakesAnother, FindsFull, Leaves, EndsByItself};
+ghost use Rattle.arc_owners.specs.count.Calls.{FindsFull, Leaves, EndsByItself};
 ghost use Rattle.arc_owners.specs.count.Calls.{EndsShown, AsksAndLeaves};
 ghost use Rattle.arc_sort_writers.specs.NativeWriters.{front_writer, back_writer, joined_writer};
 ghost use Rattle.arc_sort_writers.specs.NativeWriters.{with_writer_items, native_writer_over};
@@ -18,6 +19,7 @@ ghost use Rattle.arc_memory.specs.Sources.{IsPiece};
 ghost use Rattle.arc_memory.specs.LentRanges.{part_range};
 ghost use Rattle.arc_memory.specs.SharedWriters.{writer_owner, writer_value, writer_place};
 ghost use Rattle.arc_memory.specs.SharedWriters.{writer_range, writer_items};
+ghost use Rattle.arc_memory.specs.WriterParts.{SplitsOwner};
 ghost use Rattle.arc_owners.specs.memory.Boxes.{owner_in, value_of, place_in};
 
 use arc_block::block::{MAX_OWNERS, NativeBlock, NativeCount};
@@ -34,7 +36,7 @@ use std_alloc::vec::Lodged;
 /// One of several writers on a native block: an owner, with places that no other owner reaches. Its
 /// items need no drop.
 ///
-/// Dropped, it ends as a window does.
+/// One that is dropped ends as a window does.
 pub struct SharedNative<T: Drop, A: Allocator + Copy = Global, H: Mark = Open> {
     writer: SharedWriter<T, Kept<T, A>, Lodged, MAX_OWNERS, H>,
     head: HeadSize<Header<Kept<T, A>>>,
@@ -66,8 +68,8 @@ impl<T: Drop, A: Allocator + Copy, H: Mark> Drop for SharedNative<T, A, H> {
     }
 }
 
-/// A writer of the part's places, which these numbers tell. Apart, so that what the unsafe call
-/// asks is proved with no other facts beside it.
+/// A writer of the part's places, of which these are the numbers. It stands apart, so that what the
+/// unsafe call asks is proved without other facts.
 #[inline(always)]
 fn writer_of<T: Drop, A: Allocator + Copy, H: Mark>(
     part: WriterPart<T, Kept<T, A>, Lodged, MAX_OWNERS, H>,
@@ -91,9 +93,8 @@ impl<T: Drop, A: Allocator + Copy, H: Mark> SharedNative<T, A, H> {
     ghost use Rattle.std.specs.Borrow.{sem};
     ghost use Rattle.arc_sort_writers.specs.Lends.{lends_writer_items};
 
-    /// The only owner of a native block, with its memory, as one of several writers from now on: of
-    /// the same items, and the first `capacity` of the memory's places. It adds no entry and takes
-    /// no memory.
+    /// The only owner of a native block, with its memory, as one of several writers of the same
+    /// items and of the first `capacity` of its places. It adds no entry and takes no memory.
     pub fn of_sole(
         count: NativeCount<MAX_OWNERS, H>,
         memory: WriterMemory<T, A>,
@@ -117,8 +118,12 @@ impl<T: Drop, A: Allocator + Copy, H: Mark> SharedNative<T, A, H> {
         SharedNative { writer, head }
     }
 
-    /// The only owner of the same block, with its memory, where no other owner lives: his places
-    /// begin where the writer's did. Else the writer is handed back. Takes no memory.
+    /// The only owner of the same block, with its memory, where no other owner lives. Its places
+    /// begin where the writer's do. It takes no memory.
+    ///
+    /// # Errors
+    ///
+    /// The writer comes back where another owner lives.
     ///
     /// # History
     ///
@@ -155,6 +160,39 @@ impl<T: Drop, A: Allocator + Copy, H: Mark> SharedNative<T, A, H> {
         }
     }
 
+    /// Ends this writer by one subtraction from the count. The last owner gets the block's memory:
+    /// its places begin where the writer's do. It takes no memory.
+    ///
+    /// # History
+    ///
+    /// Down.
+    #[tactic(auto, using(crate::proofs::Takes::laid_room))]
+    pub fn into_memory_if_last_as(self, pass: &mut Pass<H>) -> Option<WriterMemory<T, A>>
+        requires pass { IsPassFor self.owner pass.old }
+        ensures entry { Leaves self.owner pass.old pass.new (is_some result) }
+        ensures memory { IfSome result (λ memory. (memory.places.vec.items ≡ self.items)
+            × (memory.places.under.start ≡ self.start)
+            × (memory.places.under.whole ≡ self.size)) }
+        ensures block { IfSome result (λ memory. IsPiece memory.source) }
+    {
+        let SharedNative { writer, head } = self;
+        let (base, start) = (writer.places.base(), writer.places.start());
+        let len = writer.places.len();
+        let WriterPart { owner, part } = writer.into_part();
+        match owner.release_with_room_as(pass) {
+            Some((kept, room, ended)) => {
+                let Kept::Places(kept) = kept else {
+                    unreachable!()
+                };
+                Some(unsafe { kept.regain_writer(ended, part, room, head, base, start, len) })
+            }
+            None => {
+                part.forget();
+                None
+            }
+        }
+    }
+
     /// How many items there are.
     #[inline(always)]
     pub fn len(&self) -> usize
@@ -171,7 +209,7 @@ impl<T: Drop, A: Allocator + Copy, H: Mark> SharedNative<T, A, H> {
         self.writer.as_slice()
     }
 
-    /// The items, to be changed in their places: what is written there they are afterwards.
+    /// The items, to be changed in their places: they are what is written there.
     #[inline(always)]
     pub fn as_mut_slice(&mut self) -> &mut [T]
         ensures* writes_back { sem 𝓛 (lends_writer_items T.row A.row H.row H.Mark A.Allocator
@@ -200,7 +238,7 @@ impl<T: Drop, A: Allocator + Copy, H: Mark> SharedNative<T, A, H> {
         self.writer.places.start()
     }
 
-    /// An item more, behind the others, where there is a place for it.
+    /// Appends an item. There is a place for it.
     #[inline(always)]
     pub fn push_reserved(&mut self, item: T)
         requires { length self.old.items < self.old.capacity }
@@ -209,7 +247,7 @@ impl<T: Drop, A: Allocator + Copy, H: Mark> SharedNative<T, A, H> {
         self.writer.push_reserved(item);
     }
 
-    /// Leaves the first `len` items, and all places.
+    /// Keeps the first `len` items, and all places.
     #[inline(always)]
     pub fn truncate(&mut self, len: usize)
         ensures { self.new ≡ with_writer_items self.old (take len self.old.items) }
@@ -226,18 +264,19 @@ impl<T: Drop, A: Allocator + Copy, H: Mark> SharedNative<T, A, H> {
         self.writer.advance(at);
     }
 
-    /// This writer of the first `at` places, and another one of those behind them: one owner more
-    /// of the same block. Takes no memory.
+    /// Splits the places at `at`: two writers, of the first `at` places and of those behind them.
+    /// One is this writer, of the front where `FRONT_STAYS`, else of the back. The other is one
+    /// owner more of the same block. It takes no memory.
     ///
     /// # Errors
     ///
-    /// `CountFull` exactly where `MAX_OWNERS` owners live; the writer is handed back.
+    /// `CountFull` exactly where `MAX_OWNERS` owners live; the writer comes back.
     ///
     /// # History
     ///
-    /// Up, or Full where refused.
+    /// Up, or Full where it is refused.
     #[tactic(auto, using(crate::proofs::Takes::laid_alike))]
-    pub fn try_split_off_as(
+    pub fn try_split_as<const FRONT_STAYS: bool>(
         self,
         rt: &impl Wait,
         at: usize,
@@ -245,15 +284,17 @@ impl<T: Drop, A: Allocator + Copy, H: Mark> SharedNative<T, A, H> {
     ) -> Result<(Self, Self), (Self, CountFull)>
         requires pass { IsPassFor self.owner pass.old }
         requires at { at ≤ self.capacity }
-        ensures front { IfOk result (λ r. r.0 ≡ front_writer at self) }
+        ensures front { IfOk result (λ r.
+            r.0 ≡ record (front_writer at self) { owner = r.0.owner }) }
         ensures back { IfOk result (λ r.
-            (r.1 ≡ record (back_writer at self) { owner = r.1.owner })
-            × MakesAnother self.owner pass.old pass.new r.1.owner) }
+            r.1 ≡ record (back_writer at self) { owner = r.1.owner }) }
+        ensures owners { IfOk result (λ r. SplitsOwner FRONT_STAYS self.owner
+            pass.old pass.new r.0.owner r.1.owner) }
         ensures full { IfErr result (λ r. (r.0 ≡ self)
             × FindsFull self.owner pass.old pass.new) }
     {
         let SharedNative { writer, head } = self;
-        match writer.try_split_off_as(rt, at, pass) {
+        match writer.try_split_as::<FRONT_STAYS>(rt, at, pass) {
             Ok((front, back)) => {
                 let other = head.again();
                 Ok((
@@ -271,49 +312,8 @@ impl<T: Drop, A: Allocator + Copy, H: Mark> SharedNative<T, A, H> {
         }
     }
 
-    /// This writer of the places behind the first `at`, and another one of these: one owner more of
-    /// the same block. Takes no memory.
-    ///
-    /// # Errors
-    ///
-    /// `CountFull` exactly where `MAX_OWNERS` owners live; the writer is handed back.
-    ///
-    /// # History
-    ///
-    /// Up, or Full where refused.
-    #[tactic(auto, using(crate::proofs::Takes::laid_alike))]
-    pub fn try_split_to_as(
-        self,
-        rt: &impl Wait,
-        at: usize,
-        pass: &mut Pass<H>,
-    ) -> Result<(Self, Self), (Self, CountFull)>
-        requires pass { IsPassFor self.owner pass.old }
-        requires at { at ≤ self.capacity }
-        ensures back { IfOk result (λ r. r.0 ≡ back_writer at self) }
-        ensures front { IfOk result (λ r.
-            (r.1 ≡ record (front_writer at self) { owner = r.1.owner })
-            × MakesAnother self.owner pass.old pass.new r.1.owner) }
-        ensures full { IfErr result (λ r. (r.0 ≡ self)
-            × FindsFull self.owner pass.old pass.new) }
-    {
-        let SharedNative { writer, head } = self;
-        match writer.try_split_to_as(rt, at, pass) {
-            Ok((back, front)) => {
-                let other = head.again();
-                Ok((
-                    SharedNative { writer: back, head },
-                    SharedNative {
-                        writer: front,
-                        head: other,
-                    },
-                ))
-            }
-            Err((writer, e)) => Err((SharedNative { writer, head }, e)),
-        }
-    }
-
-    /// Whether the other's places begin where these end, and these are full: of one block.
+    /// Whether the other writer's places begin where these end, and each of these has an item. Both
+    /// are of one block.
     pub fn can_join(&self, other: &Self) -> bool
         ensures { result ≡ ((length self.now.items == self.now.capacity)
             && (self.now.start + self.now.capacity == other.now.start)) }
@@ -321,23 +321,24 @@ impl<T: Drop, A: Allocator + Copy, H: Mark> SharedNative<T, A, H> {
         self.len() == self.capacity() && self.start() + self.capacity() == other.start()
     }
 
-    /// Who has a block to himself is of another one than this writer. Does nothing: its contract is
-    /// the law.
+    /// An owner that has a block to itself is of another one than this writer. Does nothing: its
+    /// contract is the law.
     pub fn apart_from<V: Drop>(&self, sole: &SoleBox<V, A, MAX_OWNERS, H>)
         ensures { ¬ (self.now.owner.block ≡ (sole_in sole.now).block) }
     {
         sole.apart_from_rest(&self.writer.rest.rest);
     }
 
-    /// The same of who has a native block to himself. Does nothing: its contract is the law.
+    /// The same of an owner that has a native block to itself. Does nothing: its contract is the
+    /// law.
     pub fn apart_from_count(&self, sole: &NativeCount<MAX_OWNERS, H>)
         ensures { ¬ (self.now.owner.block ≡ (count_owner sole.now).block) }
     {
         sole.apart_from_rest(&self.writer.rest.rest);
     }
 
-    /// The places of both as this writer's: the other's begin where these end, and both are owners
-    /// of one block. These are full. The other owner ends. Takes no memory.
+    /// The places of both as this writer's. The other's begin where these end, both are owners of
+    /// one block, and each of these places has an item. The other owner ends. It takes no memory.
     ///
     /// # History
     ///
@@ -362,8 +363,8 @@ impl<T: Drop, A: Allocator + Copy, H: Mark> SharedNative<T, A, H> {
         }
     }
 
-    /// A reader of the items, which nobody changes again, while other owners write their own
-    /// places. Those behind the items are given up. It adds no entry and takes no memory.
+    /// A reader of the items. Other owners may still write their own places. The places behind the
+    /// items are given up. It adds no entry and takes no memory.
     #[tactic(auto, using(crate::proofs::Takes::kept_frozen))]
     pub fn freeze<S: Slice<Item = T>>(self) -> NativeBlock<S, A, MAX_OWNERS, H>
         requires { S.DROPS ≡ false }
@@ -374,7 +375,7 @@ impl<T: Drop, A: Allocator + Copy, H: Mark> SharedNative<T, A, H> {
         NativeBlock::of_reader(Base { at }, writer.freeze(), head)
     }
 
-    /// Ends this writer; the last owner gives the block back. Takes no memory.
+    /// Ends this writer; the last owner gives the block back. It takes no memory.
     ///
     /// # History
     ///
@@ -390,8 +391,8 @@ impl<T: Drop, A: Allocator + Copy, H: Mark> SharedNative<T, A, H> {
         }
     }
 
-    /// Ends this writer: it reads the count first, and where no other owner lives gives the block
-    /// back without a further step.
+    /// Ends this writer. It reads the count first: where no other owner lives it gives the block
+    /// back without another step.
     ///
     /// # History
     ///
@@ -417,9 +418,9 @@ impl<T: Drop, A: Allocator + Copy, H: Mark> SharedNative<T, A, H> {
         }
     }
 
-    /// What a drop does: under `Open` this owner ends with a new pass, and the last one gives the
-    /// block back; under `Whole` it is forgotten, without a step. Takes no memory. The pass is the
-    /// one that the owner ended with; under `Whole` it is of no block.
+    /// What a drop does. Under `Open` this owner ends with a new pass, which is the answer, and the
+    /// last one gives the block back. Under `Whole` it is a forgotten owner: no step is made, and
+    /// the answer is a pass of no block. It takes no memory.
     #[tactic(auto, using(crate::proofs::Takes::kept_until, crate::proofs::Takes::laid_room))]
     pub fn let_go(self) -> Pass<H>
         ensures forgotten { H.whole ≡ true → IsPassOfNone result }
@@ -433,7 +434,7 @@ impl<T: Drop, A: Allocator + Copy, H: Mark> SharedNative<T, A, H> {
         pass
     }
 
-    /// Afterwards the first pass has seen at least what the other had. It adds nothing.
+    /// From here on the first pass has seen at least what the other had. It adds no entry.
     pub fn learn(&self, pass: &mut Pass<H>, other: &Pass<H>)
         requires pass { IsPassFor self.now.owner pass.old }
         requires other { IsPassFor self.now.owner other.now }
@@ -444,8 +445,8 @@ impl<T: Drop, A: Allocator + Copy, H: Mark> SharedNative<T, A, H> {
 }
 
 impl<T: Copy + Drop, A: Allocator + Copy, H: Mark> SharedNative<T, A, H> {
-    /// A writer with a copy of the items, on a new native block with so many places, all of them
-    /// his, and a pass of the block.
+    /// A writer with a copy of the items, on a new native block of `capacity` places, all of them
+    /// the writer's, and a pass of the block.
     ///
     /// # Errors
     ///
@@ -466,7 +467,7 @@ impl<T: Copy + Drop, A: Allocator + Copy, H: Mark> SharedNative<T, A, H> {
         Ok((Self::of_sole(count, memory, capacity), pass))
     }
 
-    /// A copy of these items, behind the others, where there are places for them.
+    /// Appends a copy of these items. There are places for them.
     #[inline(always)]
     pub fn extend_reserved(&mut self, items: &[T])
         requires { length self.old.items + length items.now ≤ self.old.capacity }
@@ -477,8 +478,8 @@ impl<T: Copy + Drop, A: Allocator + Copy, H: Mark> SharedNative<T, A, H> {
 }
 
 impl<T: Drop, A: Allocator + Copy, H: Stepping> SharedNative<T, A, H> {
-    /// A new pass of the block, which has seen at least how this owner became one, and made
-    /// nothing. It adds nothing.
+    /// A new pass of the block. It has seen at least how this owner became one, and nothing was
+    /// made with it. It adds no entry.
     pub fn pass(&self) -> Pass<H>
         ensures { IsNewPass self.now.owner result }
     {

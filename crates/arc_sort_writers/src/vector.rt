@@ -27,10 +27,10 @@ use arc_parts::room::{Room, room_in};
 use std::alloc::{Allocator, Global};
 use std::marker::Model;
 
-/// A row of the table of lists that its only owner writes, on a block that is a vector, which he
-/// has: the items, where they stand, and how many places they have.
+/// A row of the table of lists that its only owner writes, on a block that is a vector, which the
+/// owner has: the items, where they stand, and how many places they have.
 ///
-/// Dropped, they end as a window does.
+/// Parts that are dropped end as a window does.
 pub struct SoleVector<
     S: Slice,
     B: Buffer<<S as Slice>::Item> + Drop = Vec<<S as Slice>::Item>,
@@ -45,8 +45,8 @@ pub struct SoleVector<
     alloc: A,
 }
 
-/// What they are of: the count, the vector, from where to before where of it the items are, and the
-/// allocator.
+/// The fields: the count, the vector, the numbers in it from which and before which the items lie,
+/// and the allocator.
 type VectorFields<T, B, M, A, H> = (
     SoleCount<T, B, M, A, MAX_OWNERS, H>,
     Vec<T, A>,
@@ -93,7 +93,7 @@ impl<S: Slice, B: Buffer<S::Item> + Drop, M: Drop, A: Allocator + Copy, H: Mark>
     A,
     H,
 > {
-    /// They stand on no caller's buffer.
+    /// They stand on no caller's buffer: the answer is `false`.
     pub fn is_on_buffer(&self) -> bool
         ensures { IsTrue result ↔ IsOfBuffer self.now.place }
     {
@@ -101,7 +101,7 @@ impl<S: Slice, B: Buffer<S::Item> + Drop, M: Drop, A: Allocator + Copy, H: Mark>
         false
     }
 
-    /// They stand on a vector.
+    /// They stand on a vector: the answer is `true`.
     pub fn is_on_vector(&self) -> bool
         ensures { result ≡ is_vector_at self.now.place }
     {
@@ -109,7 +109,8 @@ impl<S: Slice, B: Buffer<S::Item> + Drop, M: Drop, A: Allocator + Copy, H: Mark>
         true
     }
 
-    /// They stand on a block that counts its owners and may be written.
+    /// They stand on a block that counts its owners and may be written. Does nothing: its contract
+    /// is the law.
     pub fn known_place(&self)
         ensures { IsWriterPlace self.now.place }
     {
@@ -132,7 +133,7 @@ impl<S: Slice, B: Buffer<S::Item> + Drop, M: Drop, A: Allocator + Copy, H: Mark>
         &self.items.as_slice()[self.start..self.end]
     }
 
-    /// How many places there are for items, from the first of them on.
+    /// How many places there are, from the first item on.
     #[inline(always)]
     pub fn capacity(&self) -> usize
         ensures capacity { result ≡ capacity_of self.now.role }
@@ -154,7 +155,7 @@ impl<S: Slice, B: Buffer<S::Item> + Drop, M: Drop, A: Allocator + Copy, H: Mark>
         self.items.capacity() - self.items.len()
     }
 
-    /// Where there is room for so many items more.
+    /// Where there is room for `additional` items more.
     pub fn room(&self, additional: usize) -> Room
         ensures room { result ≡ room_for S.DROPS (type_size S.Item.row) self.now additional }
         ensures fresh { IfFresh result (λ places. ⊥) }
@@ -238,27 +239,28 @@ impl<S: Slice, B: Buffer<S::Item> + Drop, M: Drop, A: Allocator + Copy, H: Mark>
         }
     }
 
-    /// Makes room for so many items more.
+    /// Makes room for `additional` items more behind those that there are.
     ///
     /// # Errors
     ///
-    /// Where the window hasn't the places already, in this order:
+    /// Where there are too few places, in this order:
     ///
     /// - `Unsupported` where items that are dropped one by one end before the block's full places.
-    /// - `CapacityOverflow` where a block would have to grow to more than 2^63 - 1 places or bytes.
+    /// - `CapacityOverflow` where the block would have to grow to more than 2^63 - 1 places or
+    ///   bytes.
     /// - `AllocError` where memory is refused for a larger block.
     ///
-    /// Everything is then as before.
+    /// Nothing is changed then.
     ///
     /// # Allocates
     ///
-    /// Once where the block grows: where the places behind the items aren't enough, unless items
-    /// that aren't dropped one by one are no more than the places in front of them, and the whole
-    /// block is large enough.
+    /// Once where the block grows. It grows where the places behind the items aren't enough, unless
+    /// the items can be moved to its front: they aren't dropped one by one, they are no more than
+    /// the places in front of them, and the whole block is large enough.
     ///
     /// # History
     ///
-    /// Nothing is added.
+    /// None.
     #[inline(always)]
     pub fn try_reserve_as(
         &mut self,
@@ -280,7 +282,8 @@ impl<S: Slice, B: Buffer<S::Item> + Drop, M: Drop, A: Allocator + Copy, H: Mark>
         self.try_make_room(additional, pass)
     }
 
-    /// `try_reserve_as` where there may be no room yet, apart so that the test is inlined alone.
+    /// `try_reserve_as` where there may be no room yet, which stands apart, so that only the test
+    /// before it is inlined.
     #[cold]
     #[inline(never)]
     fn try_make_room(
@@ -300,7 +303,8 @@ impl<S: Slice, B: Buffer<S::Item> + Drop, M: Drop, A: Allocator + Copy, H: Mark>
         let _ = pass;
         match self.room(additional) {
             Room::Spare => Ok(()),
-            // A sole writer's places go up to the end of the block, which is no caller's buffer.
+            // These arms aren't reached: a sole writer's places go up to the end of the block,
+            // which is no caller's buffer.
             Room::Fresh(_) | Room::Behind | Room::Own(_) => unreachable!(),
             Room::Refused(e) => Err(e),
             Room::Front => {
@@ -314,7 +318,7 @@ impl<S: Slice, B: Buffer<S::Item> + Drop, M: Drop, A: Allocator + Copy, H: Mark>
         }
     }
 
-    /// Makes the block one of so many places.
+    /// Grows the block to `places` places.
     fn try_grow(&mut self, places: usize) -> Result<(), AllocError>
         requires { CanGrow self.old places }
         ensures grown { OnOk result (self.new ≡ with_room (Growth places) self.old) }

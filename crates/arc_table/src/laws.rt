@@ -12,10 +12,11 @@ ghost use Rattle.arc_commands.specs.Changes.{Setting};
 ghost use Rattle.arc_commands.specs.Step.{Run, Step};
 ghost use Rattle.arc_commands.specs.Commands.{ListCmd, ListReply};
 
-/// The rows that stand on one block agree about it, in every table that comes of the empty one: no
-/// row of that stands on a block, each step keeps the agreement, and so does each run, also one of
-/// commands that a `Table` carries out. Does nothing: its contract is the law, for items and
-/// metadata of any type.
+/// Rows on one block agree about it, in every table that comes of the empty one. In that no row
+/// stands on a block, and each step keeps the agreement. So does each run, also a run of commands
+/// that a `Table` carries out.
+///
+/// Does nothing: its contract is the law, for items and metadata of any type.
 pub fn rows_agree<T, M>()
     ensures empty { RowsAgree {T = T} {M = M} empty_table }
     ensures step { (setting : Setting T) (old : Table T M) (command : ListCmd T M)
@@ -34,9 +35,11 @@ pub fn rows_agree<T, M>()
 
 /// A row's items lie within its block, and a writer has a place there for each of them. A sole
 /// writer of items that are dropped one by one has the places from its first item to the end of the
-/// block, or its items' alone where others lie behind them. So it is in every table that comes of
-/// the empty one: where the rows of one block agree about it, each step keeps it, and so does each
-/// run. Does nothing: its contract is the law, for items and metadata of any type.
+/// block, or its items' alone where others lie behind them.
+///
+/// So it is in every table that comes of the empty one. Where the rows of one block agree about it,
+/// each step keeps it, and so does each run. Does nothing: its contract is the law, for items and
+/// metadata of any type.
 pub fn rows_fit<T, M>()
     ensures empty { (drops : Bool) → RowsFit {T = T} {M = M} drops empty_table }
     ensures step { (setting : Setting T) (old : Table T M) (command : ListCmd T M)
@@ -54,11 +57,12 @@ pub fn rows_fit<T, M>()
         → RowsFit setting.drops new.table }
 {}
 
-/// Writers are apart: of two rows on one block, of which one is a writer's, no place is both's;
-/// each row ends within its block; and where a sole writer stands no other row does. So it is in
-/// every table that comes of the empty one, beside that rows on one block agree and that each fits
-/// its place: each step keeps it, and so does each run. Does nothing: its contract is the law, for
-/// items and metadata of any type.
+/// Of two rows on one block, of which one is a writer's, no place belongs to both. Each row ends
+/// within its block. Where a sole writer stands, no other row does.
+///
+/// So it is in every table that comes of the empty one. Where rows on one block agree about it, and
+/// each fits its place, each step keeps it, and so does each run. Does nothing: its contract is the
+/// law, for items and metadata of any type.
 pub fn writers_apart<T, M>()
     ensures empty { (drops : Bool) → IsLawful {T = T} {M = M} drops empty_table }
     ensures step { (setting : Setting T) (old : Table T M) (command : ListCmd T M)
@@ -75,10 +79,11 @@ pub fn writers_apart<T, M>()
         → IsLawful setting.drops old.table → IsLawful setting.drops new.table }
 {}
 
-/// The two parts at which the places of one writer of several are split share none and together are
-/// all of them, also past his items; and two writers' places that are joined are those of both, of
-/// which none was both's. Does nothing: its contract is the law, for items and metadata of any
-/// type.
+/// The two parts into which one of several writers is split share no place, and together have all
+/// of the places, also behind the items. Two writers' places that are joined are those of both, and
+/// none of them belonged to both.
+///
+/// Does nothing: its contract is the law, for items and metadata of any type.
 pub fn parts_apart<T, M>()
     ensures split { (row : Row T M) (at : ℕ) → is_several row.role ≡ true
         → at ≤ capacity_of row.role → IsParted row (front_of at row) (after_advance at row) }

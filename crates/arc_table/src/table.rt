@@ -20,11 +20,11 @@ use std::mem;
 use std::sync::Wait;
 
 /// The windows of a table under their numbers, `None` where one has gone, and the passes of the
-/// blocks on which they have stood.
+/// blocks on which windows of the table have stood.
 ///
-/// At every moment the live owners of each block's history are the windows that stand on it, so
-/// being alone is what the table says. It can't be dropped: it ends by `end`, which releases every
-/// window that is left.
+/// At every moment the live owners in each block's history are the windows that stand on it, so the
+/// table tells whether a window is alone. A table can't be dropped: it ends by `end`, which
+/// releases every window that is left.
 pub struct Table<
     S: TableKind,
     L: Layout = DefaultLayout,
@@ -94,7 +94,7 @@ where
     ghost use Rattle.arc_commands.specs.State.{Agrees, CarriesOut, EndsAll, EndsWith, empty_state};
     ghost use Rattle.arc_commands.specs.declared.command.Cmd.TheVariants as command;
 
-    /// No window yet. Takes no memory.
+    /// A table without windows. It takes no memory.
     pub fn new(alloc: A) -> Self
         ensures { result ≡ empty_state }
     {
@@ -116,18 +116,24 @@ where
     ///
     /// # Errors
     ///
-    /// A refusal is a reply. It changes nothing, and what the command brought is let go. In this
-    /// order: `NoWindow` where the number is no window's; `Kind` where the command isn't for the
-    /// window's role, or the kind or the layout lacks what it asks for; `Range` where the range
-    /// isn't one of the window; `Alloc`, `Reserve`, `Owner` and `Refused` as the call below is
-    /// refused, or memory for it.
+    /// A refusal is a reply. It changes nothing, and what the command brought is dropped. In this
+    /// order:
+    ///
+    /// - `NoWindow` where no window has the number.
+    /// - `Kind` where the command isn't for the window's role, or where the kind or the layout
+    ///   lacks what it asks for.
+    /// - `Range` where the range isn't one of the window.
+    /// - `Alloc`, `Reserve`, `Owner` and `Refused` where the window's call is refused, or memory
+    ///   for it.
     ///
     /// # Allocates
     ///
-    /// For a window more, what it is made of and what is shown (refused: `Alloc`), for the block of
-    /// a window that is there (`Reserve`, and `Refused` of a `Freeze`), for the block to which one
-    /// of several writers moves from a vector as it is split, and for an owner more where the
-    /// layout wants it (`Owner`).
+    /// - For a new window: for its number, for what it is made of, and for items that are shown.
+    ///   Refused, the reply is `Alloc`.
+    /// - For the block of a window that is there. Refused, the reply is `Reserve`, and of a
+    ///   `Freeze` `Refused`.
+    /// - For the block to which one of several writers moves from a vector when it is split.
+    ///   Refused, the reply is `Owner`.
     ///
     /// # History
     ///
@@ -143,8 +149,9 @@ where
         reply
     }
 
-    /// Carries out one command as `step` does, with its errors, memory and history, compiled where
-    /// it is called. For callers who know that it is a `Cmd::Drop`, a `Cmd::Clone` or a `Cmd::Sub`.
+    /// Carries out one command as `step` does, with the same errors, memory and history, and is
+    /// inlined where it is called. It is for callers that know that the command is a `Cmd::Drop`, a
+    /// `Cmd::Clone` or a `Cmd::Sub`.
     #[inline(always)]
     pub fn step_here(
         &mut self,
@@ -160,8 +167,8 @@ where
         reply
     }
 
-    /// The reply to one command, compiled where it is asked for: where it is known there which
-    /// command that is, nothing is left of the others.
+    /// The reply to one command, inlined where it is called. A caller that knows which command it
+    /// is keeps the code of that one alone.
     #[inline(always)]
     fn answer_here(
         &mut self,
@@ -185,8 +192,8 @@ where
         }
     }
 
-    /// The reply to one command. For those that leave every window where it is the call below is
-    /// compiled by itself, so that nothing is cleared for a window that may be made.
+    /// The reply to one command. Each command that leaves every window where it is has a call of
+    /// its own, which is compiled by itself: so nothing is cleared for a window that might be made.
     #[inline(never)]
     fn answer(&mut self, rt: &impl Wait, command: TableCmd<S, B, M, A>) -> TableReply<S, B, M, A>
         ensures rows { Step ⟦<S as TableUnder<L, A>>⟧.setting self.old.table
@@ -213,8 +220,8 @@ where
         }
     }
 
-    /// The reply to one command: on the window under its number; or the window is made of what it
-    /// brings.
+    /// The reply to one command: on the window with its number, or of a command that makes a window
+    /// of what it brings.
     #[inline(always)]
     fn answer_any(
         &mut self,
@@ -241,8 +248,8 @@ where
         reply
     }
 
-    /// Carries out a command on the window under this number. Room for a window that it makes is
-    /// reserved before it is asked, and used where the tests before that are passed.
+    /// Carries out a command on the window with this number. Room for a window that the command
+    /// makes is reserved first. It is used where the tests before are passed.
     #[inline(always)]
     fn on_window(
         &mut self,
@@ -279,8 +286,8 @@ where
         }
     }
 
-    /// Carries out a `Cmd::Join` of the windows under these numbers, which are two: joined, the
-    /// second one is gone.
+    /// Carries out a `Cmd::Join` of the windows with these two numbers. Joined, the second window
+    /// is gone.
     fn join(&mut self, i: usize, j: usize) -> TableReply<S, B, M, A>
         ensures rows { Step ⟦<S as TableUnder<L, A>>⟧.setting self.old.table (command.Join i j)
             (seen_reply S.items_in S.items_in_box B.list result) self.new.table }
@@ -305,9 +312,9 @@ where
         reply
     }
 
-    /// Each window stands on the block of its row. Rows on one block agree about it, each lies
-    /// within its block, and no place of a block is a writer's and another row's. Does nothing: its
-    /// contract is the law.
+    /// Each window stands on the block of its row. Rows on one block agree about it, and each lies
+    /// within its block. No place of a block belongs to a writer and to another row. Does nothing:
+    /// its contract is the law.
     pub fn agree(&self)
         ensures stands { Agrees self.now }
         ensures rows { IsLawful S.DROPS self.now.table }
@@ -315,13 +322,13 @@ where
         let _ = &self.slots;
     }
 
-    /// Ends the table: every window that is left is released, in the order of their numbers, so
-    /// that each block is given back. Answers the passes of the blocks, none of which has a live
+    /// Ends the table. Every window that is left is released, in the order of their numbers, so
+    /// that each block is given back. It answers the passes of the blocks, of which none has a live
     /// owner.
     ///
     /// # History
     ///
-    /// One Down for each window that is left and an owner of a block.
+    /// One Down for each window that is left and is an owner of a block.
     pub fn end(mut self) -> Passes<A>
         ensures ended { IsKept MAX_OWNERS [] result.of_blocks.items }
         ensures blocks { length result.of_blocks.items ≡ self.table.blocks }
@@ -354,7 +361,7 @@ where
         }
     }
 
-    /// Carries out a `Cmd::Show`, and answers with the items where they stand in the window. Takes
+    /// Carries out a `Cmd::Show`. The reply lends the items where they are in the window. It takes
     /// no memory.
     #[inline(always)]
     pub fn show_in_place(&self, i: usize) -> LentReply<'_, S, B, M, A>
@@ -377,7 +384,7 @@ where
         }
     }
 
-    /// The end of a window, if one has this number.
+    /// Ends the window with this number, if there is one.
     #[inline(always)]
     fn release(&mut self, i: usize) -> TableReply<S, B, M, A>
         ensures rows { Step ⟦<S as TableUnder<L, A>>⟧.setting self.old.table (command.Drop i)
@@ -393,7 +400,7 @@ where
         };
         let window = &mut self.slots.places[place];
         let passes = &mut self.passes;
-        // The window is there, so the reply is `Ok`: it is asked for as one without values, so that
+        // The window is there, so the reply is `Ok`. It is taken as one without values, so that
         // nothing of it is left to be dropped.
         let _: Reply<Gives<(), (), (), (), (), (), ()>> = drop_at(window, passes);
         self.slots.settle(true, place);

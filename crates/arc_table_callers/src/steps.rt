@@ -1,4 +1,4 @@
-//! A table of windows by number: commands one by one and as a list, and how it ends.
+//! A table of windows by number: commands one by one and as a list, and its end.
 use arc_slice::buffer::Plain;
 use arc_slice::error::AllocError;
 use arc_table::command::{Cmd, Reply};
@@ -13,10 +13,10 @@ pub type ByteTable = Table<Plain<u8>>;
 /// A command of such a table.
 pub type ByteCommand = TableCmd<Plain<u8>, Vec<u8>, (), Global>;
 
-/// The reply to one.
+/// The reply to such a command.
 pub type ByteReply = TableReply<Plain<u8>, Vec<u8>, (), Global>;
 
-/// The first five of these bytes, by way of a table that makes a window, cuts it and shows the cut.
+/// The first five of these bytes, by a table that makes a window, cuts it and shows the part.
 pub fn hello(rt: &impl Wait, alloc: Global, bytes: Vec<u8>) -> Option<Vec<u8>> {
     let mut table = ByteTable::new(alloc);
     let _ = table.step(rt, Cmd::Slice(bytes));
@@ -36,7 +36,7 @@ pub fn hello(rt: &impl Wait, alloc: Global, bytes: Vec<u8>) -> Option<Vec<u8>> {
     }
 }
 
-/// The replies to a list of commands, or the same commands where there is no memory for these.
+/// The replies to a list of commands, or the same commands where memory for the replies is refused.
 pub fn answered(
     rt: &impl Wait,
     table: &mut ByteTable,
@@ -45,7 +45,7 @@ pub fn answered(
     table.run(rt, commands)
 }
 
-/// Whether a window has no bytes, which are seen where they lie.
+/// Whether a window has no bytes, which are seen where they are.
 pub fn is_empty(table: &ByteTable, window: usize) -> bool {
     table.agree();
     match table.show_in_place(window) {

@@ -1,7 +1,7 @@
 -- What both parts of a split hold, of one of several writers, and that two who were joined have a
 -- legal list.
 use Rattle.std.proofs.Common.{◌≡◌, ℕ, Bool, true, false, List, ◌++◌, length, take, drop}
-use Rattle.std.proofs.Common.{Option, Some, None, refl, sym, ap, ◌∙◌, subst}
+use Rattle.std.proofs.Common.{Option, Some, None, not, refl, sym, ap, ◌∙◌, subst}
 use Rattle.std.proofs.Math.Logic.{∥∥₁_elim, ∥∥₁_map, ∥∥₁_prop}
 use Rattle.arc_owners.specs.count.Calls.{Owner}
 use Rattle.arc_owners.specs.count.Invariant.{BlockId, Line}
@@ -11,7 +11,7 @@ use Rattle.arc_block.specs.Block.{Sort, native, vector, buffer, raw}
 use Rattle.arc_block.specs.Layouts.{LayoutFacts}
 use Rattle.arc_block.specs.Place.{Place, nowhere, static_data, on_block}
 use Rattle.arc_parts.specs.Shared.{CanSplit, StandsToSplit, StandsToSplitAt}
-use Rattle.arc_parts.specs.Shared.{SplitsWriterOff, SplitsWriterTo, front_of, joined_row}
+use Rattle.arc_parts.specs.Shared.{SplitsWriterAt, joined_row, part_at}
 use Rattle.arc_parts.specs.Steps.{Shares}
 use Rattle.arc_parts.specs.Window.{PartsView, IsBlockHeld}
 use Rattle.arc_parts.specs.Writers.{after_advance, capacity_of}
@@ -57,36 +57,24 @@ module _ {T M : Type 0} (layout : LayoutFacts) where
   stands-held real one_pass w v before after (on_block owner offset info) stands held =
       stands-by-sort real one_pass w v before after info.sort stands held
 
-  advance-held : (at : ℕ) (w : PartsView T M) → HoldsRow w → HoldsRow (after_advance at w)
-  advance-held at w held = advanced_held layout at w (after_advance at w) refl held
+  part-held : (front : Bool) (at : ℕ) (w : PartsView T M) → HoldsRow w
+      → HoldsRow (part_at front at w)
+  part-held true at w held = held
+  part-held false at w held = advanced_held layout at w (after_advance at w) refl held
 
   -- both parts of a split
-  split-off-held : {H : Type 0} (real : BlockId → ℕ → List Line → Type 0) (one_pass : Bool)
-      (at : ℕ) (w front back : PartsView T M) (before after : Pass H)
-      → SplitsWriterOff H real false one_pass at w front back before after
+  split-held : {H : Type 0} (real : BlockId → ℕ → List Line → Type 0) (one_pass front_stays : Bool)
+      (at : ℕ) (w stays made : PartsView T M) (before after : Pass H)
+      → SplitsWriterAt H real front_stays false one_pass at w stays made before after
       → IsBlockHeld layout w.place
-      → IsBlockHeld layout front.place × IsBlockHeld layout back.place
-  split-off-held real one_pass at w front back before after split held =
+      → IsBlockHeld layout stays.place × IsBlockHeld layout made.place
+  split-held real one_pass front_stays at w stays made before after split held =
       let whole = stands-held real one_pass w split.whole before split.between w.place split.stands
       held in (
-        same split.stays whole,
-        shares-held layout (after_advance at split.whole).place back.place split.between after
-            split.shares
-            (advance-held at split.whole whole),
-      )
-
-  split-to-held : {H : Type 0} (real : BlockId → ℕ → List Line → Type 0) (one_pass : Bool)
-      (at : ℕ) (w front back : PartsView T M) (before after : Pass H)
-      → SplitsWriterTo H real false one_pass at w front back before after
-      → IsBlockHeld layout w.place
-      → IsBlockHeld layout front.place × IsBlockHeld layout back.place
-  split-to-held real one_pass at w front back before after split held =
-      let whole = stands-held real one_pass w split.whole before split.between w.place split.stands
-      held in (
-        shares-held layout (front_of at split.whole).place front.place split.between after
-            split.shares
-            whole,
-        same split.stays (advance-held at split.whole whole),
+        same split.stays (part-held front_stays at split.whole whole),
+        shares-held layout (part_at (not front_stays) at split.whole).place made.place split.between
+            after split.shares
+            (part-held (not front_stays) at split.whole whole),
       )
 
 module _ {T M H : Type 0} (real : BlockId → ℕ → List Line → Type 0) (one_pass : Bool) where
@@ -108,27 +96,25 @@ module _ {T M H : Type 0} (real : BlockId → ℕ → List Line → Type 0) (one
   module _ (legal : List T → Type 0) (boundary : List T → ℕ → Bool)
       (part : (xs : List T) (s e : ℕ) → legal xs → IsRange boundary xs s e → legal (sub xs s e))
       (ends : (xs : List T) → legal xs → IsEdge boundary xs 0 × IsEdge boundary xs (length xs))
-      (at capacity : ℕ) (w front back : PartsView T M) (before after : Pass H)
+      (at capacity : ℕ) (w stays made : PartsView T M) (before after : Pass H)
       (can : CanSplit boundary w.items capacity at) (l : ∥ legal w.items ∥₁) where
     parts : ∥ legal (take at w.items) ∥₁ × ∥ legal (drop at w.items) ∥₁
     parts = split_legal legal boundary part ends w.items at can.edge l
 
-    split-off-legal : SplitsWriterOff H real false one_pass at w front back before after
-        → ∥ legal front.items ∥₁ × ∥ legal back.items ∥₁
-    split-off-legal split =
-        let whole = stands-items w split.whole before split.between w.place split.stands in (
-          subst (λ xs. ∥ legal xs ∥₁)
-              (sym (ap (λ r. r.items) split.stays ∙ ap (take at) whole)) parts.0,
-          subst (λ xs. ∥ legal xs ∥₁) (sym (split.items ∙ ap (drop at) whole)) parts.1,
-        )
+    part-legal : (front : Bool) (v : PartsView T M) → v.items ≡ w.items
+        → ∥ legal (part_at front at v).items ∥₁
+    part-legal true v same = subst (λ xs. ∥ legal xs ∥₁) (sym (ap (take at) same)) parts.0
+    part-legal false v same = subst (λ xs. ∥ legal xs ∥₁) (sym (ap (drop at) same)) parts.1
 
-    split-to-legal : SplitsWriterTo H real false one_pass at w front back before after
-        → ∥ legal front.items ∥₁ × ∥ legal back.items ∥₁
-    split-to-legal split =
+    split-legal : (front_stays : Bool)
+        → SplitsWriterAt H real front_stays false one_pass at w stays made before after
+        → ∥ legal stays.items ∥₁ × ∥ legal made.items ∥₁
+    split-legal front_stays split =
         let whole = stands-items w split.whole before split.between w.place split.stands in (
-          subst (λ xs. ∥ legal xs ∥₁) (sym (split.items ∙ ap (take at) whole)) parts.0,
-          subst (λ xs. ∥ legal xs ∥₁)
-              (sym (ap (λ r. r.items) split.stays ∙ ap (drop at) whole)) parts.1,
+          subst (λ xs. ∥ legal xs ∥₁) (sym (ap (λ r. r.items) split.stays))
+              (part-legal front_stays split.whole whole),
+          subst (λ xs. ∥ legal xs ∥₁) (sym split.items)
+              (part-legal (not front_stays) split.whole whole),
         )
 
 module _ {T M : Type 0} (legal : List T → Type 0) where
@@ -146,24 +132,17 @@ module _ {T M H : Type 0} (layout : LayoutFacts)
     (boundary : List T → ℕ → Bool)
     (part : (xs : List T) (s e : ℕ) → legal xs → IsRange boundary xs s e → legal (sub xs s e))
     (ends : (xs : List T) → legal xs → IsEdge boundary xs 0 × IsEdge boundary xs (length xs))
-    (at : ℕ) (old seen front back : PartsView T M) (before after : Pass H) (is : seen ≡ old)
+    (at : ℕ) (old seen stays made : PartsView T M) (before after : Pass H) (is : seen ≡ old)
     (can : CanSplit boundary seen.items (capacity_of seen.role) at) where
   may : CanSplit boundary old.items (capacity_of old.role) at
   may = subst (λ (w : PartsView T M). CanSplit boundary w.items (capacity_of w.role) at) is can
 
-  pub off_holds : SplitsWriterOff H real false one_pass at old front back before after
+  pub split_holds : (front_stays : Bool)
+      → SplitsWriterAt H real front_stays false one_pass at old stays made before after
       → HoldsLegal layout legal old
-      → HoldsLegal layout legal front × HoldsLegal layout legal back
-  off_holds split held =
-      let places = split-off-held layout real one_pass at old front back before after split held.0
-      in
-      let lists = split-off-legal real one_pass legal boundary part ends at _ old front back before
-      after may held.1 split in ((places.0, lists.0), (places.1, lists.1))
-
-  pub to_holds : SplitsWriterTo H real false one_pass at old front back before after
-      → HoldsLegal layout legal old
-      → HoldsLegal layout legal front × HoldsLegal layout legal back
-  to_holds split held =
-      let places = split-to-held layout real one_pass at old front back before after split held.0 in
-      let lists = split-to-legal real one_pass legal boundary part ends at _ old front back before
-      after may held.1 split in ((places.0, lists.0), (places.1, lists.1))
+      → HoldsLegal layout legal stays × HoldsLegal layout legal made
+  split_holds front_stays split held =
+      let places = split-held layout real one_pass front_stays at old stays made before after split
+      held.0 in
+      let lists = split-legal real one_pass legal boundary part ends at _ old stays made before
+      after may held.1 front_stays split in ((places.0, lists.0), (places.1, lists.1))

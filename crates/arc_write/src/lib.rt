@@ -1,4 +1,4 @@
-//! Write windows: lists with a capacity, which write into their block's places.
+//! Write windows: lists with a capacity, which are changed in their block's places.
 #![tactic(auto)]
 
 mod adapters;

@@ -16,17 +16,18 @@ pub use into_mut::IntoMut;
 use std::alloc::{Allocator, Global};
 use std::marker::{Model, PhantomData};
 
-/// A list with a capacity, in places of its block that no other owner reaches; or it stands on
-/// nothing, with no items and no places.
+/// A window that is written: a list with a capacity, in places of its block that no other owner
+/// reaches. Or it stands on nothing, without items and places.
 ///
 /// `R` is the writer's role: the window is its block's only owner, or one of several writers. `B`
 /// is the type of callers' buffers and `M` that of their metadata.
 ///
-/// Each call that makes a block, makes room in it or leaves it has a form that ends in `_as` and
-/// takes a pass of the block, in which contracts read what was added to the block's history; a
-/// window that stands on no block has a pass of none. The plain form is that form with a new pass.
-/// What goes item by item (`try_extend`, `try_from_iter`) has the plain form alone.
-/// Dropped, a window under the mark `Open` ends with a new pass, and one under `Whole` is a
+/// Each call that makes a block, makes room in it or leaves it has a form that ends in `_as`. It
+/// takes a pass of the block, in which contracts read what is added to the block's history. The
+/// plain form is that form with a new pass. A window that stands on no block has a pass of none.
+/// `try_extend` and `try_from_iter`, which go item by item, have the plain form alone.
+///
+/// A window under the mark `Open` that is dropped ends with a new pass. One under `Whole` is a
 /// forgotten owner of its block.
 pub struct WriteWindow<
     S: Slice,
@@ -42,7 +43,7 @@ pub struct WriteWindow<
 }
 
 /// A write window by its writer's role. Where `UNIQUE` is 1 the window is its block's only owner,
-/// and where it is 0 one of several writers: there are no others.
+/// and where it is 0 one of several writers. No other number is a role.
 pub type ArcSliceMut<
     S,
     L,
@@ -75,11 +76,11 @@ pub type ArcStrMut<L = DefaultLayoutMut, B = Vec<u8>, M = (), A = Global, H = Op
     H,
 >;
 
-/// Bytes that one of several writers has.
+/// A window of one of several writers, over bytes.
 pub type ArcBytesShared<L = DefaultLayoutMut, B = Vec<u8>, M = (), A = Global, H = Open> =
     ArcSliceMut<Plain<u8>, L, 0, B, M, A, H>;
 
-/// A text that one of several writers has.
+/// A window of one of several writers, over text.
 pub type ArcStrShared<L = DefaultLayoutMut, B = Vec<u8>, M = (), A = Global, H = Open> =
     ArcSliceMut<Text, L, 0, B, M, A, H>;
 
@@ -130,8 +131,8 @@ impl<
     A: Allocator + Copy,
     H: Mark,
 > WriteWindow<S, L, R, B, M, A, H> {
-    /// The window of these parts, with a list that is legal, on nothing or on a block that the
-    /// layout holds. It adds nothing.
+    /// The window that is made of these parts: their list is legal for the kind, and they stand on
+    /// nothing, or on a block that the layout holds. It adds no entry.
     #[inline(always)]
     pub fn from_parts(parts: R::Parts) -> Self
         requires held { IsBlockHeld (layout_facts L.Layout) (R.Parts.seen parts).place }
@@ -144,7 +145,7 @@ impl<
         }
     }
 
-    /// What the window is made of. It adds nothing.
+    /// What the window is made of. It adds no entry.
     #[inline(always)]
     pub fn into_parts(self) -> R::Parts
         ensures parts { R.Parts.seen result ≡ self }
@@ -174,7 +175,7 @@ impl<
     A: Allocator + Copy,
     H: Mark,
 > ArcSliceMut<S, L, 1, B, M, A, H> {
-    /// A window with no items and no places, which stands on nothing.
+    /// A window without items and places, which stands on nothing.
     pub fn new(alloc: A) -> Self
     where
         S: Emptyable,

@@ -32,7 +32,7 @@ use arc_parts::parts::Parts;
 use std::alloc::Allocator;
 
 /// A writer's role: its block's only owner where `UNIQUE` is 1, and one of several writers where it
-/// is 0. There are no others.
+/// is 0. No other number is a role.
 pub struct Role<const UNIQUE: u8>;
 
 /// The parts of a window whose writer has this role.
@@ -43,7 +43,7 @@ pub trait RoleOf<
     A: Allocator + Copy,
     H: Mark,
 > {
-    /// They.
+    /// The parts.
     type Parts: WriterParts<S, B, M, A, H>;
 }
 
@@ -68,7 +68,7 @@ impl<S: Slice, B: BufferMut<S::Item> + Drop, M: Drop, A: Allocator + Copy, H: Ma
 }
 
 /// A row of the table of lists with its owner, who writes it: the items, where they stand, and how
-/// many places they have. No other owner reaches these.
+/// many places they have. No other owner reaches these places.
 pub trait WriterParts<
     S: Slice,
     B: BufferMut<<S as Slice>::Item> + Drop,
@@ -79,15 +79,15 @@ pub trait WriterParts<
     /// The row.
     ghost seen: { Self → PartsView S.Item M };
 
-    /// Whether its owner is one of several writers, and not the only owner of his block.
+    /// Whether its owner is one of several writers, and not the block's only owner.
     ghost several: { Bool };
 
     /// The same parts with other items in their places.
     ghost with_list: { Self → List S.Item → Self };
 
-    /// They stand on nothing, or on a block that counts its owners and may be written; those of one
-    /// of several writers on one that keeps its items in memory of ours. Does nothing: its contract
-    /// is the law.
+    /// They stand on nothing, or on a block that counts its owners and may be written. Those of one
+    /// of several writers stand on a block only where its items are in memory of the library's.
+    /// Does nothing: its contract is the law.
     fn known_place(&self)
         ensures place { StandsAsWriter several (seen self.now).place }
         ensures role { HasWritersRole several (seen self.now).role };
@@ -100,51 +100,51 @@ pub trait WriterParts<
     fn as_slice(&self) -> &[S::Item]
         ensures { result.now ≡ (seen self.now).items };
 
-    /// How many places there are for items, from the first of them on.
+    /// How many places there are, from the first item on.
     fn capacity(&self) -> usize
         ensures capacity { result ≡ capacity_of (seen self.now).role }
         ensures enough { length (seen self.now).items ≤ result };
 
-    /// The items, to be changed in their places: what is written there they are afterwards.
+    /// The items, to be changed in their places: afterwards they are what is written there.
     fn as_mut_slice(&mut self) -> &mut [S::Item]
         ensures* writes_back { sem 𝓛 (Lends Self.row (Array S.Item.row 0) self.entry result
             (with_list self.old)) }
         ensures value { result.now ≡ (seen self.old).items };
 
-    /// Takes so many items off the front; their places are none of the window's any more.
+    /// Takes the first `count` items off, with their places.
     fn advance(&mut self, count: usize)
         requires { count ≤ length (seen self.old).items }
         ensures { seen self.new ≡ after_advance count (seen self.old) };
 
-    /// Leaves the first so many items, if there are more.
+    /// Keeps the first `len` items, or all where there are no more.
     fn truncate(&mut self, len: usize)
         ensures { seen self.new ≡ after_truncate S.DROPS len (seen self.old) };
 
-    /// Makes room for so many items more.
+    /// Makes room for `additional` items more behind those that there are.
     ///
     /// # Errors
     ///
-    /// Where the window hasn't the places already, in this order:
+    /// Where there are too few places, in this order:
     ///
     /// - `NotUnique` of one of several writers, on a block where another owner lives.
     /// - `Unsupported` where items that are dropped one by one end before the block's full places.
-    /// - Over a caller's buffer its own refusal.
+    /// - What the caller's buffer refuses with, over one.
     /// - `CapacityOverflow` where a block would have to grow to more than 2^63 - 1 places or bytes.
     /// - `AllocError` where memory is refused for a larger block, or for a first one of any size.
     ///
-    /// Everything is then as before.
+    /// Nothing is changed then.
     ///
     /// # Allocates
     ///
-    /// Once for a first block, and once where the block grows: where the places behind the items
-    /// aren't enough, unless items that aren't dropped one by one are no more than the places in
-    /// front of them, and the whole block is large enough.
+    /// Once for a first block, and once where the block grows. It grows where the places behind the
+    /// items aren't enough, unless the items can be moved to its front: they aren't dropped one by
+    /// one, they are no more than the places in front of them, and the whole block is large enough.
     ///
     /// # History
     ///
-    /// Of a sole writer nothing is added; of one of several, on a block, where the window hasn't
-    /// the places already, Alone with the answer. Where a first block is made, the pass, which was
-    /// of none, becomes that block's.
+    /// Of a sole writer: nothing. Of one of several, on a block, where it has too few places: Alone
+    /// with the answer. Where a first block is made, the pass, which is of no block before, becomes
+    /// that block's.
     fn try_reserve_as(
         &mut self,
         additional: usize,
@@ -160,31 +160,34 @@ pub trait WriterParts<
             (λ k. AsksForRoom B.list B.places B.grows B.refuses (seen self.old) k
             (size_at (seen self.new).place) result) };
 
-    /// Whether there is room for so many items more without memory; then it is made.
+    /// Makes room for `additional` items more where that takes no memory, and answers whether there
+    /// is room.
     ///
     /// # History
     ///
-    /// Of a sole writer nothing is added; of one of several, on a block, where the window hasn't
-    /// the places already, Alone with the answer.
+    /// Of a sole writer: nothing. Of one of several, on a block, where it has too few places: Alone
+    /// with the answer.
     fn try_reclaim_as(&mut self, additional: usize, pass: &mut Pass<H>) -> bool
         requires pass { IsPassAt (seen self.old).place pass.old }
         ensures room { ReclaimsRoom several S.DROPS (type_size S.Item.row) additional
             (seen self.old) (seen self.new) pass.old pass.new result }
         ensures items { (seen self.new).items ≡ (seen self.old).items };
 
-    /// An item more, behind the others, once there is room for it.
+    /// Appends an item, once there is room.
     ///
     /// # Errors
     ///
-    /// Those of `try_reserve_as`, with the item.
+    /// Those of `try_reserve_as` for one item, with the item, which comes back. Nothing is changed
+    /// then.
     ///
     /// # Allocates
     ///
-    /// As `try_reserve_as`.
+    /// Where there are too few places: as `try_reserve_as` does for one item.
     ///
     /// # History
     ///
-    /// As `try_reserve_as`.
+    /// Of a sole writer: nothing. Of one of several, on a block, where it has too few places: Alone
+    /// with the answer. Where a first block is made, the pass becomes that block's.
     fn try_push_as(
         &mut self,
         item: S::Item,
@@ -206,13 +209,13 @@ pub trait WriterParts<
     ///
     /// # Errors
     ///
-    /// The parts, on another block or none, where items that are dropped one by one are a part
-    /// alone, and where another owner lives.
+    /// The parts come back where they stand on no vector, where items that are dropped one by one
+    /// are only a part of the vector, and where another owner lives.
     ///
     /// # History
     ///
-    /// Taken, of a sole writer Down without a step, and of one of several Alone and Down. Refused,
-    /// of one of several Alone with no, where only the count could decide, and else nothing.
+    /// Of a sole writer, taken: Down, without an atomic step. Of one of several, taken: Alone with
+    /// yes, then Down; refused: Alone with no, where only the count could decide. Else nothing.
     fn try_into_vec_as(self, pass: &mut Pass<H>) -> Result<Vec<S::Item, A>, Self>
         requires pass { IsPassAt (seen self).place pass.old }
         ensures taken { IfOk result (λ v. IsVecPart S.DROPS (seen self).items (seen self).place
@@ -223,17 +226,18 @@ pub trait WriterParts<
             (IsVecPart S.DROPS (seen self).items (seen self).place) (seen self).place
             pass.old pass.new) };
 
-    /// The items as the block's vector, where they are all of it, it has no places more, and no
-    /// other owner lives: so it is a box.
+    /// The items as the block's vector, where they fill all its places, as a box's do, and no other
+    /// owner lives.
     ///
     /// # Errors
     ///
-    /// The parts, on another block or none, where the items are a part of the vector's places
-    /// alone, and where another owner lives.
+    /// The parts come back where they stand on no vector, where the items don't fill all places of
+    /// the vector, and where another owner lives.
     ///
     /// # History
     ///
-    /// As `try_into_vec_as`.
+    /// Of a sole writer, taken: Down, without an atomic step. Of one of several, taken: Alone with
+    /// yes, then Down; refused: Alone with no, where only the count could decide. Else nothing.
     fn try_into_box_vec_as(self, pass: &mut Pass<H>) -> Result<Vec<S::Item, A>, Self>
         requires pass { IsPassAt (seen self).place pass.old }
         ensures taken { IfOk result (λ v. IsBoxWhole (seen self).items (seen self).place
@@ -244,23 +248,22 @@ pub trait WriterParts<
             (IsBoxWhole (seen self).items (seen self).place) (seen self).place
             pass.old pass.new) };
 
-    /// The same items and places, which others may read from now on. It adds nothing and takes no
-    /// memory.
+    /// The same items and places, as those of a reader. It adds no entry and takes no memory.
     fn freeze(self) -> Parts<S, B, M, A, H>
         ensures { result ≡ as_reader (seen self) };
 
-    /// The same items, which others may read from now on, as a window under the layout `L` is. On
-    /// nothing they are what no items are made of: a native block of no places, of which the pass
-    /// becomes one, where the layout has no static data.
+    /// The same items, as parts of a window under the layout `L` that is read. On nothing they
+    /// become those that no items make under that layout: on nothing, or on a new native block of
+    /// no places, of which the pass becomes one.
     ///
     /// # Errors
     ///
-    /// The parts, where the layout doesn't hold the block, or where memory for one of no places is
-    /// refused; the pass is then as before.
+    /// The parts come back where the layout doesn't hold the block, and where memory for a block of
+    /// no places is refused; the pass is then as before.
     ///
     /// # Allocates
     ///
-    /// On nothing, where the layout has no static data.
+    /// Once on nothing, where the layout has no static data.
     fn try_freeze_as<L: Layout>(self, pass: &mut Pass<H>) -> Result<Parts<S, B, M, A, H>, Self>
         requires pass { IsPassAt (seen self).place pass.old }
         ensures frozen { IfOk result (λ parts. Freezes (layout_facts L.Layout) S.DROPS H.whole
@@ -278,23 +281,24 @@ pub trait WriterParts<
             × (pass.new ≡ pass.old)) };
 
     /// The same parts, as those of a window under the layout `L`, where that holds their block. It
-    /// adds nothing and takes no memory.
+    /// adds no entry and takes no memory.
     ///
     /// # Errors
     ///
-    /// The parts, exactly where they stand on a block that the layout doesn't hold.
+    /// The parts come back exactly where they stand on a block that the layout doesn't hold.
     fn try_with_layout<L: Layout>(self) -> Result<Self, Self>
         ensures moved { IfOk result (λ parts. (parts ≡ self)
             × IsBlockHeld (layout_facts L.Layout) (seen self).place) }
         ensures refused { IfErr result (λ back. (back ≡ self)
             × (¬ IsBlockHeld (layout_facts L.Layout) (seen self).place)) };
 
-    /// The metadata of the block, where it was made with some.
+    /// The metadata that the block was made with, or `None`.
     fn metadata(&self) -> Option<&M>
         ensures some { IfSome result (λ m. metadata_at (seen self.now).place ≡ Some m.now) }
         ensures none { IfNone result (metadata_at (seen self.now).place ≡ None) };
 
-    /// The metadata of the caller's buffer on which the parts stand.
+    /// The metadata that lies in the caller's buffer on which the parts stand, or `None` where they
+    /// stand on none.
     fn borrowed_metadata(&self) -> Option<&B::Metadata>
     where
         B: BorrowMetadata,
@@ -306,53 +310,53 @@ pub trait WriterParts<
     ///
     /// # History
     ///
-    /// On a block Down; of a sole writer and of a vector without a step.
+    /// On a block: Down; of a sole writer, and on a vector, without an atomic step.
     fn release_as(self, pass: &mut Pass<H>)
         requires pass { IsPassAt (seen self).place pass.old }
         ensures entry { ReleasesAt several (seen self).place pass.old pass.new };
 
-    /// Ends the parts: one of several writers reads the count first, and where no other owner lives
-    /// gives the block back without a further step.
+    /// Ends the parts. One of several writers reads the count first: where no other owner lives it
+    /// gives the block back without another step. A block's only owner reads no count.
     ///
     /// # History
     ///
-    /// On a block of a sole writer Down, without a step, and of one of several Alone with the
-    /// answer, then Down.
+    /// On a block, of a sole writer: Down, without an atomic step. On a block, of one of several:
+    /// Alone with the answer, then Down.
     fn release_with_unique_hint_as(self, pass: &mut Pass<H>)
         requires pass { IsPassAt (seen self).place pass.old }
         ensures entry { ReleasesHintedAt several (seen self).place pass.old pass.new };
 
-    /// What a drop does: under `Open` the owner ends with a new pass, and the last one gives the
-    /// block back with its items; under `Whole` it is forgotten, without a step, and its items
-    /// stay. The pass is the one that the owner ended with; on no block, and under `Whole`, it is
-    /// of none.
+    /// What a drop does. Under `Open` the owner ends with a new pass, which is the answer, and the
+    /// last one gives the block back with its items. Under `Whole` it is a forgotten owner: no step
+    /// is made, and its items stay. The answer is a pass of no block under `Whole`, and on no
+    /// block.
     ///
     /// # History
     ///
-    /// On a block Down under `Open`, of a sole writer without a step, and nothing under `Whole`.
+    /// Under `Open`, on a block: Down; of a sole writer without an atomic step. Else nothing.
     fn let_go(self) -> Pass<H>
         ensures forgotten { H.whole ≡ true → IsPassOfNone result }
         ensures ended { H.whole ≡ false → EndsAt (seen self).place result };
 
-    /// Drops the parts, as a window that is dropped does with its own.
+    /// Drops the parts, as the drop of a window does.
     fn end(self)
         ensures ended { H.whole ≡ false → EndsShownAt H H.real (seen self).place };
 
-    /// Afterwards the first pass has seen at least what the other had. It adds nothing.
+    /// From here on the first pass has seen at least what the other had. It adds no entry.
     fn learn(&self, pass: &mut Pass<H>, other: &Pass<H>)
         requires pass { IsPassAt (seen self.now).place pass.old }
         requires other { IsPassAt (seen self.now).place other.now }
         ensures { at_owner (seen self.now).place (pass.new ≡ pass.old) (λ o.
             Learns o.block pass.old other.now pass.new) };
 
-    /// A new pass of the block, which has seen at least how this owner became one, and made
-    /// nothing; on no block a pass of none. It adds nothing.
+    /// A new pass of the block. It has seen at least how this owner became one, and nothing was
+    /// made with it. On no block it is a pass of none. It adds no entry.
     fn pass(&self) -> Pass<H>
     where
         H: Stepping,
         ensures { at_owner (seen self.now).place (IsPassOfNone result) (λ o. IsNewPass o result) };
 
-    /// With other items they stand where they stood.
+    /// With other items they stand where they stand.
     ghost keeps: { (parts : Self) (items : List S.Item)
         → seen (with_list parts items) ≡ with_items (seen parts) items };
 }
@@ -368,19 +372,20 @@ pub trait CopyWriterParts<
 where
     S::Item: Copy,
 {
-    /// A copy of the items more, behind the others, once there is room for them.
+    /// Appends a copy of the items, once there is room.
     ///
     /// # Errors
     ///
-    /// Those of `try_reserve_as`.
+    /// Those of `try_reserve_as` for as many items. Nothing is changed then.
     ///
     /// # Allocates
     ///
-    /// As `try_reserve_as`.
+    /// Where there are too few places: as `try_reserve_as` does for as many items.
     ///
     /// # History
     ///
-    /// As `try_reserve_as`.
+    /// Of a sole writer: nothing. Of one of several, on a block, where it has too few places: Alone
+    /// with the answer. Where a first block is made, the pass becomes that block's.
     fn try_extend_from_slice_as(
         &mut self,
         items: &[S::Item],
@@ -399,7 +404,7 @@ where
             (length items.now)) (λ k. AsksForRoom B.list B.places B.grows B.refuses
             (Self.seen self.old) k (size_at (Self.seen self.new).place) result) };
 
-    /// A copy of the items more, behind the others, where there are places for them.
+    /// Appends a copy of the items. There are places for them.
     fn extend_reserved(&mut self, items: &[S::Item])
         requires { length (Self.seen self.old).items + length items.now
             ≤ capacity_of (Self.seen self.old).role }

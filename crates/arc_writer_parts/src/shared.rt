@@ -19,20 +19,20 @@ use std::alloc::{Allocator, Global};
 use std::marker::Model;
 use std::mem;
 
-/// What the parts of one of several writers are.
+/// What the parts of one of several writers consist of.
 #[derive(Drop)]
 pub(crate) enum SharedStorage<N, P> {
-    /// An owner of a native block, with places of his own in it.
+    /// An owner of a native block, with places of its own there.
     Several(N),
-    /// A sole writer's parts, on nothing, or on a vector: its places are moved to a native block
-    /// before they are split.
+    /// A sole writer's parts, on nothing or on a vector. The places of a vector are moved to a
+    /// native block before they are split.
     Alone(P),
 }
 
 /// A row of the table of lists that one of several owners writes: the items, which need no drop,
-/// where they stand, and how many places they have. No other owner reaches these.
+/// where they stand, and how many places they have. No other owner reaches these places.
 ///
-/// Dropped, they end as a window does.
+/// Parts that are dropped end as a window does.
 pub struct SharedParts<
     S: Slice,
     B: BufferMut<<S as Slice>::Item> + Drop = Vec<<S as Slice>::Item>,
@@ -93,8 +93,8 @@ impl<S: Slice, B: BufferMut<S::Item> + Drop, M: Drop, A: Allocator + Copy, H: Ma
         }
     }
 
-    /// Takes these in the place of parts on nothing, which are forgotten: dropped, they would be
-    /// tested first.
+    /// Puts these in the place of parts on nothing. Those are forgotten: a drop would test first
+    /// what they stand on.
     #[inline(always)]
     pub(crate) fn take_in(&mut self, parts: Self)
         requires { self.old.place ≡ nowhere }
@@ -133,7 +133,7 @@ impl<S: Slice, B: BufferMut<S::Item> + Drop, M: Drop, A: Allocator + Copy, H: Ma
         let _ = &self.on;
     }
 
-    /// Whether they stand on a vector, whose places a split moves to a native block first.
+    /// Whether they stand on a vector, whose places are moved to a native block before a split.
     pub fn is_on_vector(&self) -> bool
         ensures { result ≡ is_vector_at self.now.place }
     {
@@ -143,8 +143,8 @@ impl<S: Slice, B: BufferMut<S::Item> + Drop, M: Drop, A: Allocator + Copy, H: Ma
         }
     }
 
-    /// The block's full places aren't counted: none are more when items are pushed. Does nothing:
-    /// its contract is the law.
+    /// The block's full places aren't counted, so that pushed items change no such count. Does
+    /// nothing: its contract is the law.
     pub fn known_uncounted(&self)
         ensures { (len more : ℕ) → with_full len more self.now.place ≡ self.now.place }
     {
@@ -155,7 +155,7 @@ impl<S: Slice, B: BufferMut<S::Item> + Drop, M: Drop, A: Allocator + Copy, H: Ma
         }
     }
 
-    /// The same parts, of items of another kind. It adds nothing.
+    /// The same parts, of items of another kind. It adds no entry.
     pub fn into_kind<K: Slice<Item = S::Item>>(self) -> SharedParts<K, B, M, A, H>
         requires { K.DROPS ≡ S.DROPS }
         ensures { result ≡ self }

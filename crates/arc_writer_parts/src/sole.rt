@@ -22,19 +22,19 @@ use arc_sort_writers::vector::SoleVector;
 use std::alloc::{Allocator, Global};
 use std::marker::Model;
 
-/// What a sole writer's parts are: items in memory of ours, or elsewhere.
+/// What a sole writer's parts stand on: native memory, or something else.
 ///
-/// This tag tells which, so that nothing of the block is read for it. It has two cases, so that one
-/// test finds memory of ours.
+/// This tag says which, so that no memory of the block is read for it. It has two cases, so that
+/// one test tells native memory.
 #[derive(Drop)]
 pub(crate) enum SoleStorage<N, V, B> {
-    /// A native block's memory, or none.
+    /// A native block's memory, or nothing.
     Native(N),
-    /// Another's.
+    /// A vector or a caller's buffer.
     Other(SoleOther<V, B>),
 }
 
-/// Where a sole writer's items are that lie in no memory of ours.
+/// What a sole writer's parts stand on, if that isn't native memory.
 #[derive(Drop)]
 pub(crate) enum SoleOther<V, B> {
     /// A vector.
@@ -46,7 +46,7 @@ pub(crate) enum SoleOther<V, B> {
 /// A row of the table of lists that its only owner writes: the items, where they stand, and how
 /// many places they have.
 ///
-/// Dropped, they end as a window does.
+/// Parts that are dropped end as a window does.
 pub struct SoleParts<
     S: Slice,
     B: BufferMut<<S as Slice>::Item> + Drop = Vec<<S as Slice>::Item>,
@@ -88,7 +88,7 @@ impl<S: Slice, B: BufferMut<S::Item> + Drop, M: Drop, A: Allocator + Copy, H: Ma
     A,
     H,
 > {
-    /// Items in memory of ours, or nothing.
+    /// Items in native memory, or nothing.
     #[inline(always)]
     pub(crate) fn in_native(parts: SoleNative<S, M, A, H>) -> Self
         ensures { result ≡ parts }
@@ -145,8 +145,8 @@ impl<S: Slice, B: BufferMut<S::Item> + Drop, M: Drop, A: Allocator + Copy, H: Ma
         }
     }
 
-    /// No items, with so many places: for none on nothing, else on a new native block. The pass,
-    /// which is of no block, becomes the block's.
+    /// No items, with `capacity` places, on a new native block. No places stand on nothing. The
+    /// pass, which is of no block, becomes the block's.
     ///
     /// # Errors
     ///
@@ -154,7 +154,7 @@ impl<S: Slice, B: BufferMut<S::Item> + Drop, M: Drop, A: Allocator + Copy, H: Ma
     ///
     /// # Allocates
     ///
-    /// Once, except for none.
+    /// Once, except for no places.
     pub fn try_with_capacity_as(
         alloc: A,
         capacity: usize,
@@ -199,7 +199,7 @@ impl<S: Slice, B: BufferMut<S::Item> + Drop, M: Drop, A: Allocator + Copy, H: Ma
         }
     }
 
-    /// So many zeros, on a new native block with exactly a place for each; none stand on nothing.
+    /// `count` zeros, on a new native block with exactly a place for each. None stand on nothing.
     /// The pass, which is of no block, becomes the block's.
     ///
     /// # Errors
@@ -224,7 +224,7 @@ impl<S: Slice, B: BufferMut<S::Item> + Drop, M: Drop, A: Allocator + Copy, H: Ma
         }
     }
 
-    /// An array's items, which are moved as `try_from_slice_as` copies.
+    /// An array's items, which are moved into a block where `try_from_slice_as` copies them.
     ///
     /// # Errors
     ///

@@ -10,7 +10,7 @@ use arc_owners::owners::Shows;
 use std::alloc::Allocator;
 use std::sync::Arc;
 
-/// A caller's buffer as it came in: with metadata or without, to be read alone or to be written.
+/// A caller's buffer as it was given: with metadata or without, to be read only or to be written.
 #[derive(Drop)]
 pub struct CallersBuffer<B, M> {
     pub buffer: B,

@@ -1,9 +1,9 @@
 //! Native blocks: items in memory of this crate's own making, which is lent for the lease of the
 //! block's owners.
 //!
-//! What its counted box keeps is that the memory comes back at the end. The box lies in front of
-//! the items, in the same piece of memory. An owner reads by where the items begin, and touches
-//! neither the count nor what is kept.
+//! The counted box keeps what gives the memory back at the end. It lies in front of the items, in
+//! the same piece of memory. An owner reads the items by where they begin, and reads neither the
+//! count nor what is kept.
 ghost use Rattle.std.specs.Prelude.{◌≡◌, ◌≤◌, ◌+◌, ◌-◌, ◌↔◌, Bool, true, false, IsTrue};
 ghost use Rattle.std.specs.Prelude.{IfOk, IfErr, IfSome, IfNone, is_some};
 ghost use Rattle.arc_owners.specs.count.Calls.{IsPassFor, IsNewPass, Learns, Asks};
@@ -39,19 +39,18 @@ use std_alloc::vec::Lodged;
 /// The count of a native block by value, with its only owner.
 pub type NativeCount<const MAX: u64, H> = SoleCount<MAX, H>;
 
-/// An owner of a native block, which at most `MAX` owners share, and who reads items that lie side
-/// by side in the block. Its memory is given back with its last owner.
+/// An owner of a native block, which at most `MAX` owners share. It reads items that lie side by
+/// side in the block. The last owner gives the memory back.
 ///
-/// Dropped, it ends with a new pass under the mark `Open`. Under `Whole` it is a forgotten owner:
-/// the block stays for good.
+/// One that is dropped ends with a new pass under the mark `Open`. Under `Whole` it is a forgotten
+/// owner: the block stays for good.
 pub struct NativeBlock<S: Slice, A: Allocator + Copy, const MAX: u64, H: Mark = Open> {
     base: Base<S::Item>,
     reader: FrozenReader<S::Item, Kept<S::Item, A>, Lodged, MAX, H>,
     head: HeadSize<Header<Kept<S::Item, A>>>,
 }
 
-/// Gives the block back that the last owner had, where it was the last one, and says whether it
-/// was.
+/// Gives the block back where there was a last owner who had it, and answers whether there was.
 #[inline(always)]
 fn give_back<T: Drop, A: Allocator>(
     last: Option<(Kept<T, A>, HeaderRoom<Header<Kept<T, A>>>, EndedLifetime)>,
@@ -97,19 +96,17 @@ impl<S: Slice, A: Allocator + Copy, const MAX: u64, H: Mark> Drop for NativeBloc
 }
 
 impl<S: Slice, A: Allocator + Copy, const MAX: u64, H: Mark> NativeBlock<S, A, MAX, H> {
-    /// One attempt to make one owner more of the same block, through this one, who reads the same
-    /// items: nothing where another thread's step came between, and then no entry is added. Who
-    /// calls it tries again.
-    ///
-    /// Takes no memory and copies no item.
+    /// One attempt to make one owner more of the same block, through this one, which reads the same
+    /// items. It answers `None`, and adds no entry, where another thread's step came between; the
+    /// caller tries again. It takes no memory and copies no item.
     ///
     /// # Errors
     ///
-    /// `CountFull` exactly where `MAX` owners live, and no other.
+    /// `CountFull` exactly where `MAX` owners live, and no other error.
     ///
     /// # History
     ///
-    /// Up, or Full where refused.
+    /// Up, or Full where it is refused.
     #[inline(always)]
     #[tactic(auto, using(crate::proofs::Natives::kept_alike, crate::proofs::Natives::laid_alike))]
     pub fn try_share_once_as(
@@ -156,7 +153,7 @@ impl<S: Slice, A: Allocator + Copy, const MAX: u64, H: Mark> NativeBlock<S, A, M
         self.reader.owner.get().count() == size
     }
 
-    /// How many owners the block may have at once, and under which mark it is.
+    /// How many owners the block may have at once. The contract says too under which mark it is.
     pub fn max_owners(&self) -> u64
         ensures answer { result ≡ MAX }
         ensures block { IsLimited MAX H.whole self.now.owner }
@@ -165,7 +162,11 @@ impl<S: Slice, A: Allocator + Copy, const MAX: u64, H: Mark> NativeBlock<S, A, M
         MAX
     }
 
-    /// Whether no other owner lives, by one load. Adds Alone with the answer. Takes no memory.
+    /// Whether no other owner lives, by one load. It takes no memory.
+    ///
+    /// # History
+    ///
+    /// Alone with the answer.
     #[inline(always)]
     pub fn is_unique_as(&self, pass: &mut Pass<H>) -> bool
         requires pass { IsPassFor self.now.owner pass.old }
@@ -174,8 +175,12 @@ impl<S: Slice, A: Allocator + Copy, const MAX: u64, H: Mark> NativeBlock<S, A, M
         self.reader.owner.is_unique_as(pass)
     }
 
-    /// Ends this owner by one subtraction, and answers whether it was the last one: then the block
-    /// is given back. Adds its Down. Takes no memory.
+    /// Ends this owner by one subtraction from the count, and answers whether it is the last one:
+    /// then the block is given back. It takes no memory.
+    ///
+    /// # History
+    ///
+    /// Down.
     #[inline(always)]
     #[tactic(auto, using(crate::proofs::Natives::kept_ended, crate::proofs::Natives::laid_room))]
     pub fn release_as(self, pass: &mut Pass<H>) -> bool
@@ -190,9 +195,9 @@ impl<S: Slice, A: Allocator + Copy, const MAX: u64, H: Mark> NativeBlock<S, A, M
         give_back(reader.release_as(pass), head)
     }
 
-    /// What a drop does: under `Open` this owner ends with a new pass, and the last one gives the
-    /// block back; under `Whole` it is forgotten, without a step. Takes no memory. The pass is the
-    /// one that the owner ended with; under `Whole` it is of no block.
+    /// What a drop does. Under `Open` this owner ends with a new pass, which is the answer, and the
+    /// last one gives the block back. Under `Whole` it is a forgotten owner: no step is made, and
+    /// the answer is a pass of no block. It takes no memory.
     #[inline(always)]
     #[tactic(auto, using(crate::proofs::Natives::kept_ended, crate::proofs::Natives::laid_room))]
     pub fn let_go(self) -> Pass<H>
@@ -209,12 +214,12 @@ impl<S: Slice, A: Allocator + Copy, const MAX: u64, H: Mark> NativeBlock<S, A, M
         pass
     }
 
-    /// Ends this owner: it reads the count first, and gives the block back without a further step
-    /// where no other owner lives, else it counts down. Takes no memory.
+    /// Ends this owner. It reads the count first: where no other owner lives it gives the block
+    /// back without another step, and else it counts down. It takes no memory.
     ///
     /// # History
     ///
-    /// Alone with what was found, then Down.
+    /// Alone with the answer, then Down.
     #[tactic(auto, using(crate::proofs::Natives::kept_ended, crate::proofs::Natives::kept_alike, crate::proofs::Natives::laid_room, crate::proofs::Natives::laid_alike))]
     pub fn drop_with_unique_hint_as(self, pass: &mut Pass<H>)
         requires pass { IsPassFor self.owner pass.old }
@@ -233,7 +238,7 @@ impl<S: Slice, A: Allocator + Copy, const MAX: u64, H: Mark> NativeBlock<S, A, M
         }
     }
 
-    /// Afterwards the first pass has seen at least what the other had. It adds no entry and takes
+    /// From here on the first pass has seen at least what the other had. It adds no entry and takes
     /// no memory.
     pub fn learn(&self, pass: &mut Pass<H>, other: &Pass<H>)
         requires pass { IsPassFor self.now.owner pass.old }
@@ -245,7 +250,7 @@ impl<S: Slice, A: Allocator + Copy, const MAX: u64, H: Mark> NativeBlock<S, A, M
 }
 
 impl<S: Slice, A: Allocator + Copy, const MAX: u64, H: Mark> NativeBlock<S, A, MAX, H> {
-    /// The same owner, of items of another kind. Takes no memory and adds nothing.
+    /// The same owner, of items of another kind. It adds no entry and takes no memory.
     pub fn into_kind<K: Slice<Item = S::Item>>(self) -> NativeBlock<K, A, MAX, H>
         requires { K.DROPS ≡ S.DROPS }
         ensures { result ≡ self }
@@ -256,8 +261,8 @@ impl<S: Slice, A: Allocator + Copy, const MAX: u64, H: Mark> NativeBlock<S, A, M
 }
 
 impl<S: Slice, A: Allocator + Copy, const MAX: u64, H: Stepping> NativeBlock<S, A, MAX, H> {
-    /// A new pass, which has seen at least the entry that made this owner, and made nothing. It
-    /// adds no entry and takes no memory.
+    /// A new pass of the block. It has seen at least the entry that made this owner, and nothing
+    /// was made with it. It adds no entry and takes no memory.
     pub fn pass(&self) -> Pass<H>
         ensures { IsNewPass self.now.owner result }
     {
@@ -265,8 +270,8 @@ impl<S: Slice, A: Allocator + Copy, const MAX: u64, H: Stepping> NativeBlock<S, 
     }
 }
 
-/// What the counted box of a block keeps of these places, which are frozen: all `len` of its full
-/// ones, where their items are dropped one by one.
+/// What the counted box of a block keeps of these places, which are frozen. Where items are dropped
+/// one by one, that is all `len` that hold an item.
 #[inline(always)]
 fn kept_of<S: Slice, A: Allocator>(
     kept: KeptPlaces<S::Item, A>,
@@ -326,7 +331,15 @@ impl<S: Slice, A: Allocator + Copy, const MAX: u64, H: Mark> NativeBlock<S, A, M
     /// The first owner of a new block with a copy of the items, and exactly a place for each, with
     /// a pass of the block.
     ///
-    /// Takes memory; refused, the answer is `AllocError`. `MAX` is at least 2.
+    /// `MAX` is at least 2.
+    ///
+    /// # Errors
+    ///
+    /// `AllocError` where memory for the block is refused.
+    ///
+    /// # Allocates
+    ///
+    /// Once.
     pub fn try_from_slice(alloc: A, items: &[S::Item]) -> Result<(Self, Pass<H>), AllocError>
     where
         S::Item: Copy,
@@ -347,7 +360,15 @@ impl<S: Slice, A: Allocator + Copy, const MAX: u64, H: Mark> NativeBlock<S, A, M
     /// The first owner of a new block with the items of an array, and exactly a place for each,
     /// with a pass of the block.
     ///
-    /// Takes memory; refused, the array comes back. `MAX` is at least 2.
+    /// `MAX` is at least 2.
+    ///
+    /// # Errors
+    ///
+    /// The array comes back where memory for the block is refused.
+    ///
+    /// # Allocates
+    ///
+    /// Once.
     pub fn try_from_array<const N: usize>(
         alloc: A,
         array: [S::Item; N],
@@ -367,8 +388,8 @@ impl<S: Slice, A: Allocator + Copy, const MAX: u64, H: Mark> NativeBlock<S, A, M
         }
     }
 
-    /// The same owner of the same block, whose memory is lent anew: it may be shared from now on.
-    /// It adds no entry and takes no memory.
+    /// The same owner of the same block, whose memory is lent anew: it may be shared. It adds no
+    /// entry and takes no memory.
     #[inline(always)]
     pub fn of_sole(count: NativeCount<MAX, H>, memory: WriterMemory<S::Item, A>) -> Self
         requires limited { IsLimited MAX H.whole (count_owner count) }
@@ -408,10 +429,14 @@ impl<S: Slice, A: Allocator + Copy, const MAX: u64, H: Mark> NativeBlock<S, A, M
         NativeBlock { base, reader, head }
     }
 
-    /// The only owner of the same block, where no other one lives, and the block's memory, with the
-    /// items in the places from `start` on and before `end`: those of another place are forgotten,
-    /// unless they are dropped one by one, when all items stay. Else the block is handed back. No
-    /// item is moved. Takes no memory.
+    /// The only owner of the same block and the block's memory, where no other owner lives, with
+    /// the items in the places from `start` on and before `end`. Items in other places are
+    /// forgotten, but items that are dropped one by one all stay. No item is moved. It takes no
+    /// memory.
+    ///
+    /// # Errors
+    ///
+    /// The owner comes back where another one lives.
     ///
     /// # History
     ///
@@ -443,13 +468,17 @@ impl<S: Slice, A: Allocator + Copy, const MAX: u64, H: Mark> NativeBlock<S, A, M
         }
     }
 
-    /// The block's memory, taken where no other owner lives, with the items in the places from
-    /// `start` on and before `end`: those of another place are forgotten, unless they are dropped
-    /// one by one, when all items stay. Else the block is handed back. Takes no memory.
+    /// The block's memory, where no other owner lives, with the items in the places from `start` on
+    /// and before `end`. Items in other places are forgotten, but items that are dropped one by one
+    /// all stay. It takes no memory.
+    ///
+    /// # Errors
+    ///
+    /// The owner comes back where another one lives.
     ///
     /// # History
     ///
-    /// Taken, Alone and Down. Refused, Alone with no.
+    /// Taken: Alone with yes, then Down. Refused: Alone with no.
     #[tactic(auto, using(crate::proofs::Natives::kept_alike, crate::proofs::Natives::laid_alike, crate::proofs::Natives::laid_room))]
     pub fn try_into_memory_as(
         self,

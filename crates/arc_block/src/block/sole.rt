@@ -1,7 +1,7 @@
-//! Blocks of a caller's making with one owner, who has the vector of one that is a vector.
+//! Blocks of a caller's making with one owner. The owner of one that is a vector has the vector.
 //!
-//! So its items are read and written by the vector's own code, and nothing is asked of the count.
-//! Meanwhile the memory of the count holds none of them.
+//! So its items are read and written by the vector's own code, and no count is read. Meanwhile the
+//! memory of the count holds none of the items.
 ghost use Rattle.std.specs.Prelude.{◌≡◌, ◌≤◌, true, false, is_ok, IfOk, IfErr};
 ghost use Rattle.arc_owners.specs.history.Histories.{Counted};
 ghost use Rattle.arc_owners.specs.count.Calls.{IsFirst, IsPassFor, IsFreshPass, Asks};
@@ -20,10 +20,10 @@ use arc_owners::owners::{Pass, SoleBox};
 use std::alloc::Allocator;
 use std::mem;
 
-/// The count of a block, with its only owner, who has the block's items elsewhere.
+/// The count of a block, with its only owner, who has a vector's items elsewhere.
 pub type SoleCount<T, B, M, A, const MAX: u64, H> = SoleBox<Content<T, B, M, A>, A, MAX, H>;
 
-/// The only owner of a new block that is a vector, with a pass of it, who has the vector.
+/// The only owner of a new block that is a vector, with a pass of it. The owner has the vector.
 /// `MAX` is at least 2.
 ///
 /// # Errors
@@ -50,9 +50,9 @@ pub fn new_count<T: Drop, B: Drop, M: Drop, A: Allocator + Copy, const MAX: u64,
     }
 }
 
-/// What a drop does: under `Open` the owner ends with a new pass, and its items are dropped; under
-/// `Whole` it is forgotten, and so are its items, which stay where they are. The pass is the one
-/// that the owner ended with; under `Whole` it is of no block.
+/// What a drop does. Under `Open` the owner ends with a new pass, which is the answer, and its
+/// items are dropped. Under `Whole` owner and items are forgotten: the items stay where they are,
+/// and the answer is a pass of no block.
 pub fn end_sole<T: Drop, B: Drop, M: Drop, A: Allocator + Copy, const MAX: u64, H: Mark>(
     count: SoleCount<T, B, M, A, MAX, H>,
     items: Vec<T, A>,
@@ -77,8 +77,8 @@ impl<
     const MAX: u64,
     H: Mark,
 > Block<S, B, M, A, MAX, H> {
-    /// The same owner of the same block, a vector, which may be shared from now on. It adds no
-    /// entry and takes no memory.
+    /// The same owner of the same block, a vector, which may be shared. It adds no entry and takes
+    /// no memory.
     pub fn of_sole(count: SoleCount<S::Item, B, M, A, MAX, H>, items: Vec<S::Item, A>) -> Self
         requires { IsLimited MAX H.whole (sole_in count) }
         ensures { result ≡ held_as vector S.DROPS (sole_in count) items }
@@ -89,8 +89,12 @@ impl<
         Block::over(count.lend())
     }
 
-    /// The only owner of the same block, a vector, and that, where no other one lives. Else the
-    /// block is handed back. Takes no memory.
+    /// The only owner of the same block and its vector, where no other owner lives. It takes no
+    /// memory.
+    ///
+    /// # Errors
+    ///
+    /// The owner comes back where another one lives.
     ///
     /// # History
     ///
@@ -118,8 +122,8 @@ impl<
         }
     }
 
-    /// The same owner of the same block, a caller's buffer, which may be shared from now on. It
-    /// adds no entry and takes no memory.
+    /// The same owner of the same block, a caller's buffer, which may be shared. It adds no entry
+    /// and takes no memory.
     pub fn of_sole_buffer(count: SoleCount<S::Item, B, M, A, MAX, H>) -> Self
         requires { IsLimited MAX H.whole (sole_in count) }
         ensures { result
@@ -128,8 +132,12 @@ impl<
         Block::over(count.lend())
     }
 
-    /// The only owner of the same block, which keeps its items, where no other one lives. Else the
-    /// block is handed back. Takes no memory.
+    /// The only owner of the same block, which keeps its items, where no other owner lives. It
+    /// takes no memory.
+    ///
+    /// # Errors
+    ///
+    /// The owner comes back where another one lives.
     ///
     /// # History
     ///

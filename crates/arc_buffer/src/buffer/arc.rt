@@ -1,4 +1,4 @@
-//! A buffer behind an `Arc`, which is only read.
+//! Buffers behind an `Arc`, which are read only.
 ghost use Rattle.std.specs.Prelude.{◌≡◌, false, length};
 ghost use Rattle.std.specs.Arc.{arc_value};
 
@@ -17,7 +17,7 @@ impl<T, B: Buffer<T>, A: Allocator> Buffer<T> for Arc<B, A> {
 
     ghost says_unique = { λ _ answer. answer ≡ false };
 
-    /// False: an `Arc` that is only borrowed can't find out whether it is the only one.
+    /// False: a borrowed `Arc` can't find out whether it is the only one.
     fn is_unique(&self) -> bool {
         false
     }

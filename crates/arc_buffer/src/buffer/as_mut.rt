@@ -1,4 +1,4 @@
-//! A type whose items can be written, as a buffer that never grows.
+//! A buffer of a type whose items can be written. It never grows.
 ghost use Rattle.std.specs.Prelude.{◌≡◌, false, length, Err};
 ghost use Rattle.std.proofs.Common.{ap, ◌∙◌};
 ghost use Rattle.arc_owners.specs.declared.error.TryReserveError.TheVariants.{Unsupported};
@@ -8,7 +8,7 @@ use super::{BorrowMetadata, Buffer, BufferMut, LendMut};
 use arc_owners::error::TryReserveError;
 use std::marker::Model;
 
-/// A type whose items can be written, as a buffer that never grows: it has as many places as items.
+/// A buffer of a type whose items can be written. It never grows: it has as many places as items.
 #[derive(Drop)]
 pub struct AsMutBuffer<B> {
     inner: B,
@@ -28,7 +28,7 @@ impl<B> AsMutBuffer<B> {
         AsMutBuffer { inner: buffer }
     }
 
-    /// The value that it wraps.
+    /// The value that is wrapped.
     pub fn into_inner(self) -> B
         ensures { result ≡ self }
     {
@@ -74,11 +74,11 @@ impl<T, B: LendMut<T>> BufferMut<T> for AsMutBuffer<B> {
 
     ghost grows = { λ _ _ _. ⊥ };
 
-    /// Makes no room: there is none to be had, so also a request for no place is refused.
+    /// Refuses always, also for no place, since the buffer never grows.
     ///
     /// # Errors
     ///
-    /// `Unsupported`, always.
+    /// `Unsupported`.
     fn try_reserve(&mut self, additional: usize) -> Result<(), TryReserveError>
         ensures refused { result ≡ Err Unsupported }
         ensures same { self.new ≡ self.old }
@@ -87,11 +87,11 @@ impl<T, B: LendMut<T>> BufferMut<T> for AsMutBuffer<B> {
         Err(TryReserveError::Unsupported)
     }
 
-    /// Appends nothing, since each place has an item.
+    /// Refuses always, since each place has an item.
     ///
     /// # Errors
     ///
-    /// The item comes back, always.
+    /// The item comes back.
     fn try_push(&mut self, item: T) -> Result<(), T>
         ensures full { result ≡ Err item }
         ensures same { self.new ≡ self.old }

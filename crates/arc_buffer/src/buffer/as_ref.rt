@@ -1,9 +1,9 @@
-//! A type that shows items, as a buffer that is only read.
+//! A buffer of a type that shows items. It is read only.
 ghost use Rattle.std.specs.Prelude.{◌≡◌, false, length};
 
 use super::{BorrowMetadata, Buffer, Lend};
 
-/// A type that shows items, as a buffer that is only read.
+/// A buffer of a type that shows items. It is read only.
 #[derive(Drop)]
 pub struct AsRefBuffer<B>(pub B);
 

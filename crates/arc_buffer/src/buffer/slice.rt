@@ -1,4 +1,4 @@
-//! Borrowed slices as buffers, static ones above all.
+//! Borrowed slices as buffers, `'static` ones above all.
 ghost use Rattle.std.specs.Prelude.{◌≡◌, false, length};
 
 use super::Buffer;
@@ -14,7 +14,7 @@ impl<'a, T> Buffer<T> for &'a [T] {
 
     ghost says_unique = { λ _ answer. answer ≡ false };
 
-    /// False: whoever lends the slice has it too.
+    /// False: the lender of the slice has it too.
     fn is_unique(&self) -> bool {
         false
     }

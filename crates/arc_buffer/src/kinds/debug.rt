@@ -9,10 +9,10 @@ use crate::print;
 use bstr::BStr;
 use std::{fmt, str};
 
-/// Kinds whose lists have a `Debug` form: bytes that of a byte string, other items that of the
-/// language's list, `Text` that of its `str`, `ByteText` that of `bstr`.
+/// Kinds whose lists have a `Debug` form. Bytes have that of a byte string, other items that of the
+/// language's list, `Text` that of its `str`, and `ByteText` that of `bstr`.
 pub trait DebugSlice: Slice {
-    /// What `{:?}` writes of a list, where that is said.
+    /// What `{:?}` writes of a list, where that is specified.
     ghost debug_items: { List Self.Item → Option (List ℕ) };
 
     /// Writes a legal list as `{:?}` does.
@@ -21,10 +21,10 @@ pub trait DebugSlice: Slice {
         ensures { DisplaysOnOk W.write_str_gives f.old result (debug_items items.now) f.new };
 }
 
-/// Items of `Plain` whose lists have a `Debug` form: `u8` that of a byte string, others that of the
-/// language's list.
+/// Items of `Plain` whose lists have a `Debug` form. Lists of `u8` have that of a byte string,
+/// others that of the language's list.
 pub trait DebugItem: fmt::Debug {
-    /// What `{:?}` writes of a list of such items, where that is said.
+    /// What `{:?}` writes of a list of such items, where that is specified.
     ghost debug_plain: { List Self → Option (List ℕ) };
 
     /// Writes a list of such items as `{:?}` does.

@@ -14,8 +14,8 @@ use bstr::BString;
 use std::alloc::{Allocator, Global};
 use std::boxed::{BoxedSlice, BoxedStr};
 
-/// Kinds that have a vector and a box of their own over an allocator: all, `ByteText` over `Global`
-/// alone.
+/// Kinds that have a vector and a box of their own over an allocator: all of them, but `ByteText`
+/// only over `Global`.
 pub trait VecIn<A: Allocator>: Slice {
     /// A vector of the kind.
     type Vec: Wraps<Vec<Self::Item, A>>;
@@ -33,7 +33,7 @@ pub trait VecIn<A: Allocator>: Slice {
     ghost vec_list: { (v : Self.Vec) (inner : Vec Self.Item A)
         → Self.Vec.wraps v inner → inner.items ≡ list_in_vec v };
 
-    /// It may wrap one exactly where that has a legal list.
+    /// A vector may wrap exactly the vectors with a legal list.
     ghost vec_legal: { (inner : Vec Self.Item A)
         → Self.Vec.may_wrap inner ↔ Self.is_legal inner.items };
 
@@ -41,11 +41,11 @@ pub trait VecIn<A: Allocator>: Slice {
     ghost boxed_list: { (b : Self.Boxed) (inner : BoxedSlice Self.Item A)
         → Self.Boxed.wraps b inner → boxed_slice_items inner ≡ list_in_boxed b };
 
-    /// It may wrap one exactly where that has a legal list.
+    /// A box may wrap exactly the boxes with a legal list.
     ghost boxed_legal: { (inner : BoxedSlice Self.Item A)
         → Self.Boxed.may_wrap inner ↔ Self.is_legal (boxed_slice_items inner) };
 
-    /// That a list is legal is a fact: it says no more than that it holds.
+    /// A truncated proof that a list is legal gives the proof itself.
     ghost legal_is_fact: { (xs : List Self.Item) → ∥ Self.is_legal xs ∥₁ → Self.is_legal xs };
 }
 

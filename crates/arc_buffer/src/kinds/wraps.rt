@@ -9,9 +9,9 @@ use bstr::BString;
 use std::alloc::Allocator;
 use std::boxed::{BoxedSlice, BoxedStr};
 
-/// A vector or a box as the plain one that it wraps: a `String` wraps a vector of bytes, and a
-/// `Vec` stands for itself. The code copies nothing and takes no memory; the clauses speak of
-/// values, and of a `BString` of its bytes alone.
+/// A vector or a box as the plain one that it wraps. A `String` wraps a vector of bytes, and a
+/// `Vec` wraps itself. No call copies an item or takes memory. The clauses speak of values, and of
+/// a `BString` of its bytes only.
 pub trait Wraps<V> {
     /// What it wraps.
     ghost wraps: { Self → V → Type 0 };

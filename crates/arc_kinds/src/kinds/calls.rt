@@ -33,29 +33,29 @@ use std::marker::PhantomData;
 use std::str;
 use std::sync::Wait;
 
-/// Which calls a kind S has, of those that not all kinds have, and these calls: each is answered
-/// `None` where the kind hasn't it, and then nothing changes.
+/// Which calls a kind S has, of those that not all kinds have, and the calls themselves. A call
+/// that the kind hasn't is answered `None`, and changes nothing.
 pub trait CallsOf<S: Subsliceable> {
-    /// Which calls it has.
+    /// Which calls the kind has.
     ghost calls: { Calls };
 
-    /// Whether a list is copied.
+    /// Whether windows over a copy of a list are made.
     fn copies() -> bool
         ensures { result ≡ calls.copies };
 
-    /// Whether an item more is pushed.
+    /// Whether one item may be appended.
     fn pushes() -> bool
         ensures { result ≡ calls.pushes };
 
-    /// Whether a copy of items is put behind others.
+    /// Whether a copy of items may be appended.
     fn extends() -> bool
         ensures { result ≡ calls.extends };
 
-    /// Whether each list is legal, so that a window is made of a caller's buffer.
+    /// Whether each list is legal: then a window may be made of a caller's buffer.
     fn any_list() -> bool
         ensures { result ≡ calls.any_list };
 
-    /// Whether several write one block.
+    /// Whether several writers may write one block.
     fn shares() -> bool
         ensures { result ≡ calls.shares };
 
@@ -75,8 +75,8 @@ pub trait CallsOf<S: Subsliceable> {
         ensures call { is_some result ≡ calls.copies }
         ensures copied { IfSome result (λ made. IfOk made (λ copy. copy.items ≡ items.now)) };
 
-    /// A window that is read, over a copy of the items, which are legal, as
-    /// `ArcSlice::try_from_slice_as` makes it.
+    /// A window that is read, over a copy of the items, as `ArcSlice::try_from_slice_as` makes it.
+    /// The items are legal.
     ///
     /// # Errors
     ///
@@ -84,11 +84,11 @@ pub trait CallsOf<S: Subsliceable> {
     ///
     /// # Allocates
     ///
-    /// Where the items need a block.
+    /// Once, where a block is needed.
     ///
     /// # History
     ///
-    /// The block's begins: the window is owner 0.
+    /// Where a block is made its history begins, with the window as owner 0.
     fn try_read_as<L: Layout, B: BufferMut<S::Item> + Drop, M: Drop, A: Allocator + Copy>(
         alloc: A,
         items: &[S::Item],
@@ -105,8 +105,8 @@ pub trait CallsOf<S: Subsliceable> {
             × (pass.new ≡ pass.old))) }
         ensures none { IfNone result (pass.new ≡ pass.old) };
 
-    /// A window that is written, over a copy of the items, which are legal, as
-    /// `ArcSliceMut::try_from_slice_as` makes it.
+    /// A window that is written, over a copy of the items, as `ArcSliceMut::try_from_slice_as`
+    /// makes it. The items are legal.
     ///
     /// # Errors
     ///
@@ -118,7 +118,7 @@ pub trait CallsOf<S: Subsliceable> {
     ///
     /// # History
     ///
-    /// The block's begins: the window is owner 0.
+    /// Where a block is made its history begins, with the window as owner 0.
     fn try_written_as<L: LayoutMut, B: BufferMut<S::Item> + Drop, M: Drop, A: Allocator + Copy>(
         alloc: A,
         items: &[S::Item],
@@ -133,19 +133,22 @@ pub trait CallsOf<S: Subsliceable> {
             × (pass.new ≡ pass.old))) }
         ensures none { IfNone result (pass.new ≡ pass.old) };
 
-    /// An item more, as `ArcSliceMut::try_push_as` pushes it. Refused, it is let go.
+    /// Appends an item to a sole writer's window, once there is room. A refused item is dropped.
     ///
     /// # Errors
     ///
-    /// Those of that call.
+    /// Where the window has too few places, in this order: `Unsupported` where items that are
+    /// dropped one by one end before the block's full places, the refusal of a caller's buffer,
+    /// `CapacityOverflow` where the block would have to grow to more than 2^63 - 1 places or bytes,
+    /// and `AllocError` where memory is refused. Nothing is changed then.
     ///
     /// # Allocates
     ///
-    /// As that call.
+    /// Once, where a first block is made or the block grows.
     ///
     /// # History
     ///
-    /// As that call.
+    /// None. Where a first block is made, the pass becomes that block's.
     fn try_push_as<L: LayoutMut, B: BufferMut<S::Item> + Drop, M: Drop, A: Allocator + Copy>(
         window: &mut ArcSliceMut<S, L, 1, B, M, A, Whole>,
         item: S::Item,
@@ -161,20 +164,22 @@ pub trait CallsOf<S: Subsliceable> {
             window.old window.new pass.old pass.new (Err e))) }
         ensures none { IfNone result ((window.new ≡ window.old) × (pass.new ≡ pass.old)) };
 
-    /// A copy of the items more, which are legal, as `ArcSliceMut::try_extend_from_slice_as` or
-    /// `try_extend_from_str_as` puts it behind the others.
+    /// Appends a copy of the items, which are legal, to a sole writer's window, once there is room.
     ///
     /// # Errors
     ///
-    /// Those of that call.
+    /// Where the window has too few places, in this order: `Unsupported` where items that are
+    /// dropped one by one end before the block's full places, the refusal of a caller's buffer,
+    /// `CapacityOverflow` where the block would have to grow to more than 2^63 - 1 places or bytes,
+    /// and `AllocError` where memory is refused. Nothing is changed then.
     ///
     /// # Allocates
     ///
-    /// As that call.
+    /// Once, where a first block is made or the block grows.
     ///
     /// # History
     ///
-    /// As that call.
+    /// None. Where a first block is made, the pass becomes that block's.
     fn try_extend_as<L: LayoutMut, B: BufferMut<S::Item> + Drop, M: Drop, A: Allocator + Copy>(
         window: &mut ArcSliceMut<S, L, 1, B, M, A, Whole>,
         items: &[S::Item],
@@ -191,8 +196,8 @@ pub trait CallsOf<S: Subsliceable> {
             window.old window.new pass.old pass.new (Err e))) }
         ensures none { IfNone result ((window.new ≡ window.old) × (pass.new ≡ pass.old)) };
 
-    /// The window as one of several, as `ArcSliceMut::into_shared` makes it, where it isn't over a
-    /// caller's buffer; else it stays in its place. Takes no memory.
+    /// A sole writer's window as one of several writers: it is taken out of its place, unless it
+    /// stands on a caller's buffer, where it stays. It adds no entry and takes no memory.
     fn into_shared<L: LayoutMut, B: BufferMut<S::Item> + Drop, M: Drop, A: Allocator + Copy>(
         sole: &mut Option<ArcSliceMut<S, L, 1, B, M, A, Whole>>,
     ) -> Option<ArcSliceMut<S, L, 0, B, M, A, Whole>>
@@ -205,20 +210,20 @@ pub trait CallsOf<S: Subsliceable> {
         ensures refused { IfNone result (calls.shares ≡ true
             → IfSome sole.old (λ w. IsOfBuffer w.place)) };
 
-    /// Moves a window of several from its vector to a native block with as many places, as
-    /// `ArcSliceMut::try_leave_vector_as`, and answers the new block's pass.
+    /// Moves a window of one of several writers from its vector to a native block with as many
+    /// places, and answers the new block's pass.
     ///
     /// # Errors
     ///
-    /// Those of that call.
+    /// `AllocError` where memory for the native block is refused. Nothing is changed then.
     ///
     /// # Allocates
     ///
-    /// As that call.
+    /// Once.
     ///
     /// # History
     ///
-    /// As that call.
+    /// Down of the vector's owner, without an atomic step. The new block's history begins.
     fn try_leave_vector_as<
         L: LayoutMut,
         B: BufferMut<S::Item> + Drop,
@@ -237,19 +242,23 @@ pub trait CallsOf<S: Subsliceable> {
             × (pass.new ≡ pass.old))) }
         ensures none { IfNone result ((window.new ≡ window.old) × (pass.new ≡ pass.old)) };
 
-    /// The part of a window of several behind `at` places, as `ArcSliceMut::try_split_off_as`.
+    /// Splits a window of one of several writers: hands out the places behind the first `at`, with
+    /// the items that lie there. The places of a vector are moved to a native block first, of which
+    /// the pass becomes one.
     ///
     /// # Errors
     ///
-    /// Those of that call.
+    /// On a native block `CountFull`, exactly where `MAX_OWNERS` owners live, and on a vector
+    /// `AllocError`, where memory for the native block is refused. Nothing is changed then.
     ///
     /// # Allocates
     ///
-    /// As that call.
+    /// Once, on a vector.
     ///
     /// # History
     ///
-    /// As that call.
+    /// On a native block: Up, or Full where it is refused. On a vector: Down, without an atomic
+    /// step, and Up in the new block.
     fn try_split_off_as<L: LayoutMut, B: BufferMut<S::Item> + Drop, M: Drop, A: Allocator + Copy>(
         window: &mut ArcSliceMut<S, L, 0, B, M, A, Whole>,
         rt: &impl Wait,
@@ -267,19 +276,23 @@ pub trait CallsOf<S: Subsliceable> {
             (RefusesSplitAt window.old.place pass.old pass.new)) }
         ensures none { IfNone result ((window.new ≡ window.old) × (pass.new ≡ pass.old)) };
 
-    /// The part of a window of several before `at` places, as `ArcSliceMut::try_split_to_as`.
+    /// Splits a window of one of several writers: hands out the first `at` places, with the items
+    /// that lie there. The places of a vector are moved to a native block first, of which the pass
+    /// becomes one.
     ///
     /// # Errors
     ///
-    /// Those of that call.
+    /// On a native block `CountFull`, exactly where `MAX_OWNERS` owners live, and on a vector
+    /// `AllocError`, where memory for the native block is refused. Nothing is changed then.
     ///
     /// # Allocates
     ///
-    /// As that call.
+    /// Once, on a vector.
     ///
     /// # History
     ///
-    /// As that call.
+    /// On a native block: Up, or Full where it is refused. On a vector: Down, without an atomic
+    /// step, and Up in the new block.
     fn try_split_to_as<L: LayoutMut, B: BufferMut<S::Item> + Drop, M: Drop, A: Allocator + Copy>(
         window: &mut ArcSliceMut<S, L, 0, B, M, A, Whole>,
         rt: &impl Wait,
@@ -297,12 +310,13 @@ pub trait CallsOf<S: Subsliceable> {
             (RefusesSplitAt window.old.place pass.old pass.new)) }
         ensures none { IfNone result ((window.new ≡ window.old) × (pass.new ≡ pass.old)) };
 
-    /// Puts the other window's places behind this one's, as `ArcSliceMut::try_unsplit_as`; where it
-    /// doesn't, the other one stays in its place.
+    /// Puts the other window's places behind this one's, where this one is full and the other
+    /// begins where it ends, or where both stand on nothing. It answers `None` where they don't,
+    /// and the other window stays in its place.
     ///
     /// # History
     ///
-    /// As that call.
+    /// Joined on a block: Down of the other owner. Else nothing.
     fn try_unsplit_as<L: LayoutMut, B: BufferMut<S::Item> + Drop, M: Drop, A: Allocator + Copy>(
         window: &mut ArcSliceMut<S, L, 0, B, M, A, Whole>,
         other: &mut Option<ArcSliceMut<S, L, 0, B, M, A, Whole>>,
@@ -321,20 +335,23 @@ pub trait CallsOf<S: Subsliceable> {
         ensures refused { IfNone result (calls.shares ≡ true → IfSome other.old (λ w.
             can_join window.old w ≡ false)) };
 
-    /// An item more in a window of several, as `ArcSliceMut::try_push_as` pushes it. Refused, it is
-    /// let go.
+    /// Appends an item to a window of one of several writers, once there is room. A refused item is
+    /// dropped.
     ///
     /// # Errors
     ///
-    /// Those of that call.
+    /// Where the window has too few places, in this order: `NotUnique` where another owner of the
+    /// block lives, `CapacityOverflow` where the block would have to grow to more than 2^63 - 1
+    /// places or bytes, and `AllocError` where memory is refused. Nothing is changed then.
     ///
     /// # Allocates
     ///
-    /// As that call.
+    /// Once, where a first block is made or the block grows.
     ///
     /// # History
     ///
-    /// As that call.
+    /// On a block, where the window has too few places: Alone with the answer. Where a first block
+    /// is made, the pass becomes that block's.
     fn try_push_beside_as<L: LayoutMut, B: BufferMut<S::Item> + Drop, M: Drop, A: Allocator + Copy>(
         window: &mut ArcSliceMut<S, L, 0, B, M, A, Whole>,
         item: S::Item,
@@ -352,21 +369,23 @@ pub trait CallsOf<S: Subsliceable> {
             window.old window.new pass.old pass.new (Err e))) }
         ensures none { IfNone result ((window.new ≡ window.old) × (pass.new ≡ pass.old)) };
 
-    /// A copy of the items more in a window of several, which are legal, as
-    /// `ArcSliceMut::try_extend_from_slice_as` or `try_extend_from_str_as` puts it behind the
-    /// others.
+    /// Appends a copy of the items, which are legal, to a window of one of several writers, once
+    /// there is room.
     ///
     /// # Errors
     ///
-    /// Those of that call.
+    /// Where the window has too few places, in this order: `NotUnique` where another owner of the
+    /// block lives, `CapacityOverflow` where the block would have to grow to more than 2^63 - 1
+    /// places or bytes, and `AllocError` where memory is refused. Nothing is changed then.
     ///
     /// # Allocates
     ///
-    /// As that call.
+    /// Once, where a first block is made or the block grows.
     ///
     /// # History
     ///
-    /// As that call.
+    /// On a block, where the window has too few places: Alone with the answer. Where a first block
+    /// is made, the pass becomes that block's.
     fn try_extend_beside_as<
         L: LayoutMut,
         B: BufferMut<S::Item> + Drop,
@@ -391,15 +410,15 @@ pub trait CallsOf<S: Subsliceable> {
         ensures none { IfNone result ((window.new ≡ window.old) × (pass.new ≡ pass.old)) };
 }
 
-/// All of them: the calls of `Plain` and `ByteText`. W says whether there are small windows.
+/// The calls of `Plain` and `ByteText`: all of them. W says whether the kind has small windows.
 pub struct AllCalls<W: Smalls> {
     of: PhantomData<W>,
 }
 
-/// Text is copied whole, also behind other text, and no byte is pushed.
+/// The calls of `Text`. It is copied and appended as text, and no byte is pushed.
 pub struct TextCalls;
 
-/// Items that are moved are pushed, and never copied.
+/// The calls of `Owned`. Items are moved and pushed, and never copied.
 pub struct OwnedCalls;
 
 /// The items of a legal list of `Text`, as a `str`.

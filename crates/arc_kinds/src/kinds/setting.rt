@@ -1,4 +1,4 @@
-//! What a table is run under, as one word.
+//! The setting of a table, which clauses name by one word.
 ghost use Rattle.std.specs.Mem.{type_size};
 ghost use Rattle.arc_block.specs.LayoutFacts.{layout_facts};
 ghost use Rattle.arc_commands.specs.Changes.{Setting, setting_of};
@@ -8,8 +8,8 @@ use arc_block::layout::{Layout, LayoutMut};
 use arc_buffer::kinds::Slice;
 use std::alloc::Allocator;
 
-/// The kind of a table's windows under the layout L, in a table over A: each kind that tables have,
-/// under each layout. It has no call: clauses name by it what such a table is run under.
+/// The setting of a table over A, of windows of this kind under the layout L. Each kind that tables
+/// have has one, under each layout. The trait has no call: clauses name the setting by it.
 pub trait TableUnder<L, A>: Slice {
     /// What the layout and the kind are.
     ghost setting: { Setting Self.Item };

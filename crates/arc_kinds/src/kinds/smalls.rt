@@ -22,26 +22,26 @@ use arc_small::SmallArcSlice;
 use std::alloc::Allocator;
 use std::sync::Wait;
 
-/// Whether a kind has small windows: `HasSmall` or `NoSmall`.
+/// Whether a kind has small windows. `HasSmall` has them, and `NoSmall` hasn't.
 pub trait Smalls {
-    /// Whether it has.
+    /// Whether the kind has small windows.
     ghost small: { Bool };
 
-    /// Whether it has.
+    /// Whether the kind has small windows.
     fn has_small() -> bool
         ensures { result ≡ small };
 }
 
-/// A small window of the kind S. No caller's buffer is behind it.
+/// A small window of the kind S. It stands on no caller's buffer.
 pub type SmallWindow<S, L, M, A> = SmallArcSlice<<S as TableKind>::Bytes, L, Vec<u8>, M, A, Whole>;
 
 /// The calls of the small windows of a kind S.
 pub trait SmallOf<S: TableKind, L: Layout, M: Drop, A: Allocator + Copy>: Smalls {
-    /// What is seen of one: the window itself, or nothing where the kind has none.
+    /// The row of a small window: the window itself, or nothing where the kind has none.
     ghost seen: { PartsView ℕ M → PartsView S.Item M };
 
-    /// A small window over a copy of the items, which are legal, as
-    /// `SmallArcSlice::try_from_slice_as` makes it, or `None` where there is none.
+    /// A small window over a copy of the items, as `SmallArcSlice::try_from_slice_as` makes it, or
+    /// `None` where the kind has no small windows. The items are legal.
     ///
     /// # Errors
     ///
@@ -49,11 +49,11 @@ pub trait SmallOf<S: TableKind, L: Layout, M: Drop, A: Allocator + Copy>: Smalls
     ///
     /// # Allocates
     ///
-    /// Where there are more items than the limit.
+    /// Once, where there are more items than `inline_limit()`.
     ///
     /// # History
     ///
-    /// That of the block, if there is one, begins: the window is owner 0.
+    /// Where a block is made its history begins, with the window as owner 0.
     fn try_make_as(
         alloc: A,
         items: &[S::Item],
@@ -78,8 +78,8 @@ pub trait SmallOf<S: TableKind, L: Layout, M: Drop, A: Allocator + Copy>: Smalls
     ///
     /// # Errors
     ///
-    /// `OutOfRange` where it ends behind the items, `InvalidRange` where it ends before it starts,
-    /// `NotBoundary` where the items may not be cut there.
+    /// `OutOfRange` where the end is past the length, else `InvalidRange` where the start is past
+    /// the end, else `NotBoundary` where the kind may not be cut at one of them.
     fn check_range(
         window: &SmallWindow<S, L, M, A>,
         start: usize,
@@ -92,12 +92,13 @@ pub trait SmallOf<S: TableKind, L: Layout, M: Drop, A: Allocator + Copy>: Smalls
     ///
     /// # Errors
     ///
-    /// `OutOfRange` behind the items, `NotBoundary` where these may not be cut.
+    /// `OutOfRange` where that is past the length, else `NotBoundary` where the kind may not be cut
+    /// there.
     fn check_at(window: &SmallWindow<S, L, M, A>, at: usize) -> Result<(), RangeError>
         ensures answer { result ≡ edge_answer S.boundary (seen window.now).items at }
         ensures ok { IsOk result ↔ IsEdge S.boundary (seen window.now).items at };
 
-    /// Takes the first `by` items off a small window, which stays where it stands.
+    /// Takes the first `by` items off a small window. It stays where it stands.
     fn advance(window: &mut SmallWindow<S, L, M, A>, by: usize)
         requires { IsEdge S.boundary (seen window.old).items by }
         ensures { seen window.new ≡ record {
@@ -106,19 +107,18 @@ pub trait SmallOf<S: TableKind, L: Layout, M: Drop, A: Allocator + Copy>: Smalls
           role = (seen window.old).role;
         } };
 
-    /// Another small window with the same items, as `SmallArcSlice::try_clone_as` makes it.
+    /// Another small window with the same items: a copy of a short list, else one owner more of the
+    /// block. It takes no memory.
     ///
     /// # Errors
     ///
-    /// Those of that call.
-    ///
-    /// # Allocates
-    ///
-    /// As that call.
+    /// None for a short list. Else `CountFull` on a block that counts its owners, exactly where
+    /// `MAX_OWNERS` of them live, and `AllocError` on an `Arc` that is a block by itself, where
+    /// that refuses to be cloned.
     ///
     /// # History
     ///
-    /// As that call.
+    /// On a block that counts its owners: Up, or Full where it is refused.
     fn try_clone_as(
         window: &SmallWindow<S, L, M, A>,
         rt: &impl Wait,
@@ -131,20 +131,17 @@ pub trait SmallOf<S: TableKind, L: Layout, M: Drop, A: Allocator + Copy>: Smalls
         ensures refused { IfErr result (λ e.
             Refuses L.clone_wants (seen window.now).place pass.old pass.new e) };
 
-    /// A small window over the items from `start` to `end`, as `SmallArcSlice::try_subslice_as`
-    /// makes it.
+    /// A small window over the items from `start` to before `end`: a copy of a part of a short
+    /// list, else one owner more of the block. Without items, under a layout that has static data,
+    /// it stands on nothing. It takes no memory.
     ///
     /// # Errors
     ///
-    /// Those of that call.
-    ///
-    /// # Allocates
-    ///
-    /// As that call.
+    /// Those of `try_clone_as`, where the part stands on a block.
     ///
     /// # History
     ///
-    /// As that call.
+    /// Where the part stands on a block that counts its owners: Up, or Full where it is refused.
     fn try_subslice_as(
         window: &SmallWindow<S, L, M, A>,
         rt: &impl Wait,
@@ -163,11 +160,12 @@ pub trait SmallOf<S: TableKind, L: Layout, M: Drop, A: Allocator + Copy>: Smalls
             Refuses L.clone_wants (sub_place L.STATIC (window_of (seen window.now)) start end)
             pass.old pass.new e) };
 
-    /// Ends a small window, which is in its place. The last owner gives its block back.
+    /// Ends the small window that is in its place, and leaves `None` there. The last owner gives
+    /// its block back.
     ///
     /// # History
     ///
-    /// On a block that counts its owners Down.
+    /// On a block that counts its owners: Down.
     fn release_as(window: &mut Option<SmallWindow<S, L, M, A>>, pass: &mut Pass<Whole>)
         requires there { is_some window.old ≡ true }
         requires pass { IfSome window.old (λ w. IsPassAt (seen w).place pass.old) }
@@ -176,22 +174,23 @@ pub trait SmallOf<S: TableKind, L: Layout, M: Drop, A: Allocator + Copy>: Smalls
         ensures gone { window.new ≡ None };
 }
 
-/// A kind of bytes, of which there are small windows.
+/// A kind of bytes that has small windows.
 pub trait SmallKind: Subsliceable<Item = u8> {
-    /// A small window over a copy of the bytes, which are legal, as
-    /// `SmallArcSlice::try_from_slice_as` or `try_from_str_as` makes it.
+    /// A small window over a copy of the bytes, which are legal: in the window itself where they
+    /// are at most `inline_limit()`, else on a new native block. The pass, which is of no block,
+    /// becomes the block's.
     ///
     /// # Errors
     ///
-    /// Those of that call.
+    /// `AllocError` where memory for a block is refused; the pass is then as before.
     ///
     /// # Allocates
     ///
-    /// As that call.
+    /// Once, where there are more bytes than `inline_limit()`.
     ///
     /// # History
     ///
-    /// As that call.
+    /// Where a block is made its history begins, with the window as owner 0.
     fn try_small_as<L: Layout, M: Drop, A: Allocator + Copy>(
         alloc: A,
         items: &[u8],
@@ -205,10 +204,10 @@ pub trait SmallKind: Subsliceable<Item = u8> {
             × (pass.new ≡ pass.old)) };
 }
 
-/// There are small windows, of a kind of bytes.
+/// The kind, which is one of bytes, has small windows.
 pub struct HasSmall;
 
-/// There are none.
+/// The kind has no small windows.
 pub struct NoSmall;
 
 impl SmallKind for Plain<u8> {
@@ -328,7 +327,8 @@ impl<
     }
 }
 
-// No table has one, since none is made: so what is seen of one is nothing, whatever it is.
+// A table of such a kind makes no small window and so has none. The row of one is therefore defined
+// as nothing.
 impl<S: TableKind, L: Layout, M: Drop, A: Allocator + Copy> SmallOf<S, L, M, A> for NoSmall {
     ghost seen = { λ window. record { items = []; place = nowhere; role = inline } };
 

@@ -22,7 +22,7 @@ use arc_slots::window::Held;
 use arc_small::inline_limit;
 use std::alloc::Allocator;
 
-/// A small window's slot, of a window that was made of this many items.
+/// A small window's slot, of a window over so many items.
 fn small<S: Commands<A>, L: Layout, B: BufferMut<S::Item> + Drop, M: Drop, A: Allocator + Copy>(
     alloc: A,
     items: &[S::Item],

@@ -80,9 +80,9 @@ module _ {H : Type 0} where
       IsPassOf t new × (new.trace.number ≡ old.trace.number)
       × (old.trace.ready ≡ true → new.trace.ready ≡ true)
 
-  -- The pass added these entries, one or none, to the history before them. That is all that it had
-  -- seen and what other passes added since; under `Whole` nothing came between. What it has seen
-  -- now is legal.
+  -- The pass added these entries, one or none, to the history before them. That history is all that
+  -- the pass had seen, and what other passes added since; under `Whole` these added nothing. What
+  -- the pass has seen with these entries is legal.
   pub record Appends (t : BlockId) (old new : Pass H) (before : List Line)
       (entries : List Entry) : Type 0 where
     pub same : IsSamePass t old new
@@ -108,8 +108,8 @@ module _ {H : Type 0} where
     pub learnt : IsPrefix (history_of other) (history_of new)
     pub own : mine new ≡ mine old
 
-  -- After what the pass sees now this owner lives, and no other. It added nothing, and under
-  -- `Whole` it had seen all of it before.
+  -- After what the pass has seen this owner lives, and no other. The pass added nothing; under
+  -- `Whole` it had seen all of that before.
   pub record SeesAlone (o : Owner) (old new : Pass H) : Type 0 where
     pub same : IsSamePass o.block old new
     pub kept : IsPrefix (history_of old) (history_of new)
@@ -117,24 +117,24 @@ module _ {H : Type 0} where
     pub undisturbed : o.block.whole ≡ true → history_of new ≡ history_of old
     pub alone : IsAlone o.number (seen new)
 
-  -- uniqueness was read: the answer is yes exactly where no other owner lived. On a lone word that
-  -- is so, and adds nothing
+  -- Uniqueness was read. The answer is yes exactly where no other owner lived. On a lone word it is
+  -- yes, and no entry is added.
   pub record Asks (o : Owner) (old new : Pass H) (found : Bool) : Type 0 where
     pub before : List Line
     pub added : Appends o.block old new before
         (if is_counted o.block.began (entries_of before) then Alone o.number found ∷ [] else [])
     pub exact : IsTrue found ↔ IsAlone o.number (entries_of before)
 
-  -- nothing was done yet, or the exchange was lost that was to promote a word which the pass didn't
-  -- know to be counted
+  -- No entry was added; or the exchange that promotes a lone word lost, where the pass didn't know
+  -- that the word has a count.
   abbrev pub MayJoin : Owner → Pass H → Pass H → Type 0
   MayJoin o old new =
       (new ≡ old)
       ⊎ ((before : List Line) × (is_counted o.block.began (entries_of old.trace.lines) ≡ false)
       × Appends o.block old new before (Joined o.number ∷ []))
 
-  -- through this owner another one of the same block was made: the count was raised, or a lone word
-  -- promoted. Its number is how many the history had
+  -- Through this owner another one of the same block was made: the count was raised, or a lone word
+  -- was promoted. The new owner's number is how many owners the history had.
   pub record MakesAnother (o : Owner) (old new : Pass H) (other : Owner) : Type 0 where
     pub middle : Pass H
     pub joined : MayJoin o old middle
@@ -156,8 +156,8 @@ module _ {H : Type 0} where
     pub added : Appends o.block middle new before (Full o.number ∷ [])
     pub full : length (live_owners (entries_of before)) ≡ o.block.most
 
-  -- No owner more was made: the count was found at its greatest; or, where an owner more may want
-  -- memory and the pass didn't know that the word has a count, that was refused, and nothing was
+  -- No owner was made. Either the count was found at its greatest; or memory was refused, where one
+  -- owner more may want some and the pass didn't know that the word has a count, and no entry was
   -- added.
   abbrev pub RefusesOwner : (wants : Bool) → Owner → Pass H → Pass H → OwnerError → Type 0
   RefusesOwner wants o old new CountFull = FindsFull o old new
@@ -192,8 +192,8 @@ module _ {H : Type 0} where
     pub made : IsNewPass o new
     pub left : Leaves o new after last
 
--- What a drop leaves of an owner where a block has many passes: it ended with a new pass, and the
--- pass is one that is there, which has seen that.
+-- What a drop leaves of an owner, where a block has many passes: it ended with a new pass, and
+-- there is a pass that has seen that.
 pub record EndsShown (H : Type 0) (real : BlockId → ℕ → List Line → Type 0) (o : Owner)
     : Type 0 where
   pub after : Pass H

@@ -66,13 +66,13 @@ RaisedIf t p r by new b = MadeOne t p.number p.lines by.owner b r.lines (new.hel
 abbrev pub IsLodged : WordBorrow → Ptr → Lease → Type 0
 IsLodged g place l = (g.at ≡ place) × (g.lifetime ≡ l.lifetime)
 
--- an owner asked for the block back: it is the same one, and where it was found alone the block is
--- its own
+-- An owner asked for the block back. It is the same owner, and where it was found alone it has the
+-- block to itself.
 abbrev pub Claimed : {H : Type 0} → BlockId → OwnerToken H → OwnerToken H → Bool → Type 0
 Claimed t own new found = (new.held ≡ true) × (new.block ≡ t) × (new.owner ≡ own.owner)
     × (new.born ≡ own.born) × (new.lease ≡ lease_after own.lease found)
 
--- what the word counts once there is an owner more, of a block that so many may have
+-- what the word counts once there is one owner more, of a block that so many may have
 abbrev pub next_count : (most count : ℕ) → ℕ
 next_count most count = count + 1
 

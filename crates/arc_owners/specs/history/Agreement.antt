@@ -20,8 +20,8 @@ pub record Tells (began : Beginning) (m : Machine) (history : List Entry) : Type
   pub counted : m.counted ≡ is_counted began history
   pub lone : m.counted ≡ false → length (live_owners history) ≡ 1
 
--- the machine after its sole owner ended the block without a step: the word is as it was, and
--- nobody lives
+-- the machine after its sole owner ended the block without a step: the word is as it was, and no
+-- owner lives
 abbrev pub ended_by : ℕ → Machine → Machine
 ended_by owner m = record m { live = []; entries = m.entries ++ Down owner ∷ [] }
 

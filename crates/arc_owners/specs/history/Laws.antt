@@ -13,12 +13,12 @@ abbrev pub LosersAfterWinner : List Entry → Type 0
 LosersAfterWinner history = (before after : List Entry) (by : ℕ)
     → history ≡ before ++ Joined by ∷ after → IsTrue (is_promoted before)
 
--- nothing stands after nobody lives
+-- nothing stands after no owner lives
 abbrev pub NothingAfterLast : List Entry → Type 0
 NothingAfterLast history = (before after : List Entry) → history ≡ before ++ after
     → live_owners before ≡ [] → after ≡ []
 
--- the entry after which nobody lives is the Down of an owner that lived alone
+-- the entry after which no owner lives is the Down of an owner that lived alone
 abbrev pub ReleasedByLast : List Entry → Type 0
 ReleasedByLast history =
     (before after : List Entry) (entry : Entry) → history ≡ before ++ entry ∷ after

@@ -18,8 +18,8 @@ use crate::mark::{Internal, Mark};
 use std::marker::PhantomData;
 use std::sync::Wait;
 
-/// One attempt to raise a count: nothing where the number changed between its two steps, and then
-/// no entry is added.
+/// One attempt to raise a count: `None` where the number changes between its two steps, and then no
+/// entry is added.
 #[inline(always)]
 pub(crate) fn try_up<H: Mark>(
     word: &Word,
@@ -55,7 +55,7 @@ pub(crate) fn try_up<H: Mark>(
     }))
 }
 
-/// What an owner's end leaves that found this number.
+/// What is left by the end of an owner that found this number.
 #[inline(always)]
 pub(crate) fn released(found: u64, last: EndTokens) -> Release
     requires { last.last ≡ (found == 1) }
@@ -70,9 +70,10 @@ pub(crate) fn released(found: u64, last: EndTokens) -> Release
 }
 
 impl<const MAX: u64, H: Mark> Owners<MAX, H> {
-    /// The count of a new block, which is 1: one owner, number 0, and a pass that has seen nothing.
+    /// The count of a new block, which is 1. The one owner is number 0, and the pass has seen
+    /// nothing.
     ///
-    /// `MAX`, at least 2, is how many owners may live at once. Takes no memory.
+    /// `MAX`, at least 2, is how many owners may live at once. It takes no memory.
     #[tactic(auto, using(crate::proofs::count::Calls::first_of))]
     pub fn new() -> (Owners<MAX, H>, Share<H>, Pass<H>)
         requires { 2 ≤ MAX }
@@ -98,14 +99,15 @@ impl<const MAX: u64, H: Mark> Owners<MAX, H> {
         )
     }
 
-    /// Whether the owner is alone, at the point of the one load that this takes.
+    /// Whether the owner is alone, at the point of the one load that this takes. It takes no
+    /// memory.
     ///
-    /// Takes no memory. Another thread may raise the count through the same owner right after:
-    /// `claim_as` is for who wants the block back.
+    /// Another thread may raise the count through the same owner right after. Whoever wants the
+    /// block back calls `claim_as`.
     ///
     /// # History
     ///
-    /// Alone with the answer; none on a lone word, where the answer is yes.
+    /// Alone with the answer. On a lone word, where the answer is yes, nothing.
     #[tactic(auto, using(crate::proofs::count::Calls::asks_at))]
     pub fn alone_as(&self, by: &Share<H>, pass: &mut Pass<H>) -> bool
         requires share { IsOwnerOf (block_of self.now) by.now }
@@ -116,10 +118,10 @@ impl<const MAX: u64, H: Mark> Owners<MAX, H> {
         self.word.load(&by.right, &mut pass.trace) == 1
     }
 
-    /// A new owner of the same block.
+    /// A new owner of the same block. It takes no memory.
     ///
-    /// Takes no memory. It takes `rt` since a raise that another thread disturbs is tried again. On
-    /// a word that began lone the pass has to know of its promotion.
+    /// It takes `rt` since a raise that another thread disturbs is tried again. On a word that
+    /// began lone, the pass has to know that it has been promoted.
     ///
     /// # Errors
     ///
@@ -127,7 +129,7 @@ impl<const MAX: u64, H: Mark> Owners<MAX, H> {
     ///
     /// # History
     ///
-    /// Up, or Full where refused.
+    /// Up, or Full where it is refused.
     pub fn up_as(
         &self,
         rt: &impl Wait,
@@ -152,11 +154,10 @@ impl<const MAX: u64, H: Mark> Owners<MAX, H> {
         unreachable!()
     }
 
-    /// Ends an owner by one subtraction, which is not tried again, and says whether that was the
-    /// last owner.
+    /// Ends an owner by one subtraction from the count, which is not tried again, and says whether
+    /// that was the last owner. It takes no memory.
     ///
-    /// Takes no memory. The last one gets the right to end the lifetime for which the block was
-    /// lent to the owners.
+    /// The last one gets the right to end the lifetime for which the block was lent to the owners.
     ///
     /// # History
     ///
@@ -175,7 +176,7 @@ impl<const MAX: u64, H: Mark> Owners<MAX, H> {
         released(found, last)
     }
 
-    /// Afterwards the first pass has seen at least what the other had. It adds no entry and takes
+    /// From here on the first pass has seen at least what the other had. It adds no entry and takes
     /// no memory.
     pub fn learn(&self, pass: &mut Pass<H>, other: &Pass<H>)
         requires pass { IsPassOf (block_of self.now) pass.old }

@@ -1,4 +1,4 @@
-//! An owner's right whose share of the lifetime is elsewhere, for as long as that is used.
+//! An owner's right, while its share of the lifetime is elsewhere.
 ghost use Rattle.std.specs.Prelude.{◌≡◌, ℕ, true, List};
 ghost use base.Fml.{Share};
 ghost use base.SetCodes.{coded_share};
@@ -12,8 +12,8 @@ use crate::lifetime::LifetimeToken;
 use crate::mark::Open;
 use std::marker::{Model, PhantomData};
 
-/// The right of an owner to whom a block is lent, without its share of the lifetime for which it
-/// is. No step can be made with it, but a new pass can be had. It has no bytes, and is neither
+/// The right of an owner to whom a block is lent, without its share of the lifetime for which that
+/// is lent. No step can be made with it, but it gives a new pass. It has no bytes, and is neither
 /// copied nor dropped.
 pub struct OwnerWithoutLifetime<H> {
     pub(crate) marker: PhantomData<H>,
@@ -33,7 +33,7 @@ impl<H> Model for OwnerWithoutLifetime<H> {
 impl<H> OwnerWithoutLifetime<H> {
     ghost use Rattle.arc_owners.specs.count.Steps.{IsWithoutLifetime};
 
-    /// The right again, with its share of the lifetime.
+    /// The right, with its share of the lifetime again.
     pub(crate) fn with_lifetime(self, lifetime: LifetimeToken) -> OwnerToken<H>
         requires lent { self.lease.is_lent ≡ true }
         requires lifetime { (lifetime.lifetime ≡ self.lease.lifetime)
@@ -60,8 +60,8 @@ impl OwnerWithoutLifetime<Open> {
     ghost use Rattle.std.specs.Prelude.{false};
     ghost use Rattle.arc_owners.specs.count.Steps.{IsForkOf};
 
-    /// A new pass of this owner's block. A right under `Open` alone gives one, as of an owner that
-    /// has its share.
+    /// A new pass of this owner's block. Only a right under `Open` gives one, as that of an owner
+    /// that has its share does.
     pub(crate) fn fork(&self) -> PassState
         requires { self.now.block.whole ≡ false }
         ensures { IsForkOf self.now.block self.now.born result }

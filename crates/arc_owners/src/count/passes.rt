@@ -10,7 +10,7 @@ use crate::mark::{Mark, Stepping};
 use std::marker::PhantomData;
 
 impl<H: Mark> Pass<H> {
-    /// A pass of no block. Takes no memory.
+    /// A pass of no block. It takes no memory.
     pub fn none() -> Pass<H>
         ensures { IsPassOfNone result }
     {
@@ -20,7 +20,7 @@ impl<H: Mark> Pass<H> {
         }
     }
 
-    /// What a pass of a block has seen is legal.
+    /// What a pass of a block has seen is legal. Does nothing: its contract is the law.
     pub fn attest(&self)
         ensures legal { IsOfBlock self.now
             → IsLegal (pass_block self.now).most (pass_block self.now).began (seen self.now) }
@@ -28,8 +28,8 @@ impl<H: Mark> Pass<H> {
         self.trace.attest();
     }
 
-    /// Shows that a pass is there, which has seen this: a body that is generic in the mark can say
-    /// so by no other call. The pass is used up, so nothing is added with it afterwards.
+    /// Shows that there is a pass that has seen this. A body that is generic in the mark can say so
+    /// by no other call. The pass is used up, so no entry is added with it after that.
     pub fn show(self)
         ensures { IsOfBlock self
             → H.real (pass_block self) (pass_number self) (history_of self) }
@@ -37,8 +37,8 @@ impl<H: Mark> Pass<H> {
         H::show(self.trace);
     }
 
-    /// Afterwards the pass has seen at least what another of the same block had. It adds no entry
-    /// and takes no memory.
+    /// From here on the pass has seen at least what another one of the same block had. It adds no
+    /// entry and takes no memory.
     pub fn learn(&mut self, other: &Pass<H>)
         requires bound { IsOfBlock self.old }
         requires other { IsPassOf (pass_block self.old) other.now }
@@ -49,8 +49,8 @@ impl<H: Mark> Pass<H> {
 }
 
 impl<H: Stepping> Share<H> {
-    /// A new pass of the owner's block, which has seen at least the entry that made this owner, and
-    /// made nothing. It adds no entry and takes no memory.
+    /// A new pass of the owner's block. It has seen at least the entry that made this owner, and
+    /// nothing was made with it. It adds no entry and takes no memory.
     pub fn pass(&self) -> Pass<H>
         ensures { IsNewPass (owner_of self.now) result }
     {
@@ -62,8 +62,8 @@ impl<H: Stepping> Share<H> {
 }
 
 impl<H: Stepping> Sole<H> {
-    /// A new pass, which has seen at least the entry that made this owner, and made nothing. It
-    /// adds no entry and takes no memory.
+    /// A new pass of the block. It has seen at least the entry that made this owner, and nothing
+    /// was made with it. It adds no entry and takes no memory.
     pub fn pass(&self) -> Pass<H>
         ensures { IsNewPass (sole_owner self.now) result }
     {
@@ -75,8 +75,8 @@ impl<H: Stepping> Sole<H> {
 }
 
 impl<const MAX: u64, H: Stepping> Owners<MAX, H> {
-    /// A new pass, which has seen at least the entry that made this owner, and made nothing. It
-    /// adds no entry and takes no memory.
+    /// A new pass of the block. It has seen at least the entry that made this owner, and nothing
+    /// was made with it. It adds no entry and takes no memory.
     pub fn pass(&self, by: &Share<H>) -> Pass<H>
         requires share { IsOwnerOf (block_of self.now) by.now }
         ensures { IsNewPass (owner_of by.now) result }

@@ -1,5 +1,5 @@
-//! The steps on the place of a word, which lies in a block's memory. A block may be gone before a
-//! release returns.
+//! The steps on a word by its place in a block's memory. The block may be gone before the call that
+//! ends an owner returns.
 ghost use Rattle.std.specs.Prelude.{◌≡◌, IfOk, IfErr, IfSome, IfNone, true, false, is_ok};
 ghost use Rattle.arc_owners.specs.count.Calls.{owner_of, lease_of, sole_owner, IsOwnerOf, IsPassOf};
 ghost use Rattle.arc_owners.specs.count.Calls.{Asks, MakesAnother, FindsFull, Leaves, IsTermOf};
@@ -16,8 +16,8 @@ use crate::leave::RaiseLeave;
 use crate::mark::Mark;
 
 impl<const MAX: u64, H: Mark> Owners<MAX, H> {
-    /// One attempt of `up_as` on the place of the word: nothing where another thread's step came
-    /// between, and then no entry is added. Who calls it tries again.
+    /// One attempt of `up_as` on the place of the word: `None` where another thread's step came
+    /// between, and then no entry is added. The caller tries again.
     ///
     /// # Safety
     ///

@@ -1,4 +1,4 @@
-//! Sole owners: a block that one owner has to itself, lent, or ended without a step.
+//! Sole owners: one owner has a block to itself, lends it, or ends it without an atomic step.
 ghost use Rattle.std.specs.Prelude.{◌≡◌, ◌≢◌, ◌≤◌, ◌==◌, true, false, IfOk, IfErr, is_ok};
 ghost use Rattle.arc_owners.specs.history.Histories.{Counted, IsAlone};
 ghost use Rattle.arc_owners.specs.count.Calls.{block_of, owner_of, sole_owner, lease_of, seen};
@@ -14,7 +14,7 @@ use crate::lifetime::LifetimeToken;
 use crate::mark::{Internal, Mark};
 use std::marker::PhantomData;
 
-/// What an owner has that asked for the block back, and found this number.
+/// What an owner has that asks for the block back, and finds this number.
 pub(crate) fn claimed<H: Mark>(
     found: u64,
     right: OwnerToken<H>,
@@ -44,10 +44,10 @@ pub(crate) fn claimed<H: Mark>(
 }
 
 impl<const MAX: u64, H: Mark> Owners<MAX, H> {
-    /// The count of a new block, which is 1: one owner, number 0, who has the block whole, and a
-    /// pass that has seen nothing.
+    /// The count of a new block, which is 1. The one owner is number 0 and has the block whole, and
+    /// the pass has seen nothing.
     ///
-    /// `MAX`, at least 2, is how many owners may live at once. Takes no memory.
+    /// `MAX`, at least 2, is how many owners may live at once. It takes no memory.
     pub fn new_sole() -> (Owners<MAX, H>, Sole<H>, Pass<H>)
         requires { 2 ≤ MAX }
         ensures sole { (sole_owner result.1).block ≡ block_of result.0 }
@@ -73,13 +73,12 @@ impl<const MAX: u64, H: Mark> Owners<MAX, H> {
     }
 
     /// Takes the block back where the owner is alone, at the point of the one load that this takes,
-    /// as `Arc::try_unwrap` does.
-    ///
-    /// Where other owners live, this one is handed back as it was. Takes no memory.
+    /// as `Arc::try_unwrap` does. Where other owners live, this one comes back as before. It takes
+    /// no memory.
     ///
     /// # History
     ///
-    /// Alone with the answer; none on a lone word.
+    /// Alone with the answer. On a lone word nothing.
     #[tactic(auto, using(crate::proofs::count::Calls::asks_of))]
     pub fn claim_as(
         &self,
@@ -102,7 +101,7 @@ impl<const MAX: u64, H: Mark> Owners<MAX, H> {
 }
 
 impl<H: Mark> Sole<H> {
-    /// Shows a pass the block's whole history so far, in which no other owner lives. It adds no
+    /// Shows a pass the block's whole history up to here, in which no other owner lives. It adds no
     /// entry and takes no memory.
     #[tactic(auto, using(crate::proofs::count::Calls::sees_alone))]
     pub fn only(&self, pass: &mut Pass<H>)
@@ -126,8 +125,8 @@ impl<H: Mark> Sole<H> {
         }
     }
 
-    /// The same, for a lifetime that the owner has whole, with a note of what else is lent for it:
-    /// all owners of the block have this note. It adds no entry and takes no memory.
+    /// As `lend`, for a lifetime that the owner has whole. All owners of the block have a note of
+    /// what else is lent for it. It adds no entry and takes no memory.
     pub fn lend_for(self, lifetime: LifetimeToken) -> Share<H>
         ghost note: { LentNote }
         requires { lifetime.share ≡ full_share }
@@ -143,7 +142,7 @@ impl<H: Mark> Sole<H> {
         }
     }
 
-    /// Ends this owner, the last one, without an atomic step: the word stays as it was. Takes no
+    /// Ends this owner, the last one, without an atomic step: the word stays as it is. It takes no
     /// memory.
     ///
     /// # History

@@ -1,5 +1,5 @@
-//! The word of a count, and what stands behind it in the proofs. The walks stand here; `Owners` and
-//! its tokens are thin wrappers.
+//! The word of a count, and the ghost state behind it. The proofs of the steps are here; `Owners`
+//! and its tokens only wrap them.
 ghost use Rattle.std.specs.Prelude.{◌≡◌, ℕ, Bool, true, false, List};
 ghost use base.Fml.{fsep, fex};
 ghost use types.Logic.{sem};
@@ -40,8 +40,8 @@ impl Move for Word {
 
 /// The right of one owner of a block under the mark `H`, where it is held. It has no bytes.
 ///
-/// The mark is in its type, so that a body which is generic in the mark can't ask for what one mark
-/// alone allows: whatever such a body finds out at run time, it is no bound on a type.
+/// The mark is in its type. So a body that is generic in the mark can't ask for what one mark alone
+/// allows: what such a body finds out at run time is no bound on a type.
 pub struct OwnerToken<H> {
     pub(crate) marker: PhantomData<H>,
     pub(crate) ghost held: { Bool },
@@ -57,8 +57,8 @@ impl<H> Model for OwnerToken<H> {
     ghost also_shares = { λ r _ κ. right_shares r.held r.block r.owner r.lease r.born κ };
 }
 
-/// What a caller has seen of a block's history, and made of it, where it is of a block. It has no
-/// bytes.
+/// What a caller has seen of a block's history, and the entries that it made, where it is of a
+/// block. It has no bytes.
 pub struct PassState {
     pub(crate) marker: PhantomData<()>,
     pub(crate) ghost bound: { Bool },
@@ -75,7 +75,7 @@ impl Model for PassState {
 }
 
 /// That a count's word lies at a place for as long as its block is lent. It has no bytes, and can
-/// be had again.
+/// be had more than once.
 pub struct WordBorrow {
     pub(crate) marker: PhantomData<()>,
     pub ghost block: { BlockId } by { block_id_coded },
@@ -89,8 +89,8 @@ impl Model for WordBorrow {
     ghost also_shares = { λ l _ κ. word_borrow l.block l.at l.lifetime };
 }
 
-/// What an owner's end leaves: of the last owner, the right to end the lifetime for which the block
-/// is lent.
+/// What the end of an owner leaves: of the last owner, the right to end the lifetime for which the
+/// block is lent.
 pub struct EndTokens {
     marker: PhantomData<()>,
     pub(crate) ghost last: { Bool },
@@ -108,7 +108,8 @@ impl Word {
     ghost use Rattle.arc_owners.specs.count.Steps.{FullIf, RaisedIf, Ends, Claimed, IsLodged};
     ghost use Rattle.std.specs.Prelude.{◌≢◌, ◌≤◌, []};
 
-    /// The word of a new block with one owner, to whom it is lent or not, its right, and a pass.
+    /// The word of a new block, its one owner's right, and a pass. The block is lent to that owner,
+    /// or not.
     pub(crate) fn open<H>(most: u64, whole: bool, lent: bool) -> (Word, OwnerToken<H>, PassState)
         requires { 1 ≤ most }
         ensures { IsOpened most whole lent result.0 result.1 result.2 }
@@ -125,7 +126,7 @@ impl Word {
         )
     }
 
-    /// Reads the number, which tells whether the owner is alone.
+    /// Reads the number, which says whether the owner is alone.
     pub(crate) fn load<H>(&self, by: &OwnerToken<H>, pass: &mut PassState) -> u64
         requires { IsRightOf self.now by.now × IsOf self.now pass.old }
         ensures { SamePass self.now pass.old pass.new
@@ -134,7 +135,7 @@ impl Word {
         unsafe { raw::load::<Brand>(self as *const Self as *const u64, SeqCst) }
     }
 
-    /// Reads the number. It is an entry where it is the greatest.
+    /// Reads the number. Where it is the greatest, that is an entry.
     pub(crate) fn load_for_raise<H>(&self, by: &OwnerToken<H>, pass: &mut PassState) -> u64
         requires { IsHeld self.now by.now × IsOf self.now pass.old }
         ensures { SamePass self.now pass.old pass.new
@@ -143,8 +144,8 @@ impl Word {
         unsafe { raw::load::<Brand>(self as *const Self as *const u64, SeqCst) }
     }
 
-    /// The number found, which has become `next` if it was `old`, and then there is a new owner. It
-    /// is for who has leave to raise a count.
+    /// Puts `next` in the place of `old`, and makes a new owner, where the number is `old`. It
+    /// answers the number that it finds. Only a caller with leave to raise a count can call it.
     #[inline(always)]
     pub(crate) fn raise<H>(
         &self,
@@ -164,7 +165,7 @@ impl Word {
         self.compare_exchange(by, pass, new, old, next)
     }
 
-    /// The same, asking for no leave: `raise` alone calls it.
+    /// The same without the leave. Only `raise` calls it.
     fn compare_exchange<H>(
         &self,
         by: &OwnerToken<H>,
@@ -181,7 +182,7 @@ impl Word {
         unsafe { exchange::<Brand>(self as *const Self as *const u64, old, next) }
     }
 
-    /// The number found, which is one less now, and this owner has ended.
+    /// Takes one off the number, which ends this owner. It answers the number that it finds.
     pub(crate) fn subtract<H>(
         &self,
         own: &mut OwnerToken<H>,
@@ -196,8 +197,8 @@ impl Word {
         unsafe { raw::fetch_sub::<Brand>(self as *const Self as *const u64, 1, SeqCst) }
     }
 
-    /// The same on the place of a word that lies there for as long as the block is lent, and that
-    /// may be gone afterwards.
+    /// The same by the place of a word that lies there for as long as the block is lent. It may be
+    /// gone after the step.
     pub(crate) unsafe fn subtract_raw<H>(
         place: *const u64,
         lodging: &WordBorrow,
@@ -231,7 +232,7 @@ impl Word {
         unsafe { raw::load::<Brand>(self as *const Self as *const u64, SeqCst) }
     }
 
-    /// The same on the place of a word that lies there for as long as the block is lent.
+    /// The same by the place of a word that lies there for as long as the block is lent.
     pub(crate) unsafe fn claim_raw<H>(
         place: *const u64,
         lodging: &WordBorrow,
@@ -268,7 +269,7 @@ impl<H> OwnerToken<H> {
         }
     }
 
-    /// A sole owner who has the block back ends, without a step.
+    /// A sole owner who has the block back ends, without an atomic step.
     pub(crate) fn finish(&mut self, pass: &mut PassState)
         requires { IsSole self.old.block self.old × IsOf self.old.block pass.old }
         ensures { SamePass self.old.block pass.old pass.new
@@ -290,7 +291,8 @@ impl<H> OwnerToken<H> {
             × (self.new.lease.is_lent ≡ true) × (self.new.lease.note ≡ no_note) }
     {}
 
-    /// The same, for a lifetime that the owner has whole, with a note of what else is lent for it.
+    /// The same, for a lifetime that the owner has whole, and with a note of what else is lent for
+    /// it.
     pub(crate) fn lend_for(&mut self, lifetime: LifetimeToken)
         ghost note: { LentNote }
         requires { (self.old.held ≡ true) × (self.old.lease.is_lent ≡ false)
@@ -351,8 +353,8 @@ impl OwnerToken<Open> {
     ghost use Rattle.arc_owners.specs.count.Invariant.{made_by};
     ghost use Rattle.arc_owners.specs.count.Steps.{IsFork};
 
-    /// A new pass of this owner's block. A right under `Open` alone gives one, so a body that is
-    /// generic in the mark has none but those that it was given.
+    /// A new pass of this owner's block. Only a right under `Open` gives one. So a body that is
+    /// generic in the mark has only the passes that it is given.
     pub(crate) fn fork(&self) -> PassState
         requires { (self.now.held ≡ true) × (self.now.block.whole ≡ false) }
         ensures { IsFork self.now result }
@@ -409,7 +411,7 @@ impl WordBorrow {
         unsafe { &*(place as *const Word) }
     }
 
-    /// The same again.
+    /// A copy of it, for the same word.
     pub fn again(&self) -> WordBorrow
         ensures { (result.block ≡ self.now.block) × (result.at ≡ self.now.at)
             × (result.lifetime ≡ self.now.lifetime) }

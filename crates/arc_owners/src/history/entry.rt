@@ -5,7 +5,7 @@ ghost use Rattle.std.specs.Prelude.{◌≡◌};
 /// legal). Owners are told apart by numbers, and the first owner of a block is 0.
 #[derive(Clone, Copy, Debug, PartialEq, Eq)]
 pub enum Entry {
-    /// The count was raised through the first owner for the second one.
+    /// The count was raised through the first owner, which made the second one.
     Up(u64, u64),
     /// The count was found at its greatest through this owner.
     Full(u64),

@@ -1,12 +1,12 @@
 //! The events of the word machine.
 
-/// One atomic step on a block's words, an event of the word machine (`Machine` in specs/). `thread`
-/// is the number of the thread that makes it, `by` that of the live owner through which it acts,
-/// `seen` the count that it found, and `new` the number of the owner that it makes, which was never
-/// live. Where it isn't allowed it changes nothing.
+/// One atomic step on a block's word, an event of the word machine (`Machine` in specs/). `thread`
+/// is the number of the thread that makes it, and `by` that of the live owner through which it
+/// acts. `seen` is the count that it finds. `new` is the number of the owner that it makes, which
+/// no owner had before. An event that isn't allowed changes nothing.
 #[derive(Clone, Copy, Debug, PartialEq, Eq)]
 pub enum Event {
-    /// A load of the word. Where that is lone, the thread is ready from then on.
+    /// A load of the word. Where the word is lone, the thread is ready afterwards.
     Load {
         thread: u64,
         by: u64,

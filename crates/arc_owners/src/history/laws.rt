@@ -12,11 +12,12 @@ ghost use Rattle.arc_owners.specs.history.Laws.{ReleasedByLast, AloneIsExact};
 use super::entry::Entry;
 use super::event::Event;
 
-/// The law of every interleaving. Whatever these events are and whichever threads make them, the
-/// run of the word machine agrees with a legal history of owners, on a block that began with a
-/// count as on one that began as a lone vector. `MAX` is the greatest count. The contract is the
-/// whole of it: there is nothing to run, and no memory to take. The words are those of `Histories`,
-/// `Machine`, `Agreement` and `Laws` in specs/.
+/// The law of every interleaving. Whatever these events are, and whichever threads make them, the
+/// run of the word machine agrees with a legal history of owners: on a block that begins with a
+/// count, and on one that begins as a lone vector. `MAX` is the greatest count.
+///
+/// Does nothing: its contract is the law, in the words of `Histories`, `Machine`, `Agreement` and
+/// `Laws` in specs/.
 pub fn keeps<const MAX: u64>(events: &[Event])
     requires { 2 ≤ MAX }
     // The run agrees with the history of its entries.
@@ -25,7 +26,7 @@ pub fn keeps<const MAX: u64>(events: &[Event])
     // Each history with which the run agrees is legal.
     ensures legal { (began : Beginning) (history : List AnyEntry) →
         RunAgrees MAX began events.now history → IsLegal MAX began history }
-    // The count is the number of live owners, on a word that has one.
+    // On a word that has a count, it is the number of live owners.
     ensures counts_owners { (began : Beginning) → let m = after_events MAX began events.now in
         IsTrue m.counted → m.count ≡ length (live_owners m.entries) }
     ensures within { (began : Beginning) → (after_events MAX began events.now).count ≤ MAX }
@@ -39,12 +40,12 @@ pub fn keeps<const MAX: u64>(events: &[Event])
         RunAgrees MAX began events.now history → ReleasedByLast history }
     ensures alone_is_exact { (began : Beginning) (history : List AnyEntry) →
         RunAgrees MAX began events.now history → AloneIsExact history }
-    // Once nobody lives no event does anything.
+    // Once no owner lives no event does anything.
     ensures no_event_after_last { (began : Beginning) (later : List AnyEvent) →
         let m = after_events MAX began events.now in
         m.live ≡ [] → run MAX m later ≡ m }
-    // A sole owner may end the block without a step: the history with its Down agrees, and nobody
-    // lives after it.
+    // A sole owner may end the block without an atomic step: the history with its Down agrees, and
+    // no owner lives after it.
     ensures sole_owner_ends { (began : Beginning) (owner : ℕ) →
         let m = after_events MAX began events.now in
         let history = m.entries ++ Down owner ∷ [] in
@@ -55,9 +56,9 @@ pub fn keeps<const MAX: u64>(events: &[Event])
         m.live ≡ owner ∷ [] → run MAX (ended_by owner m) later ≡ ended_by owner m }
 {}
 
-/// The converse for a word that begins with a count: each legal history is that of a run, so what a
-/// count writes with its steps is what some events write. There is nothing to run, and no memory to
-/// take.
+/// The converse for a word that begins with a count: each legal history is that of a run. So the
+/// entries that a count adds with its steps are those of some events. Does nothing: its contract is
+/// the law.
 pub fn is_run<const MAX: u64>(history: &[Entry])
     requires { IsLegal MAX Counted history.now }
     ensures { (events : List AnyEvent) × RunAgrees MAX Counted events history.now }

@@ -11,9 +11,18 @@ use std::alloc::Allocator;
 
 /// What a block's word, its owners and its history are after these events, from a word with a count
 /// of 1 and owner 0: `after_events` in specs/. An event that isn't allowed where it comes changes
-/// nothing. `MAX` is the greatest count. It takes memory for the lists of the answer, and answers
-/// `AllocError` only where a request for memory was refused. Each event takes a look at the live
-/// owners, and one that makes an owner also at the entries so far.
+/// nothing. `MAX` is the greatest count.
+///
+/// Each event looks at the live owners. One that makes an owner also looks at the entries before
+/// it.
+///
+/// # Errors
+///
+/// `AllocError` where memory for the lists of the answer is refused.
+///
+/// # Allocates
+///
+/// For these lists.
 pub fn replay<const MAX: u64, A: Allocator + Copy>(
     alloc: A,
     events: &[Event],
@@ -24,7 +33,7 @@ pub fn replay<const MAX: u64, A: Allocator + Copy>(
     replay_from(alloc, true, MAX, events)
 }
 
-/// The same as `replay`, from the word of a lone vector, which owner 0 owns alone.
+/// As `replay`, from the word of a lone vector, which owner 0 alone owns.
 pub fn replay_lone<const MAX: u64, A: Allocator + Copy>(
     alloc: A,
     events: &[Event],

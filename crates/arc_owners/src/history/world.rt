@@ -10,8 +10,8 @@ use crate::error::AllocError;
 use std::alloc::{Allocator, Global};
 
 /// The state of a block's word after a run of events, with the history that the run wrote:
-/// `Machine` in specs/, which `machine_of` reads off it. The former owners are those whose `Down`
-/// stands in the entries.
+/// `Machine` in specs/, which `machine_of` reads from it. The owners that have ended are those
+/// whose `Down` is among the entries.
 #[derive(Drop)]
 pub struct World<A: Allocator = Global> {
     /// Whether the word has a count, or is still lone.
@@ -57,7 +57,7 @@ impl<A: Allocator> World<A> {
         ensures { result ≡ may_happen most (machine_of self.now) event }
     {
         let lives = self.live.contains(&event.by());
-        // Plain values are joined by `&`, which takes no branch to prove.
+        // Plain values are joined by `&`, which adds no branch to the proof.
         let (lone, counted, count) = (lives & !self.counted, lives & self.counted, self.count);
         match event {
             Event::Load { .. } => lone,

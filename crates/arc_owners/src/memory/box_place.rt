@@ -1,4 +1,4 @@
-//! A box as its place alone, for an owner whose size is known: its allocator lies elsewhere.
+//! A box as its place alone, for an owner of one word: its allocator is elsewhere.
 ghost use Rattle.std.specs.Prelude.{◌≡◌};
 ghost use types.Logic.{sem};
 ghost use denote.Struct.Lending.{lent_at};
@@ -35,7 +35,7 @@ impl<T, A: Allocator> BoxPlace<T, A> {
         (BoxPlace { at, marker }, alloc)
     }
 
-    /// The box again, by its allocator.
+    /// The box again, with its allocator.
     pub(crate) fn with(self, alloc: A) -> BoxParts<T, A>
         requires { alloc ≡ self.alloc }
         ensures { (result.value ≡ self.value) × (result.at ≡ self.at) × (result.alloc ≡ alloc) }
@@ -51,7 +51,7 @@ impl<T, A: Allocator> BoxPlace<T, A> {
         unsafe { &*self.at }
     }
 
-    /// The same, to be changed.
+    /// What lies there, to be changed.
     pub(crate) fn get_mut(&mut self) -> &mut T
         ensures* writes_back { sem 𝓛 (Follows T.row A.row A.Allocator self.entry result) }
         ensures value { result.now ≡ self.old.value }
@@ -59,7 +59,7 @@ impl<T, A: Allocator> BoxPlace<T, A> {
         unsafe { &mut *self.at }
     }
 
-    /// The memory stays for good.
+    /// Leaves the memory as it is for good.
     pub(crate) fn leak(self) {
         let BoxPlace { at: _, marker: _ } = self;
     }

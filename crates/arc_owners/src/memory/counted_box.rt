@@ -42,7 +42,7 @@ impl<V: Drop, A: Allocator + Copy> Housed<V, A> {
 
 impl<V: Drop, A: Allocator + Copy> Inner<Housed<V, A>> {
     /// Where the value lies in a block's memory, and that it lies there for as long as all of the
-    /// memory is lent. Reads no memory.
+    /// memory is lent. It reads no memory.
     #[inline(always)]
     pub(crate) fn value_place(
         at: *const Inner<Housed<V, A>>,
@@ -72,8 +72,8 @@ pub(crate) struct KeptMemory<V: Drop, A: Allocator + Copy> {
 }
 
 impl<V: Drop, A: Allocator + Copy> KeptMemory<V, A> {
-    /// The value, for the end of the lease, and that its lifetime has ended; the memory goes to
-    /// its allocator.
+    /// The value, at the end of the lease, and that its lifetime has ended. The memory goes to its
+    /// allocator.
     fn take(self, term: LifetimeEnd) -> (V, EndedLifetime)
         requires { term.spoils.lease ≡ self.memory.kept.lease }
         ensures value { result.0 ≡ self.memory.kept.value.value.value }
@@ -90,11 +90,12 @@ impl<V: Drop, A: Allocator + Copy> KeptMemory<V, A> {
     }
 }
 
-/// One owner of a value that lies in memory of its own, next to the word that counts the owners: a
-/// pointer of 8 bytes, however large the allocator is. `MAX` is the greatest count.
+/// One owner of a value. The value lies in memory of its own, next to the word that counts the
+/// owners. The owner is a pointer of 8 bytes, however large the allocator is. `MAX` is the greatest
+/// count.
 ///
-/// Dropped, it ends with a new pass under the mark `Open`. Under `Whole` it is a forgotten owner:
-/// the memory stays for good.
+/// One that is dropped ends with a new pass under the mark `Open`. Under `Whole` it is a forgotten
+/// owner: the memory stays for good.
 pub struct CountedBox<V: Drop, A: Allocator + Copy, const MAX: u64, H: Mark = Open> {
     pub(crate) memory: LentValue<Inner<Housed<V, A>>, A>,
     pub(crate) lodging: WordBorrow,
@@ -123,9 +124,16 @@ impl<V: Drop, A: Allocator + Copy, const MAX: u64, H: Mark> CountedBox<V, A, MAX
     ghost use Rattle.arc_owners.specs.memory.SoleBoxes.{sole_in, sole_value, sole_place};
     ghost use Rattle.arc_owners.specs.count.Calls.{owner_of, lease_of};
 
-    /// The first owner of a value, with a pass of its block. Takes memory, for the value and the
-    /// count together; refused, the value comes back. `MAX`, at least 2, is how many owners may
-    /// live at once.
+    /// The first owner of a value, with a pass of its block. `MAX`, at least 2, is how many owners
+    /// may live at once.
+    ///
+    /// # Errors
+    ///
+    /// The value comes back where memory for it and the count is refused.
+    ///
+    /// # Allocates
+    ///
+    /// Once, for the value and the count together.
     pub fn new(alloc: A, value: V) -> Result<(Self, Pass<H>), V>
         requires { 2 ≤ MAX }
         ensures made { IfOk result (λ r. IsFirst MAX H.whole Counted (owner_in r.0)
@@ -139,7 +147,7 @@ impl<V: Drop, A: Allocator + Copy, const MAX: u64, H: Mark> CountedBox<V, A, MAX
         }
     }
 
-    /// The owner of the value that lies in this memory, which is lent to it.
+    /// The owner of the value that lies in this memory. The memory is lent to it.
     pub(crate) fn settled(memory: BoxParts<Inner<Housed<V, A>>, A>, share: Share<H>) -> Self
         requires count { (share.right.block ≡ memory.value.word) × (memory.value.word.most ≡ MAX) }
         requires memory { memory.alloc ≡ memory.value.value.alloc }
@@ -171,8 +179,8 @@ impl<V: Drop, A: Allocator + Copy, const MAX: u64, H: Mark> CountedBox<V, A, MAX
         &self.memory.get(&self.share).value.value
     }
 
-    /// Asks the value for its slice, once: where its items begin, and that they lie there for as
-    /// long as the value is lent, whatever owner reads them. It adds no entry and takes no memory.
+    /// Asks the value for its slice, once: where its items begin, and that they are there for as
+    /// long as the value is lent, whichever owner reads them. It adds no entry and takes no memory.
     pub fn show<T>(&self) -> (*const T, Shown<T, V>)
     where
         V: Shows<T>,
@@ -184,8 +192,8 @@ impl<V: Drop, A: Allocator + Copy, const MAX: u64, H: Mark> CountedBox<V, A, MAX
         unsafe { borrow.show(place, &self.share.right) }
     }
 
-    /// Of the slice that the value showed the items from `start` to before `end`. `base` is where
-    /// all begin. Reads no memory.
+    /// The items from `start` to before `end` of the slice that the value showed. `base` is where
+    /// the slice begins. It reads no memory.
     #[inline(always)]
     pub fn range<'a, T>(
         &'a self,
@@ -202,8 +210,8 @@ impl<V: Drop, A: Allocator + Copy, const MAX: u64, H: Mark> CountedBox<V, A, MAX
         shown.range(base, &self.share, start, end)
     }
 
-    /// Two owners of one block have one lease: the value is lent to both for one lifetime, with one
-    /// note of what else is lent for that. It adds no entry and takes no memory.
+    /// Two owners of one block have one lease: the value is lent to both for one lifetime, and both
+    /// have the same note of what else is lent for that. It adds no entry and takes no memory.
     pub fn same_lease(&self, other: &Self)
         requires { (owner_in other.now).block ≡ (owner_in self.now).block }
         ensures lent { lifetime_in other.now ≡ lifetime_in self.now }
@@ -212,8 +220,8 @@ impl<V: Drop, A: Allocator + Copy, const MAX: u64, H: Mark> CountedBox<V, A, MAX
         self.share.same_lease(&other.share);
     }
 
-    /// The owner's share of the lifetime for which the value is lent, to read and to freeze what
-    /// else is lent for it. Reads no memory.
+    /// The owner's share of the lifetime for which the value is lent. With it the owner reads and
+    /// freezes what else is lent for that. It reads no memory.
     #[inline(always)]
     pub fn lifetime(&self) -> &LifetimeToken
         ensures { result.now.lifetime ≡ lifetime_in self.now }
@@ -246,7 +254,11 @@ impl<V: Drop, A: Allocator + Copy, const MAX: u64, H: Mark> CountedBox<V, A, MAX
         (rest, lifetime)
     }
 
-    /// Whether no other owner lives, by one load. Adds Alone with the answer. Takes no memory.
+    /// Whether no other owner lives, by one load. It takes no memory.
+    ///
+    /// # History
+    ///
+    /// Alone with the answer.
     #[inline(always)]
     pub fn is_unique_as(&self, pass: &mut Pass<H>) -> bool
         requires pass { IsPassFor (owner_in self.now) pass.old }
@@ -256,8 +268,16 @@ impl<V: Drop, A: Allocator + Copy, const MAX: u64, H: Mark> CountedBox<V, A, MAX
         unsafe { Owners::<MAX, H>::alone_raw(word, &self.lodging, &self.share, pass) }
     }
 
-    /// The memory back, with the value in it, where no other owner lives: the same owner has both.
-    /// Else it is handed back. Adds Alone with the answer. Takes no memory.
+    /// The memory with the value in it, where no other owner lives: the same owner has both. It
+    /// takes no memory.
+    ///
+    /// # Errors
+    ///
+    /// The owner comes back where another one lives.
+    ///
+    /// # History
+    ///
+    /// Alone with the answer.
     pub fn try_into_sole_as(self, pass: &mut Pass<H>) -> Result<SoleBox<V, A, MAX, H>, Self>
         requires pass { IsPassFor (owner_in self) pass.old }
         ensures entry { Asks (owner_in self) pass.old pass.new (is_ok result) }
@@ -279,8 +299,16 @@ impl<V: Drop, A: Allocator + Copy, const MAX: u64, H: Mark> CountedBox<V, A, MAX
         }
     }
 
-    /// The same; with the memory comes that the lifetime has ended for which it was lent, for what
-    /// else was lent for it.
+    /// As `try_into_sole_as`. It also gives the proof that the lifetime of the lease has ended,
+    /// which gives back what else was lent for it.
+    ///
+    /// # Errors
+    ///
+    /// The owner comes back where another one lives.
+    ///
+    /// # History
+    ///
+    /// Alone with the answer.
     pub fn try_into_sole_with_end_as(
         self,
         pass: &mut Pass<H>,
@@ -312,9 +340,16 @@ impl<V: Drop, A: Allocator + Copy, const MAX: u64, H: Mark> CountedBox<V, A, MAX
         }
     }
 
-    /// The value back, and the memory to its allocator, where no other owner lives: adds Alone,
-    /// then the Down of this one. Else it is handed back, and Alone was added with no. Takes no
+    /// The value, where no other owner lives. The memory goes back to its allocator. It takes no
     /// memory.
+    ///
+    /// # Errors
+    ///
+    /// The owner comes back where another one lives.
+    ///
+    /// # History
+    ///
+    /// Taken: Alone with yes, then Down. Refused: Alone with no.
     pub fn try_into_value_as(self, pass: &mut Pass<H>) -> Result<V, Self>
         requires pass { IsPassFor (owner_in self) pass.old }
         ensures alone { IfOk result (λ _. TakesBlock (owner_in self) pass.old pass.new) }
@@ -353,8 +388,12 @@ impl<V: Drop, A: Allocator + Copy, const MAX: u64, H: Mark> CountedBox<V, A, MAX
         (share, kept)
     }
 
-    /// Ends this owner by one subtraction. Adds its Down. The last one gives the memory back, and
-    /// gets the value. Takes no memory.
+    /// Ends this owner by one subtraction from the count. The last one gives the memory back, and
+    /// gets the value. It takes no memory.
+    ///
+    /// # History
+    ///
+    /// Down.
     #[inline(always)]
     pub fn release_as(self, pass: &mut Pass<H>) -> Option<V>
         requires pass { IsPassFor (owner_in self) pass.old }
@@ -370,8 +409,12 @@ impl<V: Drop, A: Allocator + Copy, const MAX: u64, H: Mark> CountedBox<V, A, MAX
         }
     }
 
-    /// The same; the last one also gets that the lifetime has ended for which the value was lent,
-    /// for what else was lent for it.
+    /// As `release_as`. The last owner also gets the proof that the lifetime of the lease has
+    /// ended, which gives back what else was lent for it.
+    ///
+    /// # History
+    ///
+    /// Down.
     #[inline(always)]
     pub fn release_with_end_as(self, pass: &mut Pass<H>) -> Option<(V, EndedLifetime)>
         requires pass { IsPassFor (owner_in self) pass.old }
@@ -387,9 +430,13 @@ impl<V: Drop, A: Allocator + Copy, const MAX: u64, H: Mark> CountedBox<V, A, MAX
         }
     }
 
-    /// What a drop does: under `Open` this owner ends with a new pass, and the last one gets the
-    /// value; under `Whole` it is forgotten, without a step. Takes no memory. The pass is the one
-    /// that the owner ended with; under `Whole` it is of no block.
+    /// What a drop does. Under `Open` this owner ends with a new pass, which is the second answer,
+    /// and the last one gets the value. Under `Whole` it is a forgotten owner: no step is made, and
+    /// the pass is one of no block. It takes no memory.
+    ///
+    /// # History
+    ///
+    /// Under `Open`: Down. Under `Whole`: nothing.
     #[inline(always)]
     pub fn let_go(self) -> (Option<V>, Pass<H>)
         ensures value { IfSome result.0 (λ value. value ≡ value_of self) }
@@ -406,8 +453,12 @@ impl<V: Drop, A: Allocator + Copy, const MAX: u64, H: Mark> CountedBox<V, A, MAX
         }
     }
 
-    /// The same; the last one also gets that the lifetime has ended for which the value was lent,
-    /// for what else was lent for it.
+    /// As `let_go`. The last owner also gets the proof that the lifetime of the lease has ended,
+    /// which gives back what else was lent for it.
+    ///
+    /// # History
+    ///
+    /// Under `Open`: Down. Under `Whole`: nothing.
     #[inline(always)]
     pub fn let_go_with_end(self) -> (Option<(V, EndedLifetime)>, Pass<H>)
         ensures value { IfSome result.0 (λ r. r.0 ≡ value_of self) }
@@ -429,7 +480,7 @@ impl<V: Drop, A: Allocator + Copy, const MAX: u64, H: Mark> CountedBox<V, A, MAX
         }
     }
 
-    /// Afterwards the first pass has seen at least what the other had. It adds no entry and takes
+    /// From here on the first pass has seen at least what the other had. It adds no entry and takes
     /// no memory.
     pub fn learn(&self, pass: &mut Pass<H>, other: &Pass<H>)
         requires pass { IsPassFor (owner_in self.now) pass.old }
@@ -446,10 +497,9 @@ impl<V: Drop, A: Allocator + Copy, const MAX: u64, H: Mark> CountedBox<V, A, MAX
     ghost use Rattle.arc_owners.specs.memory.Boxes.{owner_in, value_of, lifetime_in, note_in};
     ghost use Rattle.arc_owners.specs.memory.Boxes.{place_in};
 
-    /// One attempt to make one owner more of the same value, through this one: nothing where
-    /// another thread's step came between, and then no entry is added. Who calls it tries again.
-    ///
-    /// Takes no memory, and copies nothing.
+    /// One attempt to make one owner more of the same value, through this one. It answers `None`,
+    /// and adds no entry, where another thread's step came between; the caller tries again. It
+    /// takes no memory, and copies nothing.
     ///
     /// # Errors
     ///
@@ -457,7 +507,7 @@ impl<V: Drop, A: Allocator + Copy, const MAX: u64, H: Mark> CountedBox<V, A, MAX
     ///
     /// # History
     ///
-    /// Up, or Full where refused.
+    /// Up, or Full where it is refused.
     #[inline(always)]
     pub fn try_clone_once_as(
         &self,
@@ -491,10 +541,8 @@ impl<V: Drop, A: Allocator + Copy, const MAX: u64, H: Mark> CountedBox<V, A, MAX
     }
 
     /// One owner more of the same value, through this one: `try_clone_once_as`, tried again until
-    /// it answers.
-    ///
-    /// Takes no memory, and copies nothing. It takes `rt` since an attempt that another thread
-    /// disturbs is tried again.
+    /// it answers. It takes no memory, and copies nothing. It takes `rt` since an attempt that
+    /// another thread disturbs is tried again.
     ///
     /// # Errors
     ///
@@ -502,7 +550,7 @@ impl<V: Drop, A: Allocator + Copy, const MAX: u64, H: Mark> CountedBox<V, A, MAX
     ///
     /// # History
     ///
-    /// Up, or Full where refused.
+    /// Up, or Full where it is refused.
     pub fn try_clone_as(&self, rt: &impl Wait, pass: &mut Pass<H>) -> Result<Self, CountFull>
         requires pass { IsPassFor (owner_in self.now) pass.old }
         ensures made { IfOk result (λ piece.
@@ -531,8 +579,8 @@ impl<V: Drop, A: Allocator + Copy, const MAX: u64, H: Stepping> CountedBox<V, A,
     ghost use Rattle.arc_owners.specs.count.Calls.{MakesAnother, Leaves, TakesBlock, EndsByItself};
     ghost use Rattle.arc_owners.specs.memory.Boxes.{owner_in, value_of};
 
-    /// A new pass, which has seen at least the entry that made this owner, and made nothing. It
-    /// adds no entry and takes no memory.
+    /// A new pass of the block. It has seen at least the entry that made this owner, and nothing
+    /// was made with it. It adds no entry and takes no memory.
     pub fn pass(&self) -> Pass<H>
         ensures { IsNewPass (owner_in self.now) result }
     {

@@ -13,7 +13,7 @@ use std::alloc::Allocator;
 
 /// One owner of a counted box, without its share of the lifetime for which the value is lent. It
 /// doesn't read the value, and makes no step, until the share is back. It is neither copied nor
-/// dropped, so no owner is lost on the way.
+/// dropped, so no owner is lost meanwhile.
 pub struct CountedBoxWithoutLifetime<V: Drop, A: Allocator + Copy, const MAX: u64, H: Mark = Open> {
     pub(crate) memory: LentValue<Inner<Housed<V, A>>, A>,
     pub(crate) lodging: WordBorrow,
@@ -38,7 +38,7 @@ impl<V: Drop, A: Allocator + Copy, const MAX: u64, H: Mark> CountedBoxWithoutLif
     ghost use Rattle.arc_owners.specs.memory.Boxes.{lifetime_in_rest, share_taken_from};
     ghost use Rattle.arc_owners.specs.memory.Boxes.{place_in, place_in_rest, note_in_rest};
 
-    /// The owner again, with its share of the lifetime. Takes no memory.
+    /// The owner, with its share of the lifetime again. It takes no memory.
     pub fn with_lifetime(self, lifetime: LifetimeToken) -> CountedBox<V, A, MAX, H>
         requires { (lifetime.lifetime ≡ lifetime_in_rest self)
             × (lifetime.share ≡ share_taken_from self) }
@@ -59,7 +59,7 @@ impl<V: Drop, A: Allocator + Copy, const MAX: u64, H: Mark> CountedBoxWithoutLif
             share: share.with_lifetime(lifetime),
         }
     }
-    /// Afterwards the first pass has seen at least what the other had. It adds no entry and takes
+    /// From here on the first pass has seen at least what the other had. It adds no entry and takes
     /// no memory.
     pub fn learn(&self, pass: &mut Pass<H>, other: &Pass<H>)
         requires pass { IsPassFor (owner_in_rest self.now) pass.old }
@@ -79,8 +79,8 @@ impl<V: Drop, A: Allocator + Copy, const MAX: u64, H: Stepping> CountedBoxWithou
     ghost use Rattle.arc_owners.specs.count.Calls.{IsNewPass};
     ghost use Rattle.arc_owners.specs.memory.Boxes.{owner_in_rest};
 
-    /// A new pass, which has seen at least the entry that made this owner, and made nothing. It
-    /// adds no entry and takes no memory.
+    /// A new pass of the block. It has seen at least the entry that made this owner, and nothing
+    /// was made with it. It adds no entry and takes no memory.
     pub fn pass(&self) -> Pass<H>
         ensures { IsNewPass (owner_in_rest self.now) result }
     {

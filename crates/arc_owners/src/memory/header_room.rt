@@ -8,8 +8,8 @@ use super::box_parts::BoxParts;
 use std::marker::Model;
 use std_alloc::vec::Lodged;
 
-/// A place in which nothing lies and a value of type X fits, in memory that somebody else frees: a
-/// pointer. Neither copied nor dropped.
+/// A place in which nothing lies, and in which a value of type X fits, in memory that somebody else
+/// frees: a pointer. It is neither copied nor dropped.
 pub struct HeaderRoom<X> {
     pub at: *mut X,
 }
@@ -19,7 +19,7 @@ impl<X> Model for HeaderRoom<X> {
 }
 
 impl<X> HeaderRoom<X> {
-    /// Lays a value there.
+    /// Puts a value there.
     pub(crate) fn hold(self, value: X) -> BoxParts<X, Lodged>
         ensures { (result.value ≡ value) × (result.at ≡ self.at) }
     {
@@ -31,7 +31,7 @@ impl<X> HeaderRoom<X> {
         BoxParts { at, alloc }
     }
 
-    /// The place of a value, and the value, which no longer lies there.
+    /// The place of a value as an empty room, and the value.
     pub(crate) fn of(parts: BoxParts<X, Lodged>) -> (HeaderRoom<X>, X)
         ensures { (result.0.at ≡ parts.at) × (result.1 ≡ parts.value) }
     {
@@ -43,5 +43,5 @@ impl<X> HeaderRoom<X> {
 
 unsafe impl<X> Send for HeaderRoom<X> {}
 
-// A `&` to it does nothing.
+// A `&` to it gives access to nothing.
 unsafe impl<X> Sync for HeaderRoom<X> {}

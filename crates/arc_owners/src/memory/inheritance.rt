@@ -1,4 +1,4 @@
-//! What is kept for the end of a lease.
+//! What comes back at the end of a lease.
 ghost use Rattle.std.specs.Prelude.{◌≡◌, true};
 ghost use base.Fml.{finv};
 ghost use denote.RawPtr.{Ptr, coded_ptr};
@@ -11,8 +11,8 @@ use crate::lifetime::EndedLifetime;
 use std::alloc::Allocator;
 use std::marker::{Model, PhantomData};
 
-/// That what a box owns comes back at this place to whoever has the end of a lease. It has no
-/// bytes, and can be had again.
+/// That what a box owns comes back, at this place, to the owner that has the end of a lease. It has
+/// no bytes, and can be had more than once.
 pub struct Inheritance<T, A: Allocator> {
     pub(crate) marker: PhantomData<(T, A)>,
     pub ghost value: { T },
@@ -30,7 +30,7 @@ impl<T, A: Allocator> Model for Inheritance<T, A> {
 }
 
 impl<T, A: Allocator> Inheritance<T, A> {
-    /// The same again.
+    /// A copy of it, for the same items or value.
     pub fn again(&self) -> Inheritance<T, A>
         ensures { (result.value ≡ self.now.value) × (result.alloc ≡ self.now.alloc)
             × (result.at ≡ self.now.at) × (result.lease ≡ self.now.lease) }
@@ -40,8 +40,8 @@ impl<T, A: Allocator> Inheritance<T, A> {
         }
     }
 
-    /// What was kept, for what the term of the lease is made of, which is used up, and that the
-    /// lifetime of the lease has ended.
+    /// What was kept, and that the lifetime of the lease has ended. What the end of the lease
+    /// consists of is used up.
     ///
     /// # Safety
     ///

@@ -1,5 +1,5 @@
-//! Boxes that lie in a room for a header, in memory that somebody else frees: who has the value
-//! last has the room as well.
+//! Boxes that lie in a room for a header, in memory that somebody else frees. The last owner of the
+//! value gets the room too.
 ghost use Rattle.std.specs.Prelude.{◌≡◌};
 
 use super::counted_box::{CountedBox, Housed, KeptMemory};
@@ -20,7 +20,7 @@ impl<V: Drop, const MAX: u64, H: Mark> SoleBox<V, Lodged, MAX, H> {
     ghost use Rattle.arc_owners.specs.memory.SoleBoxes.{sole_in, sole_value, sole_place};
     ghost use Rattle.arc_owners.specs.memory.SoleCounts.{count_owner};
 
-    /// Lays a count and a value in a room: the same owner. It adds no entry and takes no memory.
+    /// Puts a count and a value into a room: the same owner. It adds no entry and takes no memory.
     pub fn lay(count: SoleCount<MAX, H>, room: HeaderRoom<Header<V>>, value: V) -> Self
         ensures same { (sole_in result ≡ count_owner count) × (sole_value result ≡ value) }
         ensures place { sole_place result ≡ room.at }
@@ -32,7 +32,7 @@ impl<V: Drop, const MAX: u64, H: Mark> SoleBox<V, Lodged, MAX, H> {
         SoleBox::settled(room.hold(Inner { word, value }), sole)
     }
 
-    /// The count, the room in which nothing lies now, and the value: the same owner. It adds no
+    /// The count, the room, in which nothing lies then, and the value: the same owner. It adds no
     /// entry and takes no memory.
     pub fn take_up(self) -> (SoleCount<MAX, H>, HeaderRoom<Header<V>>, V)
         ensures same { (count_owner result.0 ≡ sole_in self) × (result.2 ≡ sole_value self) }
@@ -48,7 +48,7 @@ impl<V: Drop, const MAX: u64, H: Mark> SoleBox<V, Lodged, MAX, H> {
 }
 
 impl<V: Drop> KeptMemory<V, Lodged> {
-    /// The value and the room, for the end of the lease, and that its lifetime has ended.
+    /// The value and the room, at the end of the lease, and that its lifetime has ended.
     pub(crate) fn take_with_room(
         self,
         term: LifetimeEnd,
@@ -75,8 +75,8 @@ impl<V: Drop, const MAX: u64, H: Mark> CountedBox<V, Lodged, MAX, H> {
     ghost use Rattle.arc_owners.specs.count.Calls.{IsPassFor, IsPassOfNone, Leaves, EndsByItself};
     ghost use Rattle.arc_owners.specs.memory.Boxes.{owner_in, value_of, lifetime_in, place_in};
 
-    /// Ends this owner by one subtraction. The last one gets the value, the room in which it lay,
-    /// and that the lifetime has ended for which it was lent. Takes no memory.
+    /// Ends this owner by one subtraction from the count. The last one gets the value, the room in
+    /// which it lay, and that the lifetime of the lease has ended. It takes no memory.
     ///
     /// # History
     ///
@@ -100,9 +100,13 @@ impl<V: Drop, const MAX: u64, H: Mark> CountedBox<V, Lodged, MAX, H> {
         }
     }
 
-    /// What a drop does, for an owner whose last one frees the memory: `let_go`, and with the value
-    /// the room in which it lay, and that the lifetime has ended for which it was lent. Takes no
+    /// What a drop does, for owners whose last one frees the memory: `let_go`, which also gives the
+    /// room in which the value lay, and that the lifetime of the lease has ended. It takes no
     /// memory.
+    ///
+    /// # History
+    ///
+    /// Under `Open`: Down. Under `Whole`: nothing.
     #[inline(always)]
     pub fn let_go_with_room(self) -> (Option<(V, HeaderRoom<Header<V>>, EndedLifetime)>, Pass<H>)
         ensures value { IfSome result.0 (λ r. r.0 ≡ value_of self) }

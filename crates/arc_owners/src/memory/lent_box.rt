@@ -11,8 +11,8 @@ use crate::count::word::OwnerToken;
 use std::alloc::Allocator;
 use std::marker::{Model, PhantomData};
 
-/// A borrow of what a box owns, for the lifetime of a lease. It has no bytes, and is there once: it
-/// is cut into what the owners read.
+/// A borrow of what a box owns, for the lifetime of a lease. It has no bytes, and there is one: it
+/// is cut into the parts that the owners read.
 pub(crate) struct LentBox<T, A: Allocator> {
     pub(crate) marker: PhantomData<(T, A)>,
     pub(crate) ghost value: { T },
@@ -49,7 +49,7 @@ impl<T, A: Allocator> LentBox<T, A> {
         (at, alloc, lent, kept)
     }
 
-    /// The whole of it for the owners to read.
+    /// All of it, for the owners to read.
     pub(crate) fn share<H>(self, by: &OwnerToken<H>) -> SharedBorrow<T>
         requires { (by.now.held ≡ true) × (by.now.lease.is_lent ≡ true)
             × (by.now.lease.lifetime ≡ self.lifetime) }

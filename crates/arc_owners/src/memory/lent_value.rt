@@ -12,8 +12,8 @@ use crate::lifetime::EndedLifetime;
 use crate::mark::Mark;
 use std::alloc::Allocator;
 
-/// What lies in a box, lent to the owners of a block: what one owner has of it, which is a pointer.
-/// Dropped, it stays lent; where all are dropped, it never comes back.
+/// What one owner has of a value in a box that is lent to the owners of a block: a pointer. One
+/// that is dropped leaves the value lent; where all are dropped, it never comes back.
 #[derive(Drop)]
 pub struct LentValue<T, A: Allocator> {
     pub(crate) at: *mut T,
@@ -30,8 +30,8 @@ impl<T: Drop, A: Allocator> LentValue<T, A> {
     ghost use Rattle.arc_owners.specs.memory.LentValues.{IsLentTo, IsEndOf, lease_in};
 
     /// Lends what lies in a box for the lease of this owner, to all owners that have that lease.
-    /// The box's allocator comes out. An end serves one box: a second one for the same lease is
-    /// lent as well, and never comes back.
+    /// The box's allocator comes out. The end of a lease gives back one box: a second one that is
+    /// lent for the same lease never comes back.
     pub fn lend<H: Mark>(memory: Box<T, A>, by: &Share<H>) -> (LentValue<T, A>, A)
         ensures value { lent_value result.0 ≡ memory.value }
         ensures lease { IsLentTo result.0 by.now }
@@ -43,7 +43,7 @@ impl<T: Drop, A: Allocator> LentValue<T, A> {
         (LentValue { at, borrow, kept }, alloc)
     }
 
-    /// The same again, for another owner.
+    /// A copy of it, for another owner.
     pub fn again(&self) -> LentValue<T, A>
         ensures { IsSameLent self.now result }
     {
@@ -54,7 +54,7 @@ impl<T: Drop, A: Allocator> LentValue<T, A> {
         }
     }
 
-    /// What is lent, for as long as an owner is borrowed to whom it is.
+    /// The value, for as long as an owner is borrowed to whom it is lent.
     pub fn get<'a, H: Mark>(&'a self, by: &'a Share<H>) -> &'a T
         requires { IsLentTo self.now by.now }
         ensures { result.now ≡ lent_value self.now }
@@ -62,8 +62,8 @@ impl<T: Drop, A: Allocator> LentValue<T, A> {
         unsafe { self.borrow.get(self.at, &by.right) }
     }
 
-    /// Asks what is lent for its slice, once: where its items begin, and that they lie there for as
-    /// long as it is lent, whatever owner reads them.
+    /// Asks the value for its slice, once: where its items begin, and that they are there for as
+    /// long as it is lent, whichever owner reads them.
     pub fn show<X, H: Mark>(&self, by: &Share<H>) -> (*const X, Shown<X, T>)
     where
         T: Shows<X>,
@@ -75,7 +75,7 @@ impl<T: Drop, A: Allocator> LentValue<T, A> {
         unsafe { self.borrow.show(self.at, &by.right) }
     }
 
-    /// The box back, with its allocator, for the end of the lease.
+    /// The box, with its allocator, at the end of the lease.
     pub fn take_back(self, alloc: A, end: LifetimeEnd) -> Box<T, A>
         requires end { IsEndOf self end }
         requires allocator { alloc ≡ lent_allocator self }
@@ -86,7 +86,8 @@ impl<T: Drop, A: Allocator> LentValue<T, A> {
         memory
     }
 
-    /// The same, and that the lifetime of the lease has ended, for what else was lent for it.
+    /// As `take_back`. It also gives the proof that the lifetime of the lease has ended, which
+    /// gives back what else was lent for it.
     pub fn take_back_with_end(self, alloc: A, end: LifetimeEnd) -> (Box<T, A>, EndedLifetime)
         requires end { IsEndOf self end }
         requires allocator { alloc ≡ lent_allocator self }
@@ -97,7 +98,7 @@ impl<T: Drop, A: Allocator> LentValue<T, A> {
         (memory.into_box(), ended)
     }
 
-    /// The same, as the box's pointer and its allocator.
+    /// As `take_back_with_end`, with the box as its pointer and its allocator.
     pub(crate) fn take_back_parts(
         self,
         alloc: A,

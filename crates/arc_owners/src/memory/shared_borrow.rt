@@ -7,7 +7,7 @@ use crate::count::word::OwnerToken;
 use std::marker::{Model, PhantomData};
 
 /// That a value lies at a place for as long as a block is lent to its owners, for them to read. It
-/// has no bytes, and can be had again.
+/// has no bytes, and can be had more than once.
 pub struct SharedBorrow<T> {
     pub(crate) marker: PhantomData<T>,
     pub ghost value: { T },
@@ -22,7 +22,7 @@ impl<T> Model for SharedBorrow<T> {
 }
 
 impl<T> SharedBorrow<T> {
-    /// The same again.
+    /// A copy of it, for the same items or value.
     pub fn again(&self) -> SharedBorrow<T>
         ensures { (result.value ≡ self.now.value) × (result.at ≡ self.now.at)
             × (result.lifetime ≡ self.now.lifetime) }

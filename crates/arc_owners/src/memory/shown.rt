@@ -12,8 +12,8 @@ use std::marker::{Model, PhantomData};
 use std::slice;
 
 /// That the items which a value shows lie side by side at a place, for all to read for as long as
-/// the value is lent to the owners of a block. It has no bytes, and can be had again. Contracts see
-/// the place, the items, and the lifetime of the lease.
+/// the value is lent to the owners of a block. It has no bytes, and can be had more than once.
+/// Contracts see the place, the items, and the lifetime of the lease.
 #[derive(Drop)]
 pub struct Shown<T, V> {
     marker: PhantomData<(*const T, *const V)>,
@@ -69,7 +69,7 @@ impl<V> SharedBorrow<V> {
 impl<T, V> Shown<T, V> {
     ghost use Rattle.arc_owners.specs.count.Calls.{lease_of};
 
-    /// The same again.
+    /// A copy of it, for the same items or value.
     #[inline(always)]
     pub fn again(&self) -> Shown<T, V>
         ensures { result ≡ self.now }
@@ -90,7 +90,7 @@ impl<T, V> Shown<T, V> {
     }
 
     /// The items from `start` to before `end`, for as long as an owner is borrowed to whom the
-    /// value is lent. `base` is where all begin. Reads no memory.
+    /// value is lent. `base` is where all begin. It reads no memory.
     #[inline(always)]
     pub fn range<'a, H: Mark>(
         &'a self,

@@ -11,11 +11,12 @@ use crate::mark::{Mark, Open, Stepping};
 use std::alloc::{Allocator, Global};
 use std::marker::PhantomData;
 
-/// The only owner of a value, who has the memory in which it lies, next to the word that counts the
-/// owners: a pointer of 8 bytes, however large the allocator is. `MAX` is the greatest count.
+/// The only owner of a value. It has the memory in which the value lies, next to the word that
+/// counts the owners. It is a pointer of 8 bytes, however large the allocator is. `MAX` is the
+/// greatest count.
 ///
-/// Dropped, it ends with a new pass under the mark `Open`. Under `Whole` it is a forgotten owner:
-/// the memory stays for good.
+/// One that is dropped ends with a new pass under the mark `Open`. Under `Whole` it is a forgotten
+/// owner: the memory stays for good.
 pub struct SoleBox<V: Drop, A: Allocator + Copy, const MAX: u64, H: Mark = Open> {
     pub(crate) memory: BoxPlace<Inner<Housed<V, A>>, A>,
     pub(crate) sole: Sole<H>,
@@ -52,9 +53,16 @@ impl<V: Drop, A: Allocator + Copy, const MAX: u64, H: Mark> SoleBox<V, A, MAX, H
     ghost use Rattle.arc_owners.specs.memory.SoleBoxes.{sole_place};
     ghost use types.Logic.{sem};
 
-    /// The first and only owner of a value, with a pass of its block. Takes memory, for the value
-    /// and the count together; refused, the value comes back. `MAX`, at least 2, is how many owners
-    /// may live at once.
+    /// The first and only owner of a value, with a pass of its block. `MAX`, at least 2, is how
+    /// many owners may live at once.
+    ///
+    /// # Errors
+    ///
+    /// The value comes back where memory for it and the count is refused.
+    ///
+    /// # Allocates
+    ///
+    /// Once, for the value and the count together.
     pub fn new(alloc: A, value: V) -> Result<(Self, Pass<H>), V>
         requires { 2 ≤ MAX }
         ensures made { IfOk result (λ r. IsFirst MAX H.whole Counted (sole_in r.0)
@@ -94,8 +102,8 @@ impl<V: Drop, A: Allocator + Copy, const MAX: u64, H: Mark> SoleBox<V, A, MAX, H
         &self.memory.get().value.value
     }
 
-    /// The value, to be changed: the same owner has what was last written through the borrow. It
-    /// adds no entry and takes no memory.
+    /// The value, to be changed: afterwards the same owner has what is written there. It adds no
+    /// entry and takes no memory.
     pub fn get_mut(&mut self) -> &mut V
         ensures* writes_back { sem 𝓛 (LendsSoleValue V.row A.row MAX.row H.row H.Mark A.Allocator
             self.entry result) }
@@ -105,7 +113,7 @@ impl<V: Drop, A: Allocator + Copy, const MAX: u64, H: Mark> SoleBox<V, A, MAX, H
         inner.value_mut().value_mut()
     }
 
-    /// Shows a pass the block's whole history so far, in which no other owner lives. It adds no
+    /// Shows a pass the block's whole history up to here, in which no other owner lives. It adds no
     /// entry and takes no memory.
     pub fn only(&self, pass: &mut Pass<H>)
         requires pass { IsPassFor (sole_in self.now) pass.old }
@@ -114,8 +122,12 @@ impl<V: Drop, A: Allocator + Copy, const MAX: u64, H: Mark> SoleBox<V, A, MAX, H
         self.sole.only(pass);
     }
 
-    /// Whether no other owner lives, by one load, as an owner asks to whom the value is lent. Adds
-    /// Alone with the answer. Takes no memory.
+    /// Whether no other owner lives, by one load, as an owner asks to whom the value is lent. It
+    /// takes no memory.
+    ///
+    /// # History
+    ///
+    /// Alone with the answer.
     #[tactic(auto, using(crate::proofs::count::Calls::asks_of))]
     pub fn is_unique_as(&self, pass: &mut Pass<H>) -> bool
         requires pass { IsPassFor (sole_in self.now) pass.old }
@@ -136,8 +148,8 @@ impl<V: Drop, A: Allocator + Copy, const MAX: u64, H: Mark> SoleBox<V, A, MAX, H
         CountedBox::settled(housed_parts(memory), sole.lend())
     }
 
-    /// The same, for a lifetime that the owner has whole, with a note of what else is lent for it:
-    /// all owners of the block have this note. It adds no entry and takes no memory.
+    /// As `lend`, for a lifetime that the owner has whole. All owners of the block have a note of
+    /// what else is lent for it. It adds no entry and takes no memory.
     pub fn lend_for(self, lifetime: LifetimeToken) -> CountedBox<V, A, MAX, H>
         ghost note: { LentNote }
         requires { lifetime.share ≡ full_share }
@@ -159,8 +171,12 @@ impl<V: Drop, A: Allocator + Copy, const MAX: u64, H: Mark> SoleBox<V, A, MAX, H
         (housed_parts(memory), sole)
     }
 
-    /// The value, and the memory to its allocator. Adds the Down of this owner, the last one,
-    /// without a step. Takes no memory.
+    /// The value. The memory goes to its allocator, and this owner, the last one, ends without an
+    /// atomic step. It takes no memory.
+    ///
+    /// # History
+    ///
+    /// Down.
     pub fn into_value_as(self, pass: &mut Pass<H>) -> V
         requires pass { IsPassFor (sole_in self) pass.old }
         ensures entry { Leaves (sole_in self) pass.old pass.new true }
@@ -174,9 +190,13 @@ impl<V: Drop, A: Allocator + Copy, const MAX: u64, H: Mark> SoleBox<V, A, MAX, H
         value.value
     }
 
-    /// What a drop does: under `Open` this owner ends with a new pass, and the value comes out;
-    /// under `Whole` it is forgotten, with the value and the memory. Takes no memory. The pass is
-    /// the one that the owner ended with; under `Whole` it is of no block.
+    /// What a drop does. Under `Open` this owner ends with a new pass, which is the second answer,
+    /// and the value comes out. Under `Whole` it is forgotten, with the value and the memory, and
+    /// the pass is one of no block. It takes no memory.
+    ///
+    /// # History
+    ///
+    /// Under `Open`: Down, without an atomic step. Under `Whole`: nothing.
     pub fn let_go(self) -> (Option<V>, Pass<H>)
         ensures value { IfSome result.0 (λ value. value ≡ sole_value self) }
         ensures forgotten { H.whole ≡ true → (result.0 ≡ None) × IsPassOfNone result.1 }
@@ -198,7 +218,7 @@ impl<V: Drop, A: Allocator + Copy, const MAX: u64, H: Mark> SoleBox<V, A, MAX, H
         (Some(value.value), pass)
     }
 
-    /// Afterwards the first pass has seen at least what the other had. It adds no entry and takes
+    /// From here on the first pass has seen at least what the other had. It adds no entry and takes
     /// no memory.
     pub fn learn(&self, pass: &mut Pass<H>, other: &Pass<H>)
         requires pass { IsPassFor (sole_in self.now) pass.old }
@@ -213,8 +233,8 @@ impl<V: Drop, A: Allocator + Copy, const MAX: u64, H: Stepping> SoleBox<V, A, MA
     ghost use Rattle.arc_owners.specs.count.Calls.{IsNewPass};
     ghost use Rattle.arc_owners.specs.memory.SoleBoxes.{sole_in};
 
-    /// A new pass, which has seen at least the entry that made this owner, and made nothing. It
-    /// adds no entry and takes no memory.
+    /// A new pass of the block. It has seen at least the entry that made this owner, and nothing
+    /// was made with it. It adds no entry and takes no memory.
     pub fn pass(&self) -> Pass<H>
         ensures { IsNewPass (sole_in self.now) result }
     {

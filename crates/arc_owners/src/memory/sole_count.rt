@@ -5,10 +5,10 @@ use crate::count::tokens::{Owners, Pass, Sole};
 use crate::mark::{Mark, Open, Stepping};
 use std::marker::PhantomData;
 
-/// The word of a count and its only owner, who has the block whole: 8 bytes, in no memory of their
-/// own. `MAX` is the greatest count.
+/// The word of a count and its only owner, who has the block whole: 8 bytes by value. `MAX` is the
+/// greatest count.
 ///
-/// Dropped, it is a forgotten owner.
+/// One that is dropped is a forgotten owner.
 #[derive(Drop)]
 pub struct SoleCount<const MAX: u64, H: Mark = Open> {
     pub(crate) owners: Owners<MAX, H>,
@@ -27,7 +27,7 @@ impl<const MAX: u64, H: Mark> SoleCount<MAX, H> {
     ghost use Rattle.arc_owners.specs.memory.SoleCounts.{count_owner};
 
     /// The count of a new block, which is 1, with its only owner, and a pass that has seen nothing.
-    /// `MAX`, at least 2, is how many owners may live at once. Takes no memory.
+    /// `MAX`, at least 2, is how many owners may live at once. It takes no memory.
     pub fn new() -> (Self, Pass<H>)
         requires { 2 ≤ MAX }
         ensures first { IsFirst MAX H.whole Counted (count_owner result.0) }
@@ -38,7 +38,7 @@ impl<const MAX: u64, H: Mark> SoleCount<MAX, H> {
         (SoleCount { owners, sole }, pass)
     }
 
-    /// Shows a pass the block's whole history so far, in which no other owner lives. It adds no
+    /// Shows a pass the block's whole history up to here, in which no other owner lives. It adds no
     /// entry and takes no memory.
     pub fn only(&self, pass: &mut Pass<H>)
         requires pass { IsPassFor (count_owner self.now) pass.old }
@@ -47,8 +47,12 @@ impl<const MAX: u64, H: Mark> SoleCount<MAX, H> {
         self.sole.only(pass);
     }
 
-    /// Whether no other owner lives, by one load, as an owner asks to whom a value is lent. Adds
-    /// Alone with the answer. Takes no memory.
+    /// Whether no other owner lives, by one load, as an owner asks to whom a value is lent. It
+    /// takes no memory.
+    ///
+    /// # History
+    ///
+    /// Alone with the answer.
     #[tactic(auto, using(crate::proofs::count::Calls::asks_of))]
     pub fn is_unique_as(&self, pass: &mut Pass<H>) -> bool
         requires pass { IsPassFor (count_owner self.now) pass.old }
@@ -57,7 +61,7 @@ impl<const MAX: u64, H: Mark> SoleCount<MAX, H> {
         self.owners.word.load(&self.sole.right, &mut pass.trace) == 1
     }
 
-    /// Ends this owner, the last one, without a step. Takes no memory.
+    /// Ends this owner, the last one, without an atomic step. It takes no memory.
     ///
     /// # History
     ///
@@ -71,9 +75,13 @@ impl<const MAX: u64, H: Mark> SoleCount<MAX, H> {
         sole.end_as(pass);
     }
 
-    /// What becomes of a sole owner that is dropped: under `Open` it ends with a new pass, and so
-    /// it answers true; under `Whole` it is forgotten. Takes no memory. The pass is the one that
-    /// the owner ended with; under `Whole` it is of no block.
+    /// What becomes of a sole owner that is dropped. Under `Open` it ends with a new pass, which is
+    /// the second answer, and the first is `true`. Under `Whole` it is forgotten, and the pass is
+    /// one of no block. It takes no memory.
+    ///
+    /// # History
+    ///
+    /// Under `Open`: Down, without an atomic step. Under `Whole`: nothing.
     pub fn let_go(self) -> (bool, Pass<H>)
         ensures forgotten { H.whole ≡ true → (result.0 ≡ false) × IsPassOfNone result.1 }
         ensures ended { H.whole ≡ false → (result.0 ≡ true)
@@ -88,7 +96,7 @@ impl<const MAX: u64, H: Mark> SoleCount<MAX, H> {
         (ended, pass)
     }
 
-    /// Afterwards the first pass has seen at least what the other had. It adds no entry and takes
+    /// From here on the first pass has seen at least what the other had. It adds no entry and takes
     /// no memory.
     pub fn learn(&self, pass: &mut Pass<H>, other: &Pass<H>)
         requires pass { IsPassFor (count_owner self.now) pass.old }
@@ -103,8 +111,8 @@ impl<const MAX: u64, H: Stepping> SoleCount<MAX, H> {
     ghost use Rattle.arc_owners.specs.count.Calls.{IsNewPass};
     ghost use Rattle.arc_owners.specs.memory.SoleCounts.{count_owner};
 
-    /// A new pass, which has seen at least the entry that made this owner, and made nothing. It
-    /// adds no entry and takes no memory.
+    /// A new pass of the block. It has seen at least the entry that made this owner, and nothing
+    /// was made with it. It adds no entry and takes no memory.
     pub fn pass(&self) -> Pass<H>
         ensures { IsNewPass (count_owner self.now) result }
     {

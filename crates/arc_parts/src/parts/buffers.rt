@@ -1,7 +1,7 @@
 //! Parts over a caller's buffer, or over an `Arc` of one: made of them, and taken back.
 ghost use Rattle.arc_owners.specs.history.Histories.{Counted};
 ghost use Rattle.std.specs.Prelude.{◌≡◌, ◌↔◌, false, length, Some, None, IfOk, IfErr, IfSome};
-ghost use Rattle.std.specs.Prelude.{IfNone, IsTrue};
+ghost use Rattle.std.specs.Prelude.{IfNone, IsTrue, is_some};
 ghost use Rattle.std.specs.Arc.{arc_value};
 ghost use Rattle.arc_owners.specs.count.Calls.{IsPassOfNone};
 ghost use Rattle.arc_block.specs.Block.{buffer_info, raw_info};
@@ -10,7 +10,7 @@ ghost use Rattle.arc_block.specs.Place.{on_block, metadata_at, size_at};
 ghost use Rattle.arc_block.specs.Table.{reader};
 ghost use Rattle.arc_parts.specs.Window.{IsBufferWhole, IsRawWhole, window_of};
 ghost use Rattle.arc_parts.specs.Steps.{IsPassAt, MakesOver, MakesOverRaw, Begins, TakesAt};
-ghost use Rattle.arc_parts.specs.Steps.{RefusesTaking};
+ghost use Rattle.arc_parts.specs.Steps.{RefusesTaking, LeavesLastAt};
 
 use super::Parts;
 use crate::shared_buffer::SharedBuffer;
@@ -31,8 +31,8 @@ impl<S: Slice, B: Buffer<S::Item> + Drop, M: Drop, A: Allocator + Copy, H: Mark>
     A,
     H,
 > {
-    /// All items of a caller's buffer, on a block that keeps the buffer, with its metadata where
-    /// there is some: no item is copied. The pass, which is of no block, becomes the block's.
+    /// All items of a caller's buffer, on a block that keeps the buffer and the metadata, if there
+    /// is some. No item is copied. The pass, which is of no block, becomes the block's.
     ///
     /// # Errors
     ///
@@ -68,7 +68,7 @@ impl<S: Slice, B: Buffer<S::Item> + Drop, M: Drop, A: Allocator + Copy, H: Mark>
     }
 
     /// All items of a caller's buffer behind an `Arc`: no item is copied. Where the layout has an
-    /// `Arc` as a block by itself they stand on that, and nothing is added. Else they stand on a
+    /// `Arc` as a block by itself they stand on that, and no entry is added. Else they stand on a
     /// block that keeps the `Arc` and counts its own owners, and the pass, which is of no block,
     /// becomes the block's.
     ///
@@ -136,7 +136,7 @@ impl<S: Slice, B: Buffer<S::Item> + Drop, M: Drop, A: Allocator + Copy, H: Mark>
         }
     }
 
-    /// The metadata of the block, where it was made with some.
+    /// The metadata that the block was made with, or `None`.
     pub fn metadata(&self) -> Option<&M>
         ensures some { IfSome result (λ m. metadata_at self.now.place ≡ Some m.now) }
         ensures none { IfNone result (metadata_at self.now.place ≡ None) }
@@ -157,18 +157,18 @@ impl<S: Slice, B: Buffer<S::Item> + Drop, M: Drop, A: Allocator + Copy, H: Mark>
         }
     }
 
-    /// The caller's buffer, where the items are all of it, and no other owner lives. Its metadata
-    /// is dropped.
+    /// The caller's buffer, where the items are all of it and no other owner lives. The block's
+    /// metadata is dropped.
     ///
     /// # Errors
     ///
-    /// The parts, on another block or none, where another owner lives, and where the items are a
-    /// part alone.
+    /// The parts come back where they stand on no caller's buffer, where the items are only a part
+    /// of it, and where another owner lives.
     ///
     /// # History
     ///
-    /// Taken, Alone and Down. Refused, Alone with no where only the count could decide, and else
-    /// nothing.
+    /// Taken: Alone with yes, then Down. Refused: Alone with no, where only the count could decide;
+    /// else nothing.
     pub fn try_into_buffer_as(self, pass: &mut Pass<H>) -> Result<B, Self>
         requires role { self.role ≡ reader }
         requires pass { IsPassAt self.place pass.old }
@@ -209,6 +209,54 @@ impl<S: Slice, B: Buffer<S::Item> + Drop, M: Drop, A: Allocator + Copy, H: Mark>
         }
     }
 
+    /// Ends the parts, where the items are all of a caller's buffer, by one subtraction from the
+    /// count. The last owner gets the buffer, and the block's metadata is dropped; every other one
+    /// gets `None`.
+    ///
+    /// # Errors
+    ///
+    /// The parts come back exactly where they stand on no such buffer, or where the items are only
+    /// a part of it. Nothing is done then.
+    ///
+    /// # History
+    ///
+    /// Down; nothing on an error.
+    pub fn into_buffer_if_last_as(self, pass: &mut Pass<H>) -> Result<Option<B>, Self>
+        requires role { self.role ≡ reader }
+        requires pass { IsPassAt self.place pass.old }
+        ensures ended { IfOk result (λ last. IsBufferWhole self.items self.place
+            × LeavesLastAt self.place pass.old pass.new (is_some last)) }
+        ensures buffer { IfOk result (λ last. IfSome last (λ buffer.
+            (B.list buffer ≡ self.items) × (B.places buffer ≡ size_at self.place))) }
+        ensures refused { IfErr result (λ parts. (parts ≡ self)
+            × (¬ IsBufferWhole self.items self.place) × (pass.new ≡ pass.old)) }
+    {
+        if !self.is_buffer_whole() {
+            return Err(self);
+        }
+        let Parts {
+            on,
+            start: _,
+            end: _,
+            alloc: _,
+        } = self;
+        let Storage::Block(block) = on else {
+            unreachable!()
+        };
+        match block.into_content_if_last_as(pass) {
+            Some(content) => {
+                let CallersBuffer {
+                    buffer,
+                    metadata,
+                    writable: _,
+                } = content.into_buffer();
+                drop(metadata);
+                Ok(Some(buffer))
+            }
+            None => Ok(None),
+        }
+    }
+
     /// Whether the items are all of a caller's buffer behind an `Arc`.
     fn is_raw_whole(&self) -> bool
         ensures { IsTrue result ↔ IsRawWhole self.now.items self.now.place }
@@ -220,18 +268,18 @@ impl<S: Slice, B: Buffer<S::Item> + Drop, M: Drop, A: Allocator + Copy, H: Mark>
         }
     }
 
-    /// The `Arc` of the caller's buffer, where the items are all of that, and no other owner of the
-    /// block lives. Of an `Arc` that is a block by itself nobody is asked.
+    /// The `Arc` of the caller's buffer, where the items are all of the buffer, and no other owner
+    /// of the block lives. Of an `Arc` that is a block by itself no count is read.
     ///
     /// # Errors
     ///
-    /// The parts, on another block or none, where another owner of a block that counts them lives,
-    /// and where the items are a part alone.
+    /// The parts come back where they stand on no `Arc`, where the items are only a part of the
+    /// buffer, and where another owner lives of a block that counts its owners.
     ///
     /// # History
     ///
-    /// Taken, Alone and Down. Refused, Alone with no where only the count could decide, and else
-    /// nothing.
+    /// Taken: Alone with yes, then Down. Refused: Alone with no, where only the count could decide;
+    /// else nothing.
     pub fn try_into_raw_as(self, pass: &mut Pass<H>) -> Result<Arc<B, A>, Self>
         requires role { self.role ≡ reader }
         requires pass { IsPassAt self.place pass.old }
@@ -265,7 +313,49 @@ impl<S: Slice, B: Buffer<S::Item> + Drop, M: Drop, A: Allocator + Copy, H: Mark>
         }
     }
 
-    /// The metadata of the caller's buffer on which the parts stand, behind an `Arc` or not.
+    /// Ends the parts, where the items are all of a caller's buffer behind an `Arc`, by one
+    /// subtraction from the count. The last owner gets the `Arc`, and every other one `None`. Where
+    /// the `Arc` is a block by itself, it is given at once, and nothing is counted.
+    ///
+    /// # Errors
+    ///
+    /// The parts come back exactly where they stand on no such buffer, or where the items are only
+    /// a part of it. Nothing is done then.
+    ///
+    /// # History
+    ///
+    /// On a block that counts its owners: Down; nothing on an error.
+    pub fn into_raw_if_last_as(self, pass: &mut Pass<H>) -> Result<Option<Arc<B, A>>, Self>
+        requires role { self.role ≡ reader }
+        requires pass { IsPassAt self.place pass.old }
+        ensures ended { IfOk result (λ last. IsRawWhole self.items self.place
+            × LeavesLastAt self.place pass.old pass.new (is_some last)) }
+        ensures shared { IfOk result (λ last. IfSome last (λ shared.
+            B.list (arc_value shared) ≡ self.items)) }
+        ensures refused { IfErr result (λ parts. (parts ≡ self)
+            × (¬ IsRawWhole self.items self.place) × (pass.new ≡ pass.old)) }
+    {
+        if !self.is_raw_whole() {
+            return Err(self);
+        }
+        let Parts {
+            on,
+            start: _,
+            end: _,
+            alloc: _,
+        } = self;
+        match on {
+            Storage::Block(block) => match block.into_content_if_last_as(pass) {
+                Some(content) => Ok(Some(content.into_raw())),
+                None => Ok(None),
+            },
+            Storage::Raw(shared) => Ok(Some(shared.into_arc())),
+            _ => unreachable!(),
+        }
+    }
+
+    /// The metadata that lies in the caller's buffer on which the parts stand, behind an `Arc` or
+    /// not, or `None` where they stand on none.
     pub fn borrowed_metadata(&self) -> Option<&B::Metadata>
     where
         B: BorrowMetadata,

@@ -36,17 +36,18 @@ impl<S: Slice, B: Buffer<S::Item> + Drop, M: Drop, A: Allocator + Copy, H: Mark>
         }
     }
 
-    /// The items as an array, where there are `N` of them, which are all places of a native block,
-    /// and no other owner lives. Else the parts come back.
+    /// The items as an array of `N`, where they are all places of a native block, and no other
+    /// owner lives.
     ///
     /// # Errors
     ///
-    /// The parts, on no block always.
+    /// The parts come back where there is another number of items, where these aren't all places of
+    /// a native block, and where another owner lives.
     ///
     /// # History
     ///
-    /// Taken, Alone and Down. Refused, Alone with no where only the count could decide, and else
-    /// nothing.
+    /// Taken: Alone with yes, then Down. Refused: Alone with no, where only the count could decide;
+    /// else nothing.
     pub fn try_into_array_as<const N: usize>(self, pass: &mut Pass<H>) -> Result<[S::Item; N], Self>
         requires role { self.role ≡ reader }
         requires pass { IsPassAt self.place pass.old }
@@ -78,7 +79,7 @@ impl<S: Slice, B: Buffer<S::Item> + Drop, M: Drop, A: Allocator + Copy, H: Mark>
     ///
     /// # History
     ///
-    /// On a block that counts its owners Down.
+    /// On a block that counts its owners: Down.
     #[inline(always)]
     pub fn release_as(self, pass: &mut Pass<H>)
         requires pass { IsPassAt self.place pass.old }
@@ -97,13 +98,13 @@ impl<S: Slice, B: Buffer<S::Item> + Drop, M: Drop, A: Allocator + Copy, H: Mark>
         }
     }
 
-    /// What a drop does: under `Open` the owner ends with a new pass, and the last one gives the
-    /// block back; under `Whole` it is forgotten, without a step. The pass is the one that the
-    /// owner ended with; on no block, and under `Whole`, it is of none.
+    /// What a drop does. Under `Open` the owner ends with a new pass, which is the answer, and the
+    /// last one gives the block back. Under `Whole` it is a forgotten owner: no step is made. The
+    /// answer is a pass of no block under `Whole`, and on no block.
     ///
     /// # History
     ///
-    /// On a block that counts its owners Down under `Open`, and nothing under `Whole`.
+    /// Under `Open`, on a block that counts its owners: Down. Else nothing.
     #[inline(always)]
     pub fn let_go(self) -> Pass<H>
         ensures forgotten { H.whole ≡ true → IsPassOfNone result }
@@ -117,12 +118,12 @@ impl<S: Slice, B: Buffer<S::Item> + Drop, M: Drop, A: Allocator + Copy, H: Mark>
         }
     }
 
-    /// Ends the parts: it reads the count first, and gives the block back without a further step
-    /// where no other owner lives, else it counts down.
+    /// Ends the parts. It reads the count first: where no other owner lives it gives the block back
+    /// without another step, and else it counts down.
     ///
     /// # History
     ///
-    /// On a block Alone with what was found, then Down.
+    /// On a block that counts its owners: Alone with the answer, then Down.
     pub fn drop_with_unique_hint_as(self, pass: &mut Pass<H>)
         requires role { self.role ≡ reader }
         requires pass { IsPassAt self.place pass.old }
@@ -142,7 +143,7 @@ impl<S: Slice, B: Buffer<S::Item> + Drop, M: Drop, A: Allocator + Copy, H: Mark>
         }
     }
 
-    /// The same parts, of items of another kind. It adds nothing.
+    /// The same parts, of items of another kind. It adds no entry.
     pub fn into_kind<K: Slice<Item = S::Item>>(self) -> Parts<K, B, M, A, H>
         requires { K.DROPS ≡ S.DROPS }
         ensures { result ≡ self }
@@ -158,12 +159,11 @@ impl<S: Slice, B: Buffer<S::Item> + Drop, M: Drop, A: Allocator + Copy, H: Mark>
         Parts::over(on, start, end, alloc)
     }
 
-    /// The items as a slice that is there for good, where they stand on one, or on nothing. Else
-    /// the parts come back.
+    /// The items as a `'static` slice, where they stand on one, or on nothing.
     ///
     /// # Errors
     ///
-    /// The parts, exactly where they stand on a block.
+    /// The parts come back exactly where they stand on a block.
     pub fn try_into_static(self) -> Result<StaticSlice<S::Item>, Self>
         requires role { self.role ≡ reader }
         ensures taken { IfOk result (λ items. (items ≡ self.items) × ¬ IsOnBlock self.place) }

@@ -1,4 +1,4 @@
-//! Parts of a window that is to be one of another layout.
+//! Parts of a window that changes its layout.
 ghost use Rattle.std.specs.Prelude.{◌≡◌, IfOk, IfErr};
 ghost use Rattle.arc_block.specs.Block.{raw};
 ghost use Rattle.arc_block.specs.LayoutFacts.{layout_facts};
@@ -45,26 +45,29 @@ impl<S: Slice, B: Buffer<S::Item> + Drop, M: Drop, A: Allocator + Copy, H: Mark>
         }
     }
 
-    /// The same parts, as those of a window under the layout `L`: they go where `layout_move` says.
-    /// Where they stay nothing is added. On nothing, under a layout without static data, they are
-    /// what no items are made of: a native block of no places, of which the pass becomes one. An
-    /// `Arc` that was a block by itself gets a block that counts its owners, of which the pass
-    /// becomes one; one that is counted is left for a clone of it, where the layout has it as a
-    /// block by itself.
+    /// The same parts, as those of a window under the layout `L`. They go where `layout_move` says:
+    ///
+    /// - They stay where the layout holds what they stand on. No entry is added.
+    /// - On nothing, under a layout without static data, they go to a native block of no places.
+    ///   The pass becomes that block's.
+    /// - An `Arc` that is a block by itself goes into a new block, which keeps it and counts its
+    ///   owners. The pass becomes that block's.
+    /// - A block that counts an `Arc` is left for a clone of the `Arc`, where the layout has an
+    ///   `Arc` as a block by itself.
     ///
     /// # Errors
     ///
-    /// The parts, where the layout doesn't hold their block or their static data, where memory for
-    /// a new block is refused, and where the `Arc` refuses to be cloned; the pass is then as it
-    /// was.
+    /// The parts come back where the layout holds neither their block nor their static data, where
+    /// memory for a new block is refused, and where the `Arc` refuses to be cloned; the pass is
+    /// then as before.
     ///
     /// # Allocates
     ///
-    /// For a new block.
+    /// Once, for a new block.
     ///
     /// # History
     ///
-    /// Down where they leave a block that counts an `Arc`, and else nothing.
+    /// Down where they leave a block that counts an `Arc`; else nothing.
     pub fn try_with_layout_as<L: Layout>(self, pass: &mut Pass<H>) -> Result<Self, Self>
         requires role { self.role ≡ reader }
         requires pass { IsPassAt self.place pass.old }
@@ -94,7 +97,7 @@ impl<S: Slice, B: Buffer<S::Item> + Drop, M: Drop, A: Allocator + Copy, H: Mark>
     ///
     /// # Errors
     ///
-    /// The parts, where memory for the block is refused; the pass is then as before.
+    /// The parts come back where memory for the block is refused; the pass is then as before.
     ///
     /// # Allocates
     ///
@@ -129,7 +132,7 @@ impl<S: Slice, B: Buffer<S::Item> + Drop, M: Drop, A: Allocator + Copy, H: Mark>
     ///
     /// # Errors
     ///
-    /// The parts, where the `Arc` refuses to be cloned; the pass is then as before.
+    /// The parts come back where the `Arc` refuses to be cloned; the pass is then as before.
     ///
     /// # History
     ///

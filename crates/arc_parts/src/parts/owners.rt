@@ -29,20 +29,19 @@ impl<S: Slice, B: Buffer<S::Item> + Drop, M: Drop, A: Allocator + Copy, H: Mark>
     A,
     H,
 > {
-    /// One attempt to make another owner of the same items at the same place: nothing where another
-    /// thread's step came between, which only a block's owner can meet. A pass that knows that the
-    /// word has a count adds no entry then; where the exchange was lost that was to promote it,
-    /// Joined.
+    /// One attempt to make another owner of the same items at the same place. It answers `None`,
+    /// and adds no entry, where another thread's step came between: only parts on a block meet
+    /// that. It takes no memory.
     ///
     /// # Errors
     ///
-    /// On a block `CountFull`, exactly where `MAX_OWNERS` owners live, and `AllocError`, only where
-    /// the layout's clones may want memory on a block of its sort: of an `Arc` that is a block by
-    /// itself where it has as many owners as it may have.
+    /// - `CountFull` on a block that counts its owners, exactly where `MAX_OWNERS` of them live.
+    /// - `AllocError` on an `Arc` that is a block by itself, where that has as many owners as it
+    ///   may have.
     ///
     /// # History
     ///
-    /// On a block that counts its owners Up, or Full where refused.
+    /// On a block that counts its owners: Up, or Full where it is refused.
     #[inline(always)]
     pub fn try_clone_once_as<L: Layout>(
         &self,
@@ -84,9 +83,9 @@ impl<S: Slice, B: Buffer<S::Item> + Drop, M: Drop, A: Allocator + Copy, H: Mark>
         }))
     }
 
-    /// One attempt to make another owner, of the items from `start` to `end`. With no items it
-    /// stands on nothing where the layout has static data, and nothing is added. Else as
-    /// `try_clone_once_as`.
+    /// One attempt to make another owner, of the items from `start` to before `end`. Without items,
+    /// under a layout that has static data, it stands on nothing, and no entry is added. Else it is
+    /// as `try_clone_once_as`.
     ///
     /// # Errors
     ///
@@ -94,7 +93,7 @@ impl<S: Slice, B: Buffer<S::Item> + Drop, M: Drop, A: Allocator + Copy, H: Mark>
     ///
     /// # History
     ///
-    /// Where the part stands on a block that counts its owners Up, or Full where refused.
+    /// Where the part stands on a block that counts its owners: Up, or Full where it is refused.
     #[inline(always)]
     pub fn try_part_once_as<L: Layout>(
         &self,
@@ -124,7 +123,7 @@ impl<S: Slice, B: Buffer<S::Item> + Drop, M: Drop, A: Allocator + Copy, H: Mark>
         if stands_on_nothing::<L>(end - start) {
             return Some(Ok(Self::on_nothing(self.alloc)));
         }
-        // It is read, so that it is known to be a number of 64 bits.
+        // It is read so that the prover knows that it is a number of 64 bits.
         let _last = self.end;
         let (from, to) = (self.start + start, self.start + end);
         match &self.on {
@@ -165,13 +164,13 @@ impl<S: Slice, B: Buffer<S::Item> + Drop, M: Drop, A: Allocator + Copy, H: Mark>
         }
     }
 
-    /// Whether nobody else has a part of what the parts stand on: on a block the count is asked, by
-    /// one load, and of a caller's buffer the buffer after it. `false` on no block, and of an
-    /// `Arc`.
+    /// Whether no other owner has a part of what the parts stand on. On a block the count is read,
+    /// by one load; of a caller's buffer the buffer is asked too. The answer is `false` on no
+    /// block, and on an `Arc`.
     ///
     /// # History
     ///
-    /// On a block, but for an `Arc`, Alone with what the count says.
+    /// On a block that is no `Arc`: Alone with what the count says.
     #[inline(always)]
     pub fn is_unique_as(&self, pass: &mut Pass<H>) -> bool
         requires role { self.now.role ≡ reader }
@@ -187,7 +186,7 @@ impl<S: Slice, B: Buffer<S::Item> + Drop, M: Drop, A: Allocator + Copy, H: Mark>
         }
     }
 
-    /// Afterwards the first pass has seen at least what the other had. It adds nothing.
+    /// From here on the first pass has seen at least what the other had. It adds no entry.
     pub fn learn(&self, pass: &mut Pass<H>, other: &Pass<H>)
         requires pass { IsPassAt self.now.place pass.old }
         requires other { IsPassAt self.now.place other.now }
@@ -201,7 +200,8 @@ impl<S: Slice, B: Buffer<S::Item> + Drop, M: Drop, A: Allocator + Copy, H: Mark>
         }
     }
 
-    /// How many owners the block may have at once, and under which mark it is.
+    /// `MAX_OWNERS`: how many owners the block may have at once. The contract says too that the
+    /// block is under the mark `H`.
     pub fn max_owners(&self) -> u64
         ensures answer { result ≡ 9223372036854775807 }
         ensures block { at_owner self.now.place (Unit {0}) (λ o.
@@ -222,8 +222,8 @@ impl<S: Slice, B: Buffer<S::Item> + Drop, M: Drop, A: Allocator + Copy, H: Stepp
     A,
     H,
 > {
-    /// A new pass of the block, which has seen at least how this owner became one, and made
-    /// nothing; on no block a pass of none. It adds nothing.
+    /// A new pass of the block. It has seen at least how this owner became one, and nothing was
+    /// made with it. On no block it is a pass of none. It adds no entry.
     pub fn pass(&self) -> Pass<H>
         ensures { at_owner self.now.place (IsPassOfNone result) (λ o. IsNewPass o result) }
     {

@@ -1,5 +1,5 @@
 //! Parts over a vector: made of one, and taken back as one.
-ghost use Rattle.std.specs.Prelude.{◌≡◌, ◌≤◌, ◌↔◌, false, IfOk, IfErr, IsTrue};
+ghost use Rattle.std.specs.Prelude.{◌≡◌, ◌≤◌, ◌↔◌, false, IfOk, IfErr, IfSome, IsTrue, is_some};
 ghost use Rattle.std.specs.Vec.{vec_capacity, vec_len};
 ghost use Rattle.arc_buffer.specs.Slice.{sub};
 ghost use Rattle.arc_owners.specs.count.Calls.{IsPassOfNone, Asks};
@@ -8,7 +8,7 @@ ghost use Rattle.arc_block.specs.Table.{reader};
 ghost use Rattle.arc_parts.specs.Window.{IsOfSort, IsVecPart, IsBoxWhole, window_of};
 ghost use Rattle.arc_block.specs.Block.{vector};
 ghost use Rattle.arc_parts.specs.Steps.{IsPassAt, MakesOfVec, NeedsVecBlock, Begins, TakesAt};
-ghost use Rattle.arc_parts.specs.Steps.{RefusesTaking};
+ghost use Rattle.arc_parts.specs.Steps.{RefusesTaking, LeavesLastAt};
 
 use super::Parts;
 use crate::storage::Storage;
@@ -40,8 +40,9 @@ impl<S: Slice, B: Buffer<S::Item> + Drop, M: Drop, A: Allocator + Copy, H: Mark>
     A,
     H,
 > {
-    /// All items of a vector, on a block that is the vector: no item is copied. One without places
-    /// is as a list of no items. The pass, which is of no block, becomes the block's.
+    /// All items of a vector, on a block that is the vector: no item is copied. A vector without
+    /// places is as a list of no items by `try_from_slice_as`. The pass, which is of no block,
+    /// becomes the block's.
     ///
     /// # Errors
     ///
@@ -100,13 +101,13 @@ impl<S: Slice, B: Buffer<S::Item> + Drop, M: Drop, A: Allocator + Copy, H: Mark>
     ///
     /// # Errors
     ///
-    /// The parts, on another block or none, where another owner lives, and where items that are
-    /// dropped one by one are a part alone.
+    /// The parts come back where they stand on no vector, where items that are dropped one by one
+    /// are only a part of the vector, and where another owner lives.
     ///
     /// # History
     ///
-    /// Taken, Alone and Down. Refused, Alone with no where only the count could decide, and else
-    /// nothing.
+    /// Taken: Alone with yes, then Down. Refused: Alone with no, where only the count could decide;
+    /// else nothing.
     pub fn try_into_vec_as(self, pass: &mut Pass<H>) -> Result<Vec<S::Item, A>, Self>
         requires role { self.role ≡ reader }
         requires pass { IsPassAt self.place pass.old }
@@ -122,7 +123,35 @@ impl<S: Slice, B: Buffer<S::Item> + Drop, M: Drop, A: Allocator + Copy, H: Mark>
         self.try_take_memory_as(pass)
     }
 
-    /// Whether the list is all of the block's vector, which has no places more.
+    /// Ends the parts, where the block is a vector, by one subtraction from the count. The last
+    /// owner gets the vector, with the items moved to its front, and every other one `None`. Items
+    /// that are dropped one by one have to be all of the vector.
+    ///
+    /// # Errors
+    ///
+    /// The parts come back exactly where they stand on no vector, or where items that are dropped
+    /// one by one are only a part of the vector. Nothing is done then.
+    ///
+    /// # History
+    ///
+    /// Down; nothing on an error.
+    pub fn into_vec_if_last_as(self, pass: &mut Pass<H>) -> Result<Option<Vec<S::Item, A>>, Self>
+        requires role { self.role ≡ reader }
+        requires pass { IsPassAt self.place pass.old }
+        ensures ended { IfOk result (λ last. IsVecPart S.DROPS self.items self.place
+            × LeavesLastAt self.place pass.old pass.new (is_some last)) }
+        ensures vector { IfOk result (λ last. IfSome last (λ v. (v.items ≡ self.items)
+            × (vec_capacity v ≡ size_at self.place))) }
+        ensures refused { IfErr result (λ parts. (parts ≡ self)
+            × (¬ IsVecPart S.DROPS self.items self.place) × (pass.new ≡ pass.old)) }
+    {
+        if !self.is_vec_part() {
+            return Err(self);
+        }
+        Ok(self.into_memory_if_last_as(pass))
+    }
+
+    /// Whether the items fill all places of the block's vector.
     fn is_box_whole(&self) -> bool
         ensures { IsTrue result ↔ IsBoxWhole self.now.items self.now.place }
     {
@@ -132,18 +161,18 @@ impl<S: Slice, B: Buffer<S::Item> + Drop, M: Drop, A: Allocator + Copy, H: Mark>
         }
     }
 
-    /// The items as the block's vector, where they are all of it, it has no places more, and no
-    /// other owner lives: so it is a box.
+    /// The items as the block's vector, where they fill all its places, as a box's do, and no other
+    /// owner lives.
     ///
     /// # Errors
     ///
-    /// The parts, on another block or none, where another owner lives, and where the items are a
-    /// part of the vector's places alone.
+    /// The parts come back where they stand on no vector, where the items don't fill all places of
+    /// the vector, and where another owner lives.
     ///
     /// # History
     ///
-    /// Taken, Alone and Down. Refused, Alone with no where only the count could decide, and else
-    /// nothing.
+    /// Taken: Alone with yes, then Down. Refused: Alone with no, where only the count could decide;
+    /// else nothing.
     pub fn try_into_box_vec_as(self, pass: &mut Pass<H>) -> Result<Vec<S::Item, A>, Self>
         requires role { self.role ≡ reader }
         requires pass { IsPassAt self.place pass.old }
@@ -159,11 +188,69 @@ impl<S: Slice, B: Buffer<S::Item> + Drop, M: Drop, A: Allocator + Copy, H: Mark>
         self.try_take_memory_as(pass)
     }
 
-    /// The items as the vector of their block, which is one, where no other owner lives.
+    /// Ends the parts, where the items fill all places of the block's vector, by one subtraction
+    /// from the count. The last owner gets the vector, and every other one `None`.
     ///
     /// # Errors
     ///
-    /// The parts, where another owner lives.
+    /// The parts come back exactly where they stand on no vector, or where the items don't fill all
+    /// places of the vector. Nothing is done then.
+    ///
+    /// # History
+    ///
+    /// Down; nothing on an error.
+    pub fn into_box_vec_if_last_as(
+        self,
+        pass: &mut Pass<H>,
+    ) -> Result<Option<Vec<S::Item, A>>, Self>
+        requires role { self.role ≡ reader }
+        requires pass { IsPassAt self.place pass.old }
+        ensures ended { IfOk result (λ last. IsBoxWhole self.items self.place
+            × LeavesLastAt self.place pass.old pass.new (is_some last)) }
+        ensures vector { IfOk result (λ last. IfSome last (λ v. (v.items ≡ self.items)
+            × (vec_capacity v ≡ size_at self.place))) }
+        ensures refused { IfErr result (λ parts. (parts ≡ self)
+            × (¬ IsBoxWhole self.items self.place) × (pass.new ≡ pass.old)) }
+    {
+        if !self.is_box_whole() {
+            return Err(self);
+        }
+        Ok(self.into_memory_if_last_as(pass))
+    }
+
+    /// Ends the parts, whose block is a vector, by one subtraction from the count. The last owner
+    /// gets the vector, with these items only.
+    ///
+    /// # History
+    ///
+    /// Down.
+    fn into_memory_if_last_as(self, pass: &mut Pass<H>) -> Option<Vec<S::Item, A>>
+        requires pass { IsPassAt self.place pass.old }
+        requires sort { IsOfSort vector self.place }
+        ensures ended { LeavesLastAt self.place pass.old pass.new (is_some result) }
+        ensures vector { IfSome result (λ v. (v.items ≡ self.items)
+            × (vec_capacity v ≡ size_at self.place)) }
+    {
+        let Parts {
+            on,
+            start,
+            end,
+            alloc: _,
+        } = self;
+        let Storage::Block(block) = on else {
+            unreachable!()
+        };
+        match block.into_content_if_last_as(pass) {
+            Some(content) => Some(cut_to(content.into_vec(), start, end)),
+            None => None,
+        }
+    }
+
+    /// The items as the vector that their block is, where no other owner lives.
+    ///
+    /// # Errors
+    ///
+    /// The parts come back where another owner lives.
     fn try_take_memory_as(self, pass: &mut Pass<H>) -> Result<Vec<S::Item, A>, Self>
         requires pass { IsPassAt self.place pass.old }
         requires sort { IsOfSort vector self.place }

@@ -30,7 +30,7 @@ impl<L: Layout, B: Buffer<u8> + Drop, M: Drop, A: Allocator + Copy, H: Mark> Buf
         self.as_slice()
     }
 
-    /// The window's own `advance`.
+    /// Takes the first `count` bytes off, by the window's own `advance`.
     fn advance(&mut self, count: usize)
         requires { count ≤ length self.old.items }
         ensures value { self.new.items ≡ drop count self.old.items }
@@ -59,7 +59,7 @@ impl<L: Layout, B: Buffer<u8> + Drop, M: Drop, A: Allocator + Copy, H: Mark> Buf
         self.as_slice()
     }
 
-    /// The window's own `advance`.
+    /// Takes the first `count` bytes off, by the window's own `advance`.
     fn advance(&mut self, count: usize)
         requires { count ≤ length self.old.items }
         ensures value { self.new.items ≡ drop count self.old.items }

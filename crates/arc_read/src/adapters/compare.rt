@@ -88,7 +88,7 @@ impl<
     A: Allocator + Copy,
     H: Mark,
 > ArcSlice<S, L, B, M, A, H> {
-    /// Whether the window's items are those of the slice.
+    /// Whether the window's items equal those of `other`.
     pub fn eq_slice(&self, other: &[S::Item]) -> bool
     where
         S::Item: PartialEq,
@@ -106,7 +106,7 @@ impl<L: Layout, B: Buffer<u8> + Drop, M: Drop, A: Allocator + Copy, H: Mark> Arc
     A,
     H,
 > {
-    /// Whether the window's text is this one.
+    /// Whether the window's text equals `other`.
     pub fn eq_str(&self, other: &str) -> bool
         ensures { result ≡ pointwise nat_eq self.now.items other.now }
     {

@@ -27,7 +27,7 @@ impl<
     A: Allocator + Copy,
     H: Mark,
 > ArcSlice<S, L, B, M, A, H> {
-    /// The items from `start` to `end`, borrowed. No owner is made, and nothing is added.
+    /// The items from `start` to before `end`, borrowed. No owner is made, and no entry is added.
     #[inline(always)]
     pub fn borrow(&self, start: usize, end: usize) -> ArcSliceBorrow<'_, S, L, B, M, A, H>
         requires { IsRange S.boundary self.now.items start end }
@@ -81,7 +81,7 @@ impl<
         range::check_range::<S>(self.as_slice(), start, end)
     }
 
-    /// The items from `start` to `end` of the part, borrowed from the same window.
+    /// The items from `start` to before `end` of the part, borrowed from the same window.
     pub fn reborrow(&self, start: usize, end: usize) -> ArcSliceBorrow<'a, S, L, B, M, A, H>
         requires { IsRange S.boundary (borrowed_part self.now).items start end }
         ensures { borrowed_part result ≡ cut_window (borrowed_part self.now) start end }
@@ -94,22 +94,20 @@ impl<
         }
     }
 
-    /// A window over the part, an owner more of the block. With no items it stands on nothing where
-    /// the layout has static data, and nothing is added.
+    /// A window over the part: one owner more of the block. Without items, under a layout that has
+    /// static data, it stands on nothing, and no entry is added.
     ///
-    /// Copies no item. It takes `rt` since an attempt that another thread disturbs is tried again.
+    /// It copies no item and takes no memory. It takes `rt` since an attempt that another thread
+    /// disturbs is tried again.
     ///
     /// # Errors
     ///
-    /// Those of `ArcSlice::try_clone_as`, where the window made stands on a block.
-    ///
-    /// # Allocates
-    ///
-    /// Only where `ArcSlice::try_clone_as` does.
+    /// Those of `ArcSlice::try_clone_as`, where the new window stands on a block.
     ///
     /// # History
     ///
-    /// Where the window made stands on a block that counts its owners Up, or Full where refused.
+    /// Where the new window stands on a block that counts its owners: Up, or Full where it is
+    /// refused.
     #[inline(always)]
     pub fn try_clone_arc_as(
         self,
@@ -132,15 +130,12 @@ impl<
     ///
     /// # Errors
     ///
-    /// Those of `try_clone_arc_as`.
-    ///
-    /// # Allocates
-    ///
-    /// As `try_clone_arc_as`.
+    /// Those of `ArcSlice::try_clone`, where the new window stands on a block.
     ///
     /// # History
     ///
-    /// That of `try_clone_arc_as`.
+    /// Where the new window stands on a block that counts its owners: Up, or Full where it is
+    /// refused.
     #[inline(always)]
     pub fn try_clone_arc(self, rt: &impl Wait) -> Result<ArcSlice<S, L, B, M, A, H>, OwnerError>
     where

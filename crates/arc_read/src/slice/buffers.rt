@@ -1,7 +1,7 @@
 //! Read windows over a caller's buffer, or over an `Arc` of one: made of them, and taken back.
 ghost use Rattle.arc_owners.specs.history.Histories.{Counted};
 ghost use Rattle.std.specs.Prelude.{◌≡◌, false, length, Some, None};
-ghost use Rattle.std.specs.Prelude.{IfOk, IfErr, IfSome, IfNone};
+ghost use Rattle.std.specs.Prelude.{IfOk, IfErr, IfSome, IfNone, is_some};
 ghost use Rattle.std.specs.Arc.{arc_value};
 ghost use Rattle.arc_owners.specs.count.Calls.{IsPassOfNone};
 ghost use Rattle.arc_block.specs.Block.{buffer_info};
@@ -10,7 +10,7 @@ ghost use Rattle.arc_block.specs.Place.{nowhere, metadata_at};
 ghost use Rattle.arc_parts.specs.Window.{IsBufferWhole, IsRawWhole};
 ghost use Rattle.arc_block.specs.Place.{size_at};
 ghost use Rattle.arc_parts.specs.Steps.{IsPassAt, MakesOver, MakesOverRaw, Begins};
-ghost use Rattle.arc_parts.specs.Steps.{TakesAt, RefusesTaking};
+ghost use Rattle.arc_parts.specs.Steps.{TakesAt, RefusesTaking, LeavesLastAt};
 ghost use Rattle.arc_read.specs.Steps.{WithNewPass};
 
 use super::ArcSlice;
@@ -84,8 +84,8 @@ impl<
         }
     }
 
-    /// A window over a caller's buffer as by `try_from_buffer_as`, with metadata, which is one for
-    /// all windows of the block.
+    /// A window over all items of a caller's buffer, as `try_from_buffer_as` makes it, with
+    /// metadata that all windows of the block share.
     ///
     /// # Errors
     ///
@@ -121,10 +121,11 @@ impl<
         }
     }
 
-    /// A window over all items of a caller's buffer behind an `Arc`: no item is copied. Where the
-    /// layout has an `Arc` as a block by itself it stands on that: nothing is counted or added, and
-    /// the pass stays of no block. Else it stands on a block that keeps the `Arc` and counts its
-    /// own owners: the pass, which is of no block, becomes the block's, and the window is owner 0.
+    /// A window over all items of a caller's buffer behind an `Arc`: no item is copied. Under a
+    /// layout that has an `Arc` as a block by itself the window stands on that: nothing is counted
+    /// or added, and the pass stays one of no block. Under others it stands on a block that keeps
+    /// the `Arc` and counts its own owners: the pass, which is of no block, becomes the block's,
+    /// and the window is owner 0.
     ///
     /// # Errors
     ///
@@ -155,7 +156,7 @@ impl<
         }
     }
 
-    /// The metadata of the block, where it was made with some.
+    /// The metadata that the window's block was made with, or `None`.
     pub fn metadata(&self) -> Option<&M>
         ensures some { IfSome result (λ m. metadata_at self.now.place ≡ Some m.now) }
         ensures none { IfNone result (metadata_at self.now.place ≡ None) }
@@ -163,7 +164,8 @@ impl<
         self.parts.metadata()
     }
 
-    /// The metadata of the caller's buffer on which the window stands, behind an `Arc` or not.
+    /// The metadata that lies in the caller's buffer on which the window stands, behind an `Arc` or
+    /// not, or `None` where it stands on none.
     pub fn borrowed_metadata(&self) -> Option<&B::Metadata>
     where
         B: BorrowMetadata,
@@ -174,18 +176,18 @@ impl<
         self.parts.borrowed_metadata()
     }
 
-    /// The caller's buffer on which the window stands, where the items are all of it, and no other
-    /// owner lives. Its metadata is dropped.
+    /// The caller's buffer on which the window stands, where the items are all of it and no other
+    /// owner lives. The block's metadata is dropped.
     ///
     /// # Errors
     ///
-    /// The window, on another block or none, where another owner lives, and where the items are a
-    /// part alone.
+    /// The window comes back where it stands on no caller's buffer, where the items are only a part
+    /// of it, and where another owner lives.
     ///
     /// # History
     ///
-    /// Taken, Alone and Down. Refused, Alone with no where only the count could decide, and else
-    /// nothing.
+    /// Taken: Alone with yes, then Down. Refused: Alone with no, where only the count could decide;
+    /// else nothing.
     pub fn try_into_buffer_as(self, pass: &mut Pass<H>) -> Result<B, Self>
         requires pass { IsPassAt self.place pass.old }
         ensures taken { IfOk result (λ buffer. IsBufferWhole self.items self.place
@@ -200,18 +202,18 @@ impl<
         }
     }
 
-    /// The `Arc` of a caller's buffer on which the window stands, where the items are all of that,
-    /// and no other owner lives of a block that counts them.
+    /// The `Arc` of the caller's buffer on which the window stands, where the items are all of the
+    /// buffer, and no other owner lives of a block that counts its owners.
     ///
     /// # Errors
     ///
-    /// The window, on another block or none, where another owner of a block that counts them lives,
-    /// and where the items are a part alone.
+    /// The window comes back where it stands on no `Arc`, where the items are only a part of the
+    /// buffer, and where another owner lives of a block that counts its owners.
     ///
     /// # History
     ///
-    /// On a block that counts its owners: taken, Alone and Down; refused, Alone with no where only
-    /// the count could decide. Else nothing.
+    /// On a block that counts its owners, taken: Alone with yes, then Down. On one, refused: Alone
+    /// with no, where only the count could decide. Else nothing.
     pub fn try_into_raw_buffer_as(self, pass: &mut Pass<H>) -> Result<Arc<B, A>, Self>
         requires pass { IsPassAt self.place pass.old }
         ensures taken { IfOk result (λ shared. IsRawWhole self.items self.place
@@ -226,7 +228,62 @@ impl<
         }
     }
 
-    /// A window over all items of a caller's buffer: `try_from_buffer_as` with a new pass.
+    /// Ends the window, where its items are all of a caller's buffer, by one subtraction from the
+    /// count. The last owner gets the buffer, and the block's metadata is dropped; every other one
+    /// gets `None`. So of owners that all end by this call exactly one gets it.
+    ///
+    /// # Errors
+    ///
+    /// The window comes back exactly where it stands on no caller's buffer, or where the items are
+    /// only a part of it. Nothing is done then.
+    ///
+    /// # History
+    ///
+    /// Down; nothing on an error.
+    pub fn into_buffer_if_last_as(self, pass: &mut Pass<H>) -> Result<Option<B>, Self>
+        requires pass { IsPassAt self.place pass.old }
+        ensures ended { IfOk result (λ last. IsBufferWhole self.items self.place
+            × LeavesLastAt self.place pass.old pass.new (is_some last)) }
+        ensures buffer { IfOk result (λ last. IfSome last (λ buffer.
+            (B.list buffer ≡ self.items) × (B.places buffer ≡ size_at self.place))) }
+        ensures refused { IfErr result (λ window. (window ≡ self)
+            × (¬ IsBufferWhole self.items self.place) × (pass.new ≡ pass.old)) }
+    {
+        match self.into_parts().into_buffer_if_last_as(pass) {
+            Ok(last) => Ok(last),
+            Err(parts) => Err(Self::from_parts(parts)),
+        }
+    }
+
+    /// Ends the window, where its items are all of a caller's buffer behind an `Arc`, by one
+    /// subtraction from the count. The last owner gets the `Arc`, and every other one `None`. Where
+    /// the `Arc` is a block by itself, it is given at once, and nothing is counted.
+    ///
+    /// # Errors
+    ///
+    /// The window comes back exactly where it stands on no `Arc`, or where the items are only a
+    /// part of the buffer. Nothing is done then.
+    ///
+    /// # History
+    ///
+    /// On a block that counts its owners: Down; nothing on an error.
+    pub fn into_raw_buffer_if_last_as(self, pass: &mut Pass<H>) -> Result<Option<Arc<B, A>>, Self>
+        requires pass { IsPassAt self.place pass.old }
+        ensures ended { IfOk result (λ last. IsRawWhole self.items self.place
+            × LeavesLastAt self.place pass.old pass.new (is_some last)) }
+        ensures shared { IfOk result (λ last. IfSome last (λ shared.
+            B.list (arc_value shared) ≡ self.items)) }
+        ensures refused { IfErr result (λ window. (window ≡ self)
+            × (¬ IsRawWhole self.items self.place) × (pass.new ≡ pass.old)) }
+    {
+        match self.into_parts().into_raw_if_last_as(pass) {
+            Ok(last) => Ok(last),
+            Err(parts) => Err(Self::from_parts(parts)),
+        }
+    }
+
+    /// A window over all items of a caller's buffer, of which none is copied: `try_from_buffer_as`
+    /// with a new pass.
     ///
     /// # Errors
     ///
@@ -253,8 +310,8 @@ impl<
         made
     }
 
-    /// A window over a caller's buffer, with metadata: `try_from_buffer_with_metadata_as` with a
-    /// new pass.
+    /// A window over all items of a caller's buffer, with metadata that all windows of the block
+    /// share: `try_from_buffer_with_metadata_as` with a new pass.
     ///
     /// # Errors
     ///
@@ -308,15 +365,17 @@ impl<
         made
     }
 
-    /// The caller's buffer: `try_into_buffer_as` with a new pass.
+    /// The caller's buffer on which the window stands: `try_into_buffer_as` with a new pass.
     ///
     /// # Errors
     ///
-    /// Those of `try_into_buffer_as`.
+    /// The window comes back where it stands on no caller's buffer, where the items are only a part
+    /// of it, and where another owner lives.
     ///
     /// # History
     ///
-    /// That of `try_into_buffer_as`.
+    /// Taken: Alone with yes, then Down. Refused: Alone with no, where only the count could decide;
+    /// else nothing.
     pub fn try_into_buffer(self) -> Result<B, Self>
     where
         H: Stepping,
@@ -334,15 +393,18 @@ impl<
         taken
     }
 
-    /// The `Arc` of the caller's buffer: `try_into_raw_buffer_as` with a new pass.
+    /// The `Arc` of the caller's buffer on which the window stands: `try_into_raw_buffer_as` with a
+    /// new pass.
     ///
     /// # Errors
     ///
-    /// Those of `try_into_raw_buffer_as`.
+    /// The window comes back where it stands on no `Arc`, where the items are only a part of the
+    /// buffer, and where another owner lives of a block that counts its owners.
     ///
     /// # History
     ///
-    /// That of `try_into_raw_buffer_as`.
+    /// On a block that counts its owners, taken: Alone with yes, then Down. On one, refused: Alone
+    /// with no, where only the count could decide. Else nothing.
     pub fn try_into_raw_buffer(self) -> Result<Arc<B, A>, Self>
     where
         H: Stepping,
@@ -358,5 +420,63 @@ impl<
         let taken = self.try_into_raw_buffer_as(&mut pass);
         pass.show();
         taken
+    }
+
+    /// Ends the window, and gives the buffer to the last owner: `into_buffer_if_last_as` with a new
+    /// pass.
+    ///
+    /// # Errors
+    ///
+    /// The window comes back exactly where it stands on no caller's buffer, or where the items are
+    /// only a part of it. Nothing is done then.
+    ///
+    /// # History
+    ///
+    /// Down; nothing on an error.
+    pub fn into_buffer_if_last(self) -> Result<Option<B>, Self>
+    where
+        H: Stepping,
+        ensures ended { IfOk result (λ last. IsBufferWhole self.items self.place
+            × WithNewPass {H = H} H.real self.place (λ first now.
+            LeavesLastAt self.place first now (is_some last))) }
+        ensures buffer { IfOk result (λ last. IfSome last (λ buffer.
+            (B.list buffer ≡ self.items) × (B.places buffer ≡ size_at self.place))) }
+        ensures refused { IfErr result (λ window. (window ≡ self)
+            × (¬ IsBufferWhole self.items self.place)
+            × WithNewPass {H = H} H.real self.place (λ first last. last ≡ first)) }
+    {
+        let mut pass = self.pass();
+        let ended = self.into_buffer_if_last_as(&mut pass);
+        pass.show();
+        ended
+    }
+
+    /// Ends the window, and gives the `Arc` to the last owner: `into_raw_buffer_if_last_as` with a
+    /// new pass.
+    ///
+    /// # Errors
+    ///
+    /// The window comes back exactly where it stands on no `Arc`, or where the items are only a
+    /// part of the buffer. Nothing is done then.
+    ///
+    /// # History
+    ///
+    /// On a block that counts its owners: Down; nothing on an error.
+    pub fn into_raw_buffer_if_last(self) -> Result<Option<Arc<B, A>>, Self>
+    where
+        H: Stepping,
+        ensures ended { IfOk result (λ last. IsRawWhole self.items self.place
+            × WithNewPass {H = H} H.real self.place (λ first now.
+            LeavesLastAt self.place first now (is_some last))) }
+        ensures shared { IfOk result (λ last. IfSome last (λ shared.
+            B.list (arc_value shared) ≡ self.items)) }
+        ensures refused { IfErr result (λ window. (window ≡ self)
+            × (¬ IsRawWhole self.items self.place)
+            × WithNewPass {H = H} H.real self.place (λ first last. last ≡ first)) }
+    {
+        let mut pass = self.pass();
+        let ended = self.into_raw_buffer_if_last_as(&mut pass);
+        pass.show();
+        ended
     }
 }

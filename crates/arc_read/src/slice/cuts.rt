@@ -26,8 +26,8 @@ impl<
     A: Allocator + Copy,
     H: Mark,
 > ArcSlice<S, L, B, M, A, H> {
-    /// One attempt of `try_clone_as`: nothing where another thread's step came between, which only
-    /// a block's owner can meet. A pass that knows that the word has a count adds no entry then.
+    /// One attempt of `try_clone_as`. It answers `None`, and adds no entry, where another thread's
+    /// step came between: only a window on a block meets that.
     #[tactic(auto, using(arc_parts::proofs::Held::shared_held))]
     #[inline(always)]
     pub(super) fn try_clone_once_as(
@@ -49,23 +49,19 @@ impl<
         }
     }
 
-    /// Another window with the same items at the same place, an owner more of the block.
+    /// Another window over the same items at the same place: one owner more of the block.
     ///
-    /// Copies no item. It takes `rt` since an attempt that another thread disturbs is tried again.
+    /// It copies no item and takes no memory. It takes `rt` since an attempt that another thread
+    /// disturbs is tried again.
     ///
     /// # Errors
     ///
-    /// On a block `CountFull`, exactly where `MAX_OWNERS` owners live, and `AllocError`, only where
-    /// the layout's clones may want memory on a block of its sort: where an `Arc` is a block by
-    /// itself and can't be cloned.
-    ///
-    /// # Allocates
-    ///
-    /// Only where the layout's clones want memory on a block of its sort.
+    /// - `CountFull` on a block that counts its owners, exactly where `MAX_OWNERS` of them live.
+    /// - `AllocError` on an `Arc` that is a block by itself, where the `Arc` refuses to be cloned.
     ///
     /// # History
     ///
-    /// On a block that counts its owners Up, or Full where refused.
+    /// On a block that counts its owners: Up, or Full where it is refused.
     #[inline(always)]
     #[tactic(auto, using(arc_parts::proofs::Attempts::joins_pass))]
     pub fn try_clone_as(&self, rt: &impl Wait, pass: &mut Pass<H>) -> Result<Self, OwnerError>
@@ -89,19 +85,16 @@ impl<
         unreachable!()
     }
 
-    /// Another window with the same items at the same place: `try_clone_as` with a new pass.
+    /// Another window over the same items at the same place: `try_clone_as` with a new pass.
     ///
     /// # Errors
     ///
-    /// Those of `try_clone_as`.
-    ///
-    /// # Allocates
-    ///
-    /// As `try_clone_as`.
+    /// - `CountFull` on a block that counts its owners, exactly where `MAX_OWNERS` of them live.
+    /// - `AllocError` on an `Arc` that is a block by itself, where the `Arc` refuses to be cloned.
     ///
     /// # History
     ///
-    /// That of `try_clone_as`.
+    /// On a block that counts its owners: Up, or Full where it is refused.
     #[inline(always)]
     pub fn try_clone(&self, rt: &impl Wait) -> Result<Self, OwnerError>
     where
@@ -123,8 +116,8 @@ impl<
         made
     }
 
-    /// One attempt of `try_subslice_as`: nothing where another thread's step came between. A pass
-    /// that knows that the word has a count adds no entry then.
+    /// One attempt of `try_subslice_as`. It answers `None`, and adds no entry, where another
+    /// thread's step came between.
     #[inline(always)]
     pub(super) fn try_subslice_once_as(
         &self,
@@ -152,22 +145,19 @@ impl<
         }
     }
 
-    /// A window over the items from `start` to `end`, an owner more of the block. With no items it
-    /// stands on nothing where the layout has static data, and nothing is added.
+    /// A window over the items from `start` to before `end`: one owner more of the block. Without
+    /// items, under a layout that has static data, it stands on nothing, and no entry is added.
     ///
-    /// Copies no item. It takes `rt` since an attempt that another thread disturbs is tried again.
+    /// It copies no item and takes no memory. It takes `rt` since an attempt that another thread
+    /// disturbs is tried again.
     ///
     /// # Errors
     ///
     /// Those of `try_clone_as`, where the part stands on a block.
     ///
-    /// # Allocates
-    ///
-    /// Only where `try_clone_as` does.
-    ///
     /// # History
     ///
-    /// Where the part stands on a block that counts its owners Up, or Full where refused.
+    /// Where the part stands on a block that counts its owners: Up, or Full where it is refused.
     #[inline(always)]
     pub fn try_subslice_as(
         &self,
@@ -199,20 +189,16 @@ impl<
         unreachable!()
     }
 
-    /// A window over the items from `start` to `end`: `try_subslice_as` with a new pass of this
-    /// window's block.
+    /// A window over the items from `start` to before `end`: `try_subslice_as` with a new pass of
+    /// this window's block.
     ///
     /// # Errors
     ///
-    /// Those of `try_subslice_as`.
-    ///
-    /// # Allocates
-    ///
-    /// As `try_subslice_as`.
+    /// Those of `try_clone`, where the part stands on a block.
     ///
     /// # History
     ///
-    /// That of `try_subslice_as`.
+    /// Where the part stands on a block that counts its owners: Up, or Full where it is refused.
     #[inline(always)]
     pub fn try_subslice(&self, rt: &impl Wait, start: usize, end: usize) -> Result<Self, OwnerError>
     where
@@ -237,8 +223,8 @@ impl<
         made
     }
 
-    /// `try_subslice_as` where another thread's step came between already, apart so that the first
-    /// attempt is inlined alone.
+    /// The further attempts of `try_subslice_as`, where another thread's step disturbed the first
+    /// one. They stand apart, so that only the first attempt is inlined.
     #[inline(never)]
     pub(super) fn try_subslice_again_as(
         &self,
@@ -261,8 +247,8 @@ impl<
         self.try_subslice_as(rt, start, end, pass)
     }
 
-    /// Takes the first `n` items off the window, which stays on its block, also with no items. It
-    /// adds nothing.
+    /// Takes the first `n` items off the window. It stays on its block, also without items. It adds
+    /// no entry.
     pub fn advance(&mut self, n: usize)
     where
         S: Subsliceable,
@@ -274,8 +260,8 @@ impl<
         self.parts.keep(n, end);
     }
 
-    /// Leaves the window's first `n` items, or all where it has no more. It stays on its block,
-    /// also with no items. It adds nothing.
+    /// Keeps the window's first `n` items, or all where it has no more. It stays on its block, also
+    /// without items. It adds no entry.
     pub fn truncate(&mut self, n: usize)
     where
         S: Subsliceable,

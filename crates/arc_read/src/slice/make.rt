@@ -46,9 +46,9 @@ impl<
         }
     }
 
-    /// A window over a copy of the items: no items stand on nothing where the layout has static
-    /// data, else they stand on a new native block with exactly a place for each. The pass, which
-    /// is of no block, becomes the block's; the window is owner 0.
+    /// A window over a copy of the items, on a new native block with exactly a place for each. No
+    /// items, under a layout that has static data, stand on nothing. The pass, which is of no
+    /// block, becomes the block's; the window is owner 0.
     ///
     /// # Errors
     ///
@@ -56,7 +56,7 @@ impl<
     ///
     /// # Allocates
     ///
-    /// Where the items need a block.
+    /// Once, where a block is needed.
     pub fn try_from_slice_as(
         alloc: A,
         items: &[S::Item],
@@ -73,7 +73,8 @@ impl<
         Self::try_from_legal_slice_as(alloc, items, pass)
     }
 
-    /// A window over an array's items, which are moved into a block as by `try_from_slice_as`.
+    /// A window over an array's items, which are moved into a block where `try_from_slice_as`
+    /// copies them.
     ///
     /// # Errors
     ///
@@ -81,7 +82,7 @@ impl<
     ///
     /// # Allocates
     ///
-    /// Where the items need a block.
+    /// Once, where a block is needed.
     #[tactic(auto, using(arc_parts::proofs::Held::made_held))]
     pub fn try_from_array_as<const N: usize>(
         alloc: A,
@@ -102,8 +103,8 @@ impl<
         }
     }
 
-    /// A window over a slice that is there for good. It is no owner: its clones and cuts add
-    /// nothing and are never refused.
+    /// A window over a `'static` slice. It is no owner: its clones and cuts add no entry and are
+    /// never refused.
     pub fn from_static(alloc: A, items: &'static [S::Item]) -> Self
     where
         S: AnyItems,
@@ -122,7 +123,7 @@ impl<
     ///
     /// # Allocates
     ///
-    /// Where the items need a block.
+    /// Once, where a block is needed.
     pub fn try_from_slice(alloc: A, items: &[S::Item]) -> Result<Self, AllocError>
     where
         H: Stepping,
@@ -147,7 +148,7 @@ impl<
     ///
     /// # Allocates
     ///
-    /// Where the items need a block.
+    /// Once, where a block is needed.
     pub fn try_from_array<const N: usize>(
         alloc: A,
         array: [S::Item; N],

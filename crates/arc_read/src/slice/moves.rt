@@ -23,25 +23,29 @@ impl<
     A: Allocator + Copy,
     H: Mark,
 > ArcSlice<S, L, B, M, A, H> {
-    /// The same items, as a window under the layout `K`. It stays where it stands, where that
-    /// layout holds it, and nothing is added. With no items, on nothing, it gets a native block of
-    /// no places where the layout has no static data. On an `Arc` that was a block by itself it
-    /// gets a block that keeps the `Arc` and counts its owners, where the layout counts them: the
-    /// pass is the new block's afterwards. On a block that counts an `Arc` it leaves that for a
-    /// clone of the `Arc`, where the layout has one as a block by itself.
+    /// The same items, as a window under the layout `K`. Where that holds what the window stands
+    /// on, it stays there, and no entry is added. Else:
+    ///
+    /// - An empty window on nothing goes to a native block of no places, under a layout without
+    ///   static data. The pass becomes that block's.
+    /// - A window on an `Arc` that is a block by itself goes to a new block, which keeps the `Arc`
+    ///   and counts its owners, where the layout counts them. The pass becomes that block's.
+    /// - A window on a block that counts an `Arc` leaves it for a clone of the `Arc`, where the
+    ///   layout has an `Arc` as a block by itself.
     ///
     /// # Errors
     ///
-    /// The window, where the layout holds neither its block nor its static data, where memory for a
-    /// new block is refused, and where the `Arc` refuses to be cloned. The pass is then as before.
+    /// The window comes back where the layout holds neither its block nor its static data, where
+    /// memory for a new block is refused, and where the `Arc` refuses to be cloned. The pass is
+    /// then as before.
     ///
     /// # Allocates
     ///
-    /// For a new block.
+    /// Once, for a new block.
     ///
     /// # History
     ///
-    /// Down where the window leaves a block that counts an `Arc`, and else nothing.
+    /// Down where the window leaves a block that counts an `Arc`; else nothing.
     pub fn try_with_layout_as<K: Layout>(
         self,
         pass: &mut Pass<H>,
@@ -65,15 +69,16 @@ impl<
     ///
     /// # Errors
     ///
-    /// Those of `try_with_layout_as`.
+    /// The window comes back where the layout holds neither its block nor its static data, where
+    /// memory for a new block is refused, and where the `Arc` refuses to be cloned.
     ///
     /// # Allocates
     ///
-    /// Where `try_with_layout_as` does.
+    /// Once, for a new block.
     ///
     /// # History
     ///
-    /// That of `try_with_layout_as`.
+    /// Down where the window leaves a block that counts an `Arc`; else nothing.
     pub fn try_with_layout<K: Layout>(self) -> Result<ArcSlice<S, K, B, M, A, H>, Self>
     where
         H: Stepping,

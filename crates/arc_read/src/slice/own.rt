@@ -17,8 +17,9 @@ use arc_owners::mark::{Mark, Stepping};
 use arc_owners::owners::Pass;
 use std::alloc::Allocator;
 
-// A plain form is generic over the marks under which a block has many passes, which `Open` alone
-// is: so a body can show a pass only by one that is there (`Pass::show`), and none that it made up.
+// Plain forms are generic over the marks under which a block has many passes, of which `Open` is
+// the only one. So a body can show a pass only by one that is there (`Pass::show`), and none that
+// it made up.
 impl<
     S: Slice,
     L: Layout,
@@ -27,13 +28,13 @@ impl<
     A: Allocator + Copy,
     H: Mark,
 > ArcSlice<S, L, B, M, A, H> {
-    /// Whether nobody else has a part of what the window stands on: on a block the count is asked,
-    /// by one load, and of a caller's buffer the buffer after it. `false` on no block, and of an
-    /// `Arc`.
+    /// Whether no other owner has a part of what the window stands on. On a block the count is
+    /// read, by one load; of a caller's buffer the buffer is asked too. The answer is `false` on no
+    /// block, and on an `Arc`.
     ///
     /// # History
     ///
-    /// On a block, but for an `Arc`, Alone with what the count says.
+    /// On a block that is no `Arc`: Alone with what the count says.
     #[inline(always)]
     pub fn is_unique_as(&self, pass: &mut Pass<H>) -> bool
         requires pass { IsPassAt self.now.place pass.old }
@@ -44,11 +45,12 @@ impl<
         self.parts.is_unique_as(pass)
     }
 
-    /// Whether nobody else has a part of what the window stands on: `is_unique_as` with a new pass.
+    /// Whether no other owner has a part of what the window stands on: `is_unique_as` with a new
+    /// pass.
     ///
     /// # History
     ///
-    /// That of `is_unique_as`.
+    /// On a block that is no `Arc`: Alone with what the count says.
     #[inline(always)]
     pub fn is_unique(&self) -> bool
     where
@@ -65,17 +67,18 @@ impl<
         found
     }
 
-    /// The items as an array, where the window has `N` of them, which are all places of a native
-    /// block, and no other owner lives. Else the window comes back.
+    /// The items as an array of `N`, where they are all places of a native block, and no other
+    /// owner lives.
     ///
     /// # Errors
     ///
-    /// The window, on no block always.
+    /// The window comes back where it has another number of items, where these aren't all places of
+    /// a native block, and where another owner lives.
     ///
     /// # History
     ///
-    /// Taken, Alone and Down. Refused, Alone with no where only the count could decide, and else
-    /// nothing.
+    /// Taken: Alone with yes, then Down. Refused: Alone with no, where only the count could decide;
+    /// else nothing.
     pub fn try_into_array_as<const N: usize>(self, pass: &mut Pass<H>) -> Result<[S::Item; N], Self>
         requires pass { IsPassAt self.place pass.old }
         ensures taken { IfOk result (λ array. IsWholeOf N self × (array ≡ self.items)) }
@@ -90,15 +93,17 @@ impl<
         }
     }
 
-    /// The items as an array: `try_into_array_as` with a new pass.
+    /// The items as an array of `N`: `try_into_array_as` with a new pass.
     ///
     /// # Errors
     ///
-    /// Those of `try_into_array_as`.
+    /// The window comes back where it has another number of items, where these aren't all places of
+    /// a native block, and where another owner lives.
     ///
     /// # History
     ///
-    /// That of `try_into_array_as`.
+    /// Taken: Alone with yes, then Down. Refused: Alone with no, where only the count could decide;
+    /// else nothing.
     pub fn try_into_array<const N: usize>(self) -> Result<[S::Item; N], Self>
     where
         H: Stepping,
@@ -115,11 +120,11 @@ impl<
         taken
     }
 
-    /// The items as a slice that is there for good, where the window stands on one, or on nothing.
+    /// The items as a `'static` slice, where the window stands on one, or on nothing.
     ///
     /// # Errors
     ///
-    /// The window, exactly where it stands on a block.
+    /// The window comes back exactly where it stands on a block.
     pub fn try_into_static(self) -> Result<&'static [S::Item], Self>
     where
         S::Item: 'static,
@@ -137,7 +142,7 @@ impl<
     ///
     /// # History
     ///
-    /// On a block that counts its owners Down.
+    /// On a block that counts its owners: Down.
     #[inline(always)]
     pub fn release_as(self, pass: &mut Pass<H>)
         requires pass { IsPassAt self.place pass.old }
@@ -147,13 +152,13 @@ impl<
         self.into_parts().release_as(pass);
     }
 
-    /// What a drop does: under `Open` the window ends with a new pass, and the last owner gives the
-    /// block back; under `Whole` it is a forgotten owner, without a step. The pass is the one that
-    /// it ended with; on no block, and under `Whole`, it is of none.
+    /// What a drop does. Under `Open` the window ends with a new pass, which is the answer, and the
+    /// last owner gives the block back. Under `Whole` the window is a forgotten owner: no step is
+    /// made. The answer is a pass of no block under `Whole`, and on no block.
     ///
     /// # History
     ///
-    /// On a block that counts its owners Down under `Open`, and nothing under `Whole`.
+    /// Under `Open`, on a block that counts its owners: Down. Else nothing.
     #[inline(always)]
     pub fn let_go(self) -> Pass<H>
         ensures forgotten { H.whole ≡ true → IsPassOfNone result }
@@ -162,12 +167,12 @@ impl<
         self.into_parts().let_go()
     }
 
-    /// Ends the window: it reads the count first, and gives the block back without a further step
-    /// where no other owner lives, else it counts down.
+    /// Ends the window. It reads the count first: where no other owner lives it gives the block
+    /// back without another step, and else it counts down.
     ///
     /// # History
     ///
-    /// On a block that counts its owners Alone with what was found, then Down.
+    /// On a block that counts its owners: Alone with the answer, then Down.
     pub fn drop_with_unique_hint_as(self, pass: &mut Pass<H>)
         requires pass { IsPassAt self.place pass.old }
         ensures entries { at_owner self.place (pass.new ≡ pass.old) (λ o.
@@ -176,11 +181,11 @@ impl<
         self.into_parts().drop_with_unique_hint_as(pass);
     }
 
-    /// Ends the window: `drop_with_unique_hint_as` with a new pass.
+    /// Ends the window, and reads the count first: `drop_with_unique_hint_as` with a new pass.
     ///
     /// # History
     ///
-    /// That of `drop_with_unique_hint_as`.
+    /// On a block that counts its owners: Alone with the answer, then Down.
     pub fn drop_with_unique_hint(self)
     where
         H: Stepping,
@@ -201,7 +206,7 @@ impl<
         ArcSlice::from_parts(self.into_parts().into_kind())
     }
 
-    /// Afterwards the first pass has seen at least what the other had. It adds nothing.
+    /// From here on the first pass has seen at least what the other had. It adds no entry.
     pub fn learn(&self, pass: &mut Pass<H>, other: &Pass<H>)
         requires pass { IsPassAt self.now.place pass.old }
         requires other { IsPassAt self.now.place other.now }
@@ -211,7 +216,8 @@ impl<
         self.parts.learn(pass, other);
     }
 
-    /// How many owners the window's block may have at once, and under which mark it is.
+    /// `MAX_OWNERS`: how many owners the window's block may have at once. The contract says too
+    /// that the block is under the mark `H`.
     pub fn max_owners(&self) -> u64
         ensures answer { result ≡ 9223372036854775807 }
         ensures block { at_owner self.now.place (Unit {0}) (λ o.
@@ -220,8 +226,8 @@ impl<
         self.parts.max_owners()
     }
 
-    /// A new pass of the window's block, which has seen at least how the window became an owner,
-    /// and made nothing; on no block a pass of none. It adds nothing.
+    /// A new pass of the window's block. It has seen at least how the window became an owner, and
+    /// nothing was made with it. On no block it is a pass of none. It adds no entry.
     pub fn pass(&self) -> Pass<H>
     where
         H: Stepping,

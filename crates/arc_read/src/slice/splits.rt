@@ -44,24 +44,19 @@ impl<
         let _ = (start, end);
     }
 
-    /// Splits the window at `at`: it keeps the front, and the back is handed out. An owner more of
-    /// the block has the part that is new: the back, or for `at` of 0 the front, which then has no
-    /// items. That part stands on nothing where it has no items and the layout has static data.
+    /// Splits the window at `at`. It keeps the front, and hands out the back. The part that is new
+    /// is one owner more of the block: the back, or for `at` of 0 the front, which then has no
+    /// items. Without items, under a layout that has static data, the new part stands on nothing.
     ///
-    /// Copies no item.
+    /// It copies no item and takes no memory.
     ///
     /// # Errors
     ///
-    /// Those of `try_clone_as`, where the part that is new stands on a block. The window is then as
-    /// before.
-    ///
-    /// # Allocates
-    ///
-    /// Only where `try_clone_as` does.
+    /// Those of `try_clone_as`, where the new part stands on a block. The window is then as before.
     ///
     /// # History
     ///
-    /// Where the part that is new stands on a block that counts its owners Up, or Full where
+    /// Where the new part stands on a block that counts its owners: Up, or Full where it is
     /// refused.
     pub fn try_split_off_as(
         &mut self,
@@ -87,25 +82,20 @@ impl<
         Ok(back)
     }
 
-    /// Splits the window at `at`: the front is handed out, and it keeps the back. An owner more of
-    /// the block has the part that is new: the front, or for `at` at the end the back, which then
-    /// has no items. That part stands on nothing where it has no items and the layout has static
-    /// data.
+    /// Splits the window at `at`. It hands out the front, and keeps the back. The part that is new
+    /// is one owner more of the block: the front, or for `at` at the end the back, which then has
+    /// no items. Without items, under a layout that has static data, the new part stands on
+    /// nothing.
     ///
-    /// Copies no item.
+    /// It copies no item and takes no memory.
     ///
     /// # Errors
     ///
-    /// Those of `try_clone_as`, where the part that is new stands on a block. The window is then as
-    /// before.
-    ///
-    /// # Allocates
-    ///
-    /// Only where `try_clone_as` does.
+    /// Those of `try_clone_as`, where the new part stands on a block. The window is then as before.
     ///
     /// # History
     ///
-    /// Where the part that is new stands on a block that counts its owners Up, or Full where
+    /// Where the new part stands on a block that counts its owners: Up, or Full where it is
     /// refused.
     pub fn try_split_to_as(
         &mut self,
@@ -131,22 +121,19 @@ impl<
         Ok(front)
     }
 
-    /// Splits the window at `at` and hands out the back: `try_split_off_as` with a new pass.
+    /// Splits the window at `at`. It keeps the front, and hands out the back. This is
+    /// `try_split_off_as` with a new pass.
     ///
-    /// Copies no item.
+    /// It copies no item and takes no memory.
     ///
     /// # Errors
     ///
-    /// Those of `try_clone_as`, where the part that is new stands on a block. The window is then as
-    /// before.
-    ///
-    /// # Allocates
-    ///
-    /// As `try_split_off_as`.
+    /// Those of `try_clone`, where the new part stands on a block. The window is then as before.
     ///
     /// # History
     ///
-    /// That of `try_split_off_as`.
+    /// Where the new part stands on a block that counts its owners: Up, or Full where it is
+    /// refused.
     pub fn try_split_off(&mut self, rt: &impl Wait, at: usize) -> Result<Self, OwnerError>
     where
         H: Stepping,
@@ -163,22 +150,19 @@ impl<
         made
     }
 
-    /// Splits the window at `at` and hands out the front: `try_split_to_as` with a new pass.
+    /// Splits the window at `at`. It hands out the front, and keeps the back. This is
+    /// `try_split_to_as` with a new pass.
     ///
-    /// Copies no item.
+    /// It copies no item and takes no memory.
     ///
     /// # Errors
     ///
-    /// Those of `try_clone_as`, where the part that is new stands on a block. The window is then as
-    /// before.
-    ///
-    /// # Allocates
-    ///
-    /// As `try_split_to_as`.
+    /// Those of `try_clone`, where the new part stands on a block. The window is then as before.
     ///
     /// # History
     ///
-    /// That of `try_split_to_as`.
+    /// Where the new part stands on a block that counts its owners: Up, or Full where it is
+    /// refused.
     pub fn try_split_to(&mut self, rt: &impl Wait, at: usize) -> Result<Self, OwnerError>
     where
         H: Stepping,

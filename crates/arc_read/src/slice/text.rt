@@ -30,9 +30,9 @@ impl<L: Layout, B: Buffer<u8> + Drop, M: Drop, A: Allocator + Copy, H: Mark> Arc
     A,
     H,
 > {
-    /// A window over a copy of the text: no text stands on nothing where the layout has static
-    /// data, else it stands on a new native block with exactly a place for each byte. The pass,
-    /// which is of no block, becomes the block's; the window is owner 0.
+    /// A window over a copy of the text, on a new native block with exactly a place for each byte.
+    /// No text, under a layout that has static data, stands on nothing. The pass, which is of no
+    /// block, becomes the block's; the window is owner 0.
     ///
     /// # Errors
     ///
@@ -40,7 +40,7 @@ impl<L: Layout, B: Buffer<u8> + Drop, M: Drop, A: Allocator + Copy, H: Mark> Arc
     ///
     /// # Allocates
     ///
-    /// Where the text needs a block.
+    /// Once, where a block is needed.
     pub fn try_from_str_as(alloc: A, text: &str, pass: &mut Pass<H>) -> Result<Self, AllocError>
         requires pass { IsPassOfNone pass.old }
         ensures ok { IfOk result (λ window. Makes L.STATIC false H.whole text.now window) }
@@ -50,7 +50,7 @@ impl<L: Layout, B: Buffer<u8> + Drop, M: Drop, A: Allocator + Copy, H: Mark> Arc
         Self::try_from_legal_slice_as(alloc, text.as_bytes(), pass)
     }
 
-    /// The text.
+    /// The items as a `str`.
     pub fn as_str(&self) -> &str
         ensures { result.now ≡ self.now.items }
     {
@@ -58,18 +58,18 @@ impl<L: Layout, B: Buffer<u8> + Drop, M: Drop, A: Allocator + Copy, H: Mark> Arc
         unsafe { str::from_utf8_unchecked(self.as_slice()) }
     }
 
-    /// The same window, over bytes. It adds nothing.
+    /// The same window, over bytes. It adds no entry.
     pub fn into_arc_slice(self) -> ArcSlice<Plain<u8>, L, B, M, A, H>
         ensures { result ≡ self }
     {
         self.into_kind()
     }
 
-    /// The same window, over text. It adds nothing.
+    /// The same window, over text. It adds no entry.
     ///
     /// # Errors
     ///
-    /// The bytes, with what is wrong with them, exactly where they aren't valid UTF-8.
+    /// The error and the window over bytes, exactly where they aren't valid UTF-8.
     pub fn try_from_arc_slice(
         bytes: ArcSlice<Plain<u8>, L, B, M, A, H>,
     ) -> Result<Self, (Utf8Error, ArcSlice<Plain<u8>, L, B, M, A, H>)>
@@ -84,7 +84,8 @@ impl<L: Layout, B: Buffer<u8> + Drop, M: Drop, A: Allocator + Copy, H: Mark> Arc
         }
     }
 
-    /// A window over a text that is there for good, as `from_static` of items.
+    /// A window over a `'static` text. It is no owner: its clones and cuts add no entry and are
+    /// never refused.
     pub fn from_static_str(alloc: A, text: &'static str) -> Self
     where
         L: StaticLayout,
@@ -101,7 +102,7 @@ impl<L: Layout, B: Buffer<u8> + Drop, M: Drop, A: Allocator + Copy, H: Mark> Arc
     ///
     /// # Allocates
     ///
-    /// Where the text needs a block.
+    /// Once, where a block is needed.
     pub fn try_from_str(alloc: A, text: &str) -> Result<Self, AllocError>
     where
         H: Stepping,
@@ -125,14 +126,14 @@ impl<L: Layout, B: Buffer<u8> + Drop, M: Drop, A: Allocator + Copy, H: Mark> Arc
     A,
     H,
 > {
-    /// The same window, over bytes. It adds nothing.
+    /// The same window, over bytes. It adds no entry.
     pub fn into_arc_slice(self) -> ArcSlice<Plain<u8>, L, B, M, A, H>
         ensures { result ≡ self }
     {
         self.into_kind()
     }
 
-    /// The same window, over byte text. It adds nothing. Never refused.
+    /// The same window, over byte text. It adds no entry. Never refused.
     pub fn try_from_arc_slice(
         bytes: ArcSlice<Plain<u8>, L, B, M, A, H>,
     ) -> Result<Self, (Infallible, ArcSlice<Plain<u8>, L, B, M, A, H>)>

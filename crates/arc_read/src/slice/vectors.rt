@@ -1,5 +1,5 @@
 //! Read windows over vectors and boxes: made of them, and taken back as them.
-ghost use Rattle.std.specs.Prelude.{◌≡◌, length, IfOk, IfErr};
+ghost use Rattle.std.specs.Prelude.{◌≡◌, length, IfOk, IfErr, IfSome, is_some};
 ghost use Rattle.std.specs.Vec.{vec_capacity};
 ghost use Rattle.std.specs.declared.vec.Vec.{Vec};
 ghost use Rattle.arc_owners.specs.count.Calls.{IsPassOfNone};
@@ -7,7 +7,7 @@ ghost use Rattle.arc_block.specs.Place.{nowhere};
 ghost use Rattle.arc_parts.specs.Window.{IsVecPart, IsBoxWhole};
 ghost use Rattle.arc_block.specs.Place.{size_at};
 ghost use Rattle.arc_parts.specs.Steps.{IsPassAt, MakesOfVec, NeedsVecBlock, Begins};
-ghost use Rattle.arc_parts.specs.Steps.{TakesAt, RefusesTaking};
+ghost use Rattle.arc_parts.specs.Steps.{TakesAt, RefusesTaking, LeavesLastAt};
 ghost use Rattle.arc_read.specs.Steps.{WithNewPass};
 
 use super::ArcSlice;
@@ -52,9 +52,9 @@ impl<
     }
 
     /// A window over all items of a vector, on a block that is the vector, with its places: no item
-    /// is copied. One without places is as a list of no items, which stands on nothing where the
-    /// layout has static data, else on a native block of no places. The pass, which is of no block,
-    /// becomes the block's; the window is owner 0.
+    /// is copied. A vector without places makes the window that no items make by
+    /// `try_from_slice_as`. The pass, which is of no block, becomes the block's; the window is
+    /// owner 0.
     ///
     /// # Errors
     ///
@@ -83,18 +83,19 @@ impl<
     }
 
     /// A window over all items of a box, on a block that is the box as a vector with exactly a
-    /// place for each. No item is copied, but from a box whose memory has spare places, which is
-    /// cut to its items first, by one copy. No items are as those of `try_from_vec_as` without
-    /// places. The pass, which is of no block, becomes the block's; the window is owner 0.
+    /// place for each. No item is copied, unless the box's memory has spare places: then all are
+    /// first moved to memory without any. A box without items makes the window that no items make
+    /// by `try_from_slice_as`. The pass, which is of no block, becomes the block's; the window is
+    /// owner 0.
     ///
     /// # Errors
     ///
-    /// A box of the same items comes back where memory for the count, or for that copy, is refused;
+    /// A box of the same items comes back where memory for the count or for that move is refused;
     /// the pass is then as before.
     ///
     /// # Allocates
     ///
-    /// Once, where a block is needed, and once more for that copy.
+    /// Once, where a block is needed, and once more for that move.
     pub fn try_from_boxed_as(
         alloc: A,
         items: S::Boxed,
@@ -124,13 +125,13 @@ impl<
     ///
     /// # Errors
     ///
-    /// The window, on another block or none, where another owner lives, and where items that are
-    /// dropped one by one are a part alone.
+    /// The window comes back where it stands on no vector, where items that are dropped one by one
+    /// are only a part of the vector, and where another owner lives.
     ///
     /// # History
     ///
-    /// Taken, Alone and Down. Refused, Alone with no where only the count could decide, and else
-    /// nothing.
+    /// Taken: Alone with yes, then Down. Refused: Alone with no, where only the count could decide;
+    /// else nothing.
     pub fn try_into_vec_as(self, pass: &mut Pass<H>) -> Result<S::Vec, Self>
     where
         S: VecIn<A>,
@@ -149,18 +150,18 @@ impl<
         }
     }
 
-    /// The items as a box, where they are all of a vector that has no places more, and no other
-    /// owner lives. No item is copied.
+    /// The items as a box, where they are all of a vector without spare places, and no other owner
+    /// lives. No item is copied.
     ///
     /// # Errors
     ///
-    /// The window, on another block or none, where another owner lives, and where the items are a
-    /// part of the vector's places alone.
+    /// The window comes back where it stands on no vector, where the items don't fill all places of
+    /// the vector, and where another owner lives.
     ///
     /// # History
     ///
-    /// Taken, Alone and Down. Refused, Alone with no where only the count could decide, and else
-    /// nothing.
+    /// Taken: Alone with yes, then Down. Refused: Alone with no, where only the count could decide;
+    /// else nothing.
     pub fn try_into_boxed_as(self, pass: &mut Pass<H>) -> Result<S::Boxed, Self>
     where
         S: VecIn<A>,
@@ -177,7 +178,69 @@ impl<
         }
     }
 
-    /// A window over all items of a vector: `try_from_vec_as` with a new pass.
+    /// Ends the window, where its block is a vector, by one subtraction from the count. The last
+    /// owner gets the vector, with the window's items moved to its front, and every other one
+    /// `None`. So of owners that all end by this call exactly one gets it. Items that are dropped
+    /// one by one have to be all of the vector.
+    ///
+    /// # Errors
+    ///
+    /// The window comes back exactly where it stands on no vector, or where items that are dropped
+    /// one by one are only a part of the vector. Nothing is done then.
+    ///
+    /// # History
+    ///
+    /// Down; nothing on an error.
+    pub fn into_vec_if_last_as(self, pass: &mut Pass<H>) -> Result<Option<S::Vec>, Self>
+    where
+        S: VecIn<A>,
+        requires pass { IsPassAt self.place pass.old }
+        ensures ended { IfOk result (λ last. IsVecPart S.DROPS self.items self.place
+            × LeavesLastAt self.place pass.old pass.new (is_some last)) }
+        ensures vector { IfOk result (λ last. IfSome last (λ v. S.list_in_vec v ≡ self.items)) }
+        ensures places { IfOk result (λ last. IfSome last (λ v. (inner : Vec S.Item A)
+            × S.Vec.wraps v inner × (vec_capacity inner ≡ size_at self.place))) }
+        ensures refused { IfErr result (λ window. (window ≡ self)
+            × (¬ IsVecPart S.DROPS self.items self.place) × (pass.new ≡ pass.old)) }
+    {
+        match self.into_parts().into_vec_if_last_as(pass) {
+            Ok(Some(inner)) => Ok(Some(S::Vec::from_inner(inner))),
+            Ok(None) => Ok(None),
+            Err(parts) => Err(Self::from_parts(parts)),
+        }
+    }
+
+    /// Ends the window, where its items are all of a vector without spare places, by one
+    /// subtraction from the count. The last owner gets them as a box, and every other one `None`.
+    /// No item is copied.
+    ///
+    /// # Errors
+    ///
+    /// The window comes back exactly where it stands on no vector, or where the items don't fill
+    /// all places of the vector. Nothing is done then.
+    ///
+    /// # History
+    ///
+    /// Down; nothing on an error.
+    pub fn into_boxed_if_last_as(self, pass: &mut Pass<H>) -> Result<Option<S::Boxed>, Self>
+    where
+        S: VecIn<A>,
+        requires pass { IsPassAt self.place pass.old }
+        ensures ended { IfOk result (λ last. IsBoxWhole self.items self.place
+            × LeavesLastAt self.place pass.old pass.new (is_some last)) }
+        ensures boxed { IfOk result (λ last. IfSome last (λ b. S.list_in_boxed b ≡ self.items)) }
+        ensures refused { IfErr result (λ window. (window ≡ self)
+            × (¬ IsBoxWhole self.items self.place) × (pass.new ≡ pass.old)) }
+    {
+        match self.into_parts().into_box_vec_if_last_as(pass) {
+            Ok(Some(inner)) => Ok(Some(S::Boxed::from_inner(inner.into_boxed_slice()))),
+            Ok(None) => Ok(None),
+            Err(parts) => Err(Self::from_parts(parts)),
+        }
+    }
+
+    /// A window over all items of a vector, of which none is copied: `try_from_vec_as` with a new
+    /// pass.
     ///
     /// # Errors
     ///
@@ -209,11 +272,11 @@ impl<
     ///
     /// # Errors
     ///
-    /// A box of the same items comes back where memory is refused.
+    /// A box of the same items comes back where memory for the count or for that move is refused.
     ///
     /// # Allocates
     ///
-    /// That of `try_from_boxed_as`.
+    /// Once, where a block is needed, and once more for that move.
     pub fn try_from_boxed(alloc: A, items: S::Boxed) -> Result<Self, S::Boxed>
     where
         L: AnyBufferLayout,
@@ -232,15 +295,17 @@ impl<
         made
     }
 
-    /// The items as their block's vector: `try_into_vec_as` with a new pass.
+    /// The items as their block's vector, moved to its front: `try_into_vec_as` with a new pass.
     ///
     /// # Errors
     ///
-    /// Those of `try_into_vec_as`.
+    /// The window comes back where it stands on no vector, where items that are dropped one by one
+    /// are only a part of the vector, and where another owner lives.
     ///
     /// # History
     ///
-    /// That of `try_into_vec_as`.
+    /// Taken: Alone with yes, then Down. Refused: Alone with no, where only the count could decide;
+    /// else nothing.
     pub fn try_into_vec(self) -> Result<S::Vec, Self>
     where
         H: Stepping,
@@ -261,15 +326,17 @@ impl<
         taken
     }
 
-    /// The items as a box: `try_into_boxed_as` with a new pass.
+    /// The items as a box, of which none is copied: `try_into_boxed_as` with a new pass.
     ///
     /// # Errors
     ///
-    /// Those of `try_into_boxed_as`.
+    /// The window comes back where it stands on no vector, where the items don't fill all places of
+    /// the vector, and where another owner lives.
     ///
     /// # History
     ///
-    /// That of `try_into_boxed_as`.
+    /// Taken: Alone with yes, then Down. Refused: Alone with no, where only the count could decide;
+    /// else nothing.
     pub fn try_into_boxed(self) -> Result<S::Boxed, Self>
     where
         H: Stepping,
@@ -286,5 +353,65 @@ impl<
         let taken = self.try_into_boxed_as(&mut pass);
         pass.show();
         taken
+    }
+
+    /// Ends the window, and gives the vector to the last owner: `into_vec_if_last_as` with a new
+    /// pass.
+    ///
+    /// # Errors
+    ///
+    /// The window comes back exactly where it stands on no vector, or where items that are dropped
+    /// one by one are only a part of the vector. Nothing is done then.
+    ///
+    /// # History
+    ///
+    /// Down; nothing on an error.
+    pub fn into_vec_if_last(self) -> Result<Option<S::Vec>, Self>
+    where
+        H: Stepping,
+        S: VecIn<A>,
+        ensures ended { IfOk result (λ last. IsVecPart S.DROPS self.items self.place
+            × WithNewPass {H = H} H.real self.place (λ first now.
+            LeavesLastAt self.place first now (is_some last))) }
+        ensures vector { IfOk result (λ last. IfSome last (λ v. S.list_in_vec v ≡ self.items)) }
+        ensures places { IfOk result (λ last. IfSome last (λ v. (inner : Vec S.Item A)
+            × S.Vec.wraps v inner × (vec_capacity inner ≡ size_at self.place))) }
+        ensures refused { IfErr result (λ window. (window ≡ self)
+            × (¬ IsVecPart S.DROPS self.items self.place)
+            × WithNewPass {H = H} H.real self.place (λ first last. last ≡ first)) }
+    {
+        let mut pass = self.pass();
+        let ended = self.into_vec_if_last_as(&mut pass);
+        pass.show();
+        ended
+    }
+
+    /// Ends the window, and gives the box to the last owner: `into_boxed_if_last_as` with a new
+    /// pass.
+    ///
+    /// # Errors
+    ///
+    /// The window comes back exactly where it stands on no vector, or where the items don't fill
+    /// all places of the vector. Nothing is done then.
+    ///
+    /// # History
+    ///
+    /// Down; nothing on an error.
+    pub fn into_boxed_if_last(self) -> Result<Option<S::Boxed>, Self>
+    where
+        H: Stepping,
+        S: VecIn<A>,
+        ensures ended { IfOk result (λ last. IsBoxWhole self.items self.place
+            × WithNewPass {H = H} H.real self.place (λ first now.
+            LeavesLastAt self.place first now (is_some last))) }
+        ensures boxed { IfOk result (λ last. IfSome last (λ b. S.list_in_boxed b ≡ self.items)) }
+        ensures refused { IfErr result (λ window. (window ≡ self)
+            × (¬ IsBoxWhole self.items self.place)
+            × WithNewPass {H = H} H.real self.place (λ first last. last ≡ first)) }
+    {
+        let mut pass = self.pass();
+        let ended = self.into_boxed_if_last_as(&mut pass);
+        pass.show();
+        ended
     }
 }

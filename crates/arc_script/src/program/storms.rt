@@ -1,5 +1,5 @@
 //! The program's word for a storm of clones: how many threads it asks for, and what is written.
-ghost use Rattle.std.specs.Prelude.{◌≡◌, ◌++◌, ◌∷◌, [], ℕ, ◌<◌, MatchOption, String};
+ghost use Rattle.std.specs.Prelude.{◌≡◌, ◌++◌, ◌∷◌, [], ℕ, ◌<◌, ◌≤◌, MatchOption, String};
 ghost use Rattle.std.specs.declared.alloc.Global.{Global};
 ghost use Rattle.arc_forms.specs.Text.{hex, line_feed};
 ghost use Rattle.arc_script.specs.Traffic.{Takes};
@@ -15,10 +15,10 @@ use arc_owners::error::OwnerError;
 use std::sync::Wait;
 use std::thread::Threads;
 
-/// The most workers that the program lets in.
+/// The most threads for which the program may be asked.
 const MOST_WORKERS: usize = 64;
 
-/// The number of workers for which the words ask, `None` where they ask for no storm.
+/// The number of threads for which the words ask, or `None` where they ask for no storm.
 pub(crate) fn workers_of(words: &[String]) -> Option<usize>
     ensures { MatchOption result
         ((workers : ℕ) → ¬ AsksForStorm workers words.now)
@@ -42,7 +42,7 @@ pub(crate) fn workers_of(words: &[String]) -> Option<usize>
     Some(workers)
 }
 
-/// The line in which a refusal is told.
+/// The line on standard error for a refusal.
 fn refusal_line(error: StormError) -> &'static [u8]
     ensures { result.now ≡ storm_fault_text error }
 {
@@ -54,20 +54,20 @@ fn refusal_line(error: StormError) -> &'static [u8]
     }
 }
 
-/// An item as a line: two digits.
+/// An item as a line: its two hex digits, and a line feed.
 fn item_line(item: u8) -> [u8; 3]
     ensures { result ≡ hex (item ∷ []) ++ line_feed ∷ [] }
 {
     [digit_of(item / 16), digit_of(item % 16), b'\n']
 }
 
-/// Lets so many threads clone one window, writes the vector that comes back, and answers the
-/// program's status; a fault is told in one line. The threads pass the gate as `storm` says; the
-/// program's holds nobody up.
+/// Lets so many threads, from 1 to 64, clone one window, writes the vector that comes back, and
+/// answers the program's status; a fault is told in one line. The threads pass the gate as `storm`
+/// says; the program's holds nobody up.
 ///
 /// # Allocates
 ///
-/// As `storm`.
+/// For the vector, for its window and for the list of threads.
 pub fn run_storm<R: Threads + Wait + Sync + AllocGlobal, G: Gate + Sync, W: Sink, F: Sink>(
     rt: &R,
     gate: &G,
@@ -75,6 +75,8 @@ pub fn run_storm<R: Threads + Wait + Sync + AllocGlobal, G: Gate + Sync, W: Sink
     writer: &mut W,
     faults: &mut F,
 ) -> u8
+    requires some { 1 ≤ workers }
+    requires most { workers ≤ 64 }
     ensures ran { IsStorm (W.traffic writer.old) (W.traffic writer.new)
         (F.traffic faults.old) (F.traffic faults.new) result }
     ensures taken { Takes (W.traffic writer.old) (W.traffic writer.new)

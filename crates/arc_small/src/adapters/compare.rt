@@ -53,7 +53,7 @@ impl<S: Slice<Item = u8>, L: Layout> Ord for SmallSlice<S, L> {
 }
 
 impl<S: Slice<Item = u8>, L: Layout> SmallSlice<S, L> {
-    /// Whether the bytes are those of the slice.
+    /// Whether the bytes equal those of `other`.
     pub fn eq_slice(&self, other: &[u8]) -> bool
         ensures { result ≡ pointwise nat_eq self.now.items other.now }
     {
@@ -129,7 +129,7 @@ impl<
     A: Allocator + Copy,
     H: Mark,
 > SmallArcSlice<S, L, B, M, A, H> {
-    /// Whether the bytes are those of the slice.
+    /// Whether the bytes equal those of `other`.
     pub fn eq_slice(&self, other: &[u8]) -> bool
         ensures { result ≡ pointwise nat_eq self.now.items other.now }
     {
@@ -138,7 +138,7 @@ impl<
 }
 
 impl<L: Layout> SmallSlice<Text, L> {
-    /// Whether the text is this one.
+    /// Whether the text equals `other`.
     pub fn eq_str(&self, other: &str) -> bool
         ensures { result ≡ pointwise nat_eq self.now.items other.now }
     {
@@ -154,7 +154,7 @@ impl<L: Layout, B: Buffer<u8> + Drop, M: Drop, A: Allocator + Copy, H: Mark> Sma
     A,
     H,
 > {
-    /// Whether the text is this one.
+    /// Whether the text equals `other`.
     pub fn eq_str(&self, other: &str) -> bool
         ensures { result ≡ pointwise nat_eq self.now.items other.now }
     {

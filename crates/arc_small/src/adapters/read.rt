@@ -18,8 +18,8 @@ use std::io::ErrorKind;
 impl<L: Layout> io::Read for SmallSlice<Plain<u8>, L> {
     ghost remaining = { λ w. Some w.items };
 
-    /// Moves the window's first bytes to the front of the buffer, as many as there are or as it
-    /// has places for, and answers how many. Always Ok. It adds nothing.
+    /// Moves the window's first bytes to the front of the buffer, as many as both have, and answers
+    /// how many. The answer is always `Ok`. It adds no entry.
     fn read(&mut self, buffer: &mut [u8]) -> io::Result<usize>
         ensures bound { ReadsAtMost result buffer.new }
         ensures bytes { ReadConsumes (Some self.old.items) (Some self.new.items) result buffer.new }
@@ -35,12 +35,12 @@ impl<L: Layout> io::Read for SmallSlice<Plain<u8>, L> {
         Ok(count)
     }
 
-    /// Moves the window's first bytes to the buffer, as many as that has places for. It adds
-    /// nothing.
+    /// Fills the buffer with the window's first bytes, which it takes off. It adds no entry.
     ///
     /// # Errors
-    /// One of kind `UnexpectedEof` where the window has fewer bytes: all of them went to the front
-    /// of the buffer.
+    ///
+    /// One of kind `UnexpectedEof` where the window has fewer bytes than the buffer. Then all of
+    /// them are in the front of the buffer, and the window is empty.
     fn read_exact(&mut self, buffer: &mut [u8]) -> io::Result<()>
         ensures bytes { OnOk result
             (Consumes (Some self.old.items) (Some self.new.items) buffer.new) }
@@ -65,8 +65,8 @@ impl<L: Layout, B: Buffer<u8> + Drop, M: Drop, A: Allocator + Copy, H: Mark> io:
     for SmallArcSlice<Plain<u8>, L, B, M, A, H> {
     ghost remaining = { λ w. Some w.items };
 
-    /// Moves the window's first bytes to the front of the buffer, as many as there are or as it
-    /// has places for, and answers how many. Always Ok. It adds nothing.
+    /// Moves the window's first bytes to the front of the buffer, as many as both have, and answers
+    /// how many. The answer is always `Ok`. It adds no entry.
     fn read(&mut self, buffer: &mut [u8]) -> io::Result<usize>
         ensures bound { ReadsAtMost result buffer.new }
         ensures bytes { ReadConsumes (Some self.old.items) (Some self.new.items) result buffer.new }
@@ -86,12 +86,12 @@ impl<L: Layout, B: Buffer<u8> + Drop, M: Drop, A: Allocator + Copy, H: Mark> io:
         Ok(count)
     }
 
-    /// Moves the window's first bytes to the buffer, as many as that has places for. It adds
-    /// nothing.
+    /// Fills the buffer with the window's first bytes, which it takes off. It adds no entry.
     ///
     /// # Errors
-    /// One of kind `UnexpectedEof` where the window has fewer bytes: all of them went to the front
-    /// of the buffer.
+    ///
+    /// One of kind `UnexpectedEof` where the window has fewer bytes than the buffer. Then all of
+    /// them are in the front of the buffer, and the window is empty.
     fn read_exact(&mut self, buffer: &mut [u8]) -> io::Result<()>
         ensures bytes { OnOk result
             (Consumes (Some self.old.items) (Some self.new.items) buffer.new) }

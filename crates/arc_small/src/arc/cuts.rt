@@ -27,20 +27,16 @@ impl<
     A: Allocator + Copy,
     H: Mark,
 > SmallArcSlice<S, L, B, M, A, H> {
-    /// Another window with the same bytes: a copy of a short list, without a step, or a window
-    /// that is read at the same place, an owner more of the block.
+    /// Another window with the same bytes. A short list is copied, without an atomic step. A window
+    /// that is read is cloned at the same place: one owner more of the block. It takes no memory.
     ///
     /// # Errors
     ///
-    /// Those of `ArcSlice::try_clone_as`, and none of a short list.
-    ///
-    /// # Allocates
-    ///
-    /// Only where `ArcSlice::try_clone_as` does.
+    /// Those of `ArcSlice::try_clone_as`; none for a short list.
     ///
     /// # History
     ///
-    /// On a block that counts its owners Up, or Full where refused.
+    /// On a block that counts its owners: Up, or Full where it is refused.
     #[inline(always)]
     pub fn try_clone_as(&self, rt: &impl Wait, pass: &mut Pass<H>) -> Result<Self, OwnerError>
         requires pass { IsPassAt self.now.place pass.old }
@@ -60,20 +56,16 @@ impl<
         }
     }
 
-    /// Another window with the same bytes: `try_clone_as` with a new pass. A short list takes no
-    /// step.
+    /// Another window with the same bytes: `try_clone_as` with a new pass. A short list is copied,
+    /// without an atomic step.
     ///
     /// # Errors
     ///
-    /// Those of `try_clone_as`.
-    ///
-    /// # Allocates
-    ///
-    /// As `try_clone_as`.
+    /// Those of `ArcSlice::try_clone`; none for a short list.
     ///
     /// # History
     ///
-    /// That of `try_clone_as`.
+    /// On a block that counts its owners: Up, or Full where it is refused.
     #[inline(always)]
     pub fn try_clone(&self, rt: &impl Wait) -> Result<Self, OwnerError>
     where
@@ -97,21 +89,18 @@ impl<
         }
     }
 
-    /// A window over the bytes from `start` to `end`: a copy of a part of a short list, without a
-    /// step, or a window that is read, an owner more of the block. With no bytes the latter stands
-    /// on nothing where the layout has static data, and nothing is added.
+    /// A window over the bytes from `start` to before `end`. Of a short list they are copied,
+    /// without an atomic step. Of a window that is read the new window is one owner more of the
+    /// block; without bytes, under a layout that has static data, it stands on nothing, and no
+    /// entry is added. It takes no memory.
     ///
     /// # Errors
     ///
-    /// Those of `ArcSlice::try_subslice_as`, and none of a short list.
-    ///
-    /// # Allocates
-    ///
-    /// Only where `ArcSlice::try_subslice_as` does.
+    /// Those of `ArcSlice::try_subslice_as`; none for a short list.
     ///
     /// # History
     ///
-    /// Where the part stands on a block that counts its owners Up, or Full where refused.
+    /// Where the part stands on a block that counts its owners: Up, or Full where it is refused.
     #[inline(always)]
     pub fn try_subslice_as(
         &self,
@@ -143,20 +132,16 @@ impl<
         }
     }
 
-    /// A window over the bytes from `start` to `end`: `try_subslice_as` with a new pass. A short
-    /// list takes no step.
+    /// A window over the bytes from `start` to before `end`: `try_subslice_as` with a new pass. Of
+    /// a short list they are copied, without an atomic step.
     ///
     /// # Errors
     ///
-    /// Those of `try_subslice_as`.
-    ///
-    /// # Allocates
-    ///
-    /// As `try_subslice_as`.
+    /// Those of `ArcSlice::try_subslice`; none for a short list.
     ///
     /// # History
     ///
-    /// That of `try_subslice_as`.
+    /// Where the part stands on a block that counts its owners: Up, or Full where it is refused.
     #[inline(always)]
     pub fn try_subslice(&self, rt: &impl Wait, start: usize, end: usize) -> Result<Self, OwnerError>
     where
@@ -188,7 +173,7 @@ impl<
     ///
     /// # History
     ///
-    /// On a block that counts its owners Down.
+    /// On a block that counts its owners: Down.
     #[inline(always)]
     pub fn release_as(self, pass: &mut Pass<H>)
         requires pass { IsPassAt self.place pass.old }
@@ -201,8 +186,8 @@ impl<
         }
     }
 
-    /// Takes the first `n` bytes off the window, which stays where it stands, also with no bytes.
-    /// It adds nothing.
+    /// Takes the first `n` bytes off the window. It stays where it stands, also without bytes. It
+    /// adds no entry.
     pub fn advance(&mut self, n: usize)
     where
         S: Subsliceable,

@@ -28,9 +28,9 @@ impl<
     A: Allocator + Copy,
     H: Mark,
 > SmallArcSlice<S, L, B, M, A, H> {
-    /// A window over a copy of the bytes: within the limit in the window itself, and else on a new
-    /// native block with exactly a place for each. The pass, which is of no block, becomes the
-    /// block's; the window is owner 0.
+    /// A window over a copy of the bytes: in the window itself where they are at most
+    /// `inline_limit()`, else on a new native block with exactly a place for each. The pass, which
+    /// is of no block, becomes the block's; the window is owner 0.
     ///
     /// # Errors
     ///
@@ -38,7 +38,7 @@ impl<
     ///
     /// # Allocates
     ///
-    /// Where there are more bytes than the limit.
+    /// Once, where there are more bytes than `inline_limit()`.
     pub fn try_from_slice_as(alloc: A, items: &[u8], pass: &mut Pass<H>) -> Result<Self, AllocError>
     where
         S: CopySlice,
@@ -57,7 +57,7 @@ impl<
         }
     }
 
-    /// A window over an array's bytes, as one over a slice of them by `try_from_slice_as`.
+    /// A window over an array's bytes, as `try_from_slice_as` makes it of a slice of them.
     ///
     /// # Errors
     ///
@@ -65,7 +65,7 @@ impl<
     ///
     /// # Allocates
     ///
-    /// Where there are more bytes than the limit.
+    /// Once, where there are more bytes than `inline_limit()`.
     pub fn try_from_array_as<const N: usize>(
         alloc: A,
         array: [u8; N],
@@ -89,8 +89,8 @@ impl<
         }
     }
 
-    /// A window over bytes that are there for good, and never a copy of them, as
-    /// `ArcSlice::from_static`.
+    /// A window over `'static` bytes, which are never copied. It is no owner: its clones and cuts
+    /// add no entry and are never refused.
     pub fn from_static(alloc: A, items: &'static [u8]) -> Self
     where
         S: AnyItems,
@@ -100,7 +100,8 @@ impl<
         Self::from(ArcSlice::from_static(alloc, items))
     }
 
-    /// A window over a copy of the bytes: `try_from_slice_as` with a new pass.
+    /// A window over a copy of the bytes, in the window itself where they are at most
+    /// `inline_limit()`: `try_from_slice_as` with a new pass.
     ///
     /// # Errors
     ///
@@ -108,7 +109,7 @@ impl<
     ///
     /// # Allocates
     ///
-    /// Where there are more bytes than the limit.
+    /// Once, where there are more bytes than `inline_limit()`.
     pub fn try_from_slice(alloc: A, items: &[u8]) -> Result<Self, AllocError>
     where
         H: Stepping,
@@ -125,7 +126,8 @@ impl<
         made
     }
 
-    /// A window over an array's bytes: `try_from_array_as` with a new pass.
+    /// A window over an array's bytes, in the window itself where they are at most
+    /// `inline_limit()`: `try_from_array_as` with a new pass.
     ///
     /// # Errors
     ///
@@ -133,7 +135,7 @@ impl<
     ///
     /// # Allocates
     ///
-    /// Where there are more bytes than the limit.
+    /// Once, where there are more bytes than `inline_limit()`.
     pub fn try_from_array<const N: usize>(alloc: A, array: [u8; N]) -> Result<Self, [u8; N]>
     where
         H: Stepping,

@@ -24,20 +24,21 @@ impl<
     A: Allocator + Copy,
     H: Mark,
 > SmallArcSlice<S, L, B, M, A, H> {
-    /// The same bytes, as a small window under the layout `K`: a short list in the window itself
-    /// stays there, and a window that is read goes as by `ArcSlice::try_with_layout_as`.
+    /// The same bytes, as a small window under the layout `K`. A short list stays in the window
+    /// itself. A window that is read goes as `ArcSlice::try_with_layout_as` says.
     ///
     /// # Errors
     ///
-    /// The window, where `ArcSlice::try_with_layout_as` hands it back. The pass is then as before.
+    /// The window comes back where `ArcSlice::try_with_layout_as` hands it back; the pass is then
+    /// as before.
     ///
     /// # Allocates
     ///
-    /// Only where `ArcSlice::try_with_layout_as` does.
+    /// Once for a new block, where `ArcSlice::try_with_layout_as` makes one.
     ///
     /// # History
     ///
-    /// Down where a window that is read leaves a block that counts an `Arc`, and else nothing.
+    /// Down where a window that is read leaves a block that counts an `Arc`; else nothing.
     pub fn try_with_layout_as<K: Layout>(
         self,
         pass: &mut Pass<H>,
@@ -65,15 +66,15 @@ impl<
     ///
     /// # Errors
     ///
-    /// Those of `try_with_layout_as`.
+    /// The window comes back where `ArcSlice::try_with_layout_as` hands it back.
     ///
     /// # Allocates
     ///
-    /// Where `try_with_layout_as` does.
+    /// Once for a new block, where `ArcSlice::try_with_layout_as` makes one.
     ///
     /// # History
     ///
-    /// That of `try_with_layout_as`.
+    /// Down where a window that is read leaves a block that counts an `Arc`; else nothing.
     pub fn try_with_layout<K: Layout>(self) -> Result<SmallArcSlice<S, K, B, M, A, H>, Self>
     where
         H: Stepping,

@@ -29,9 +29,9 @@ impl<L: Layout, B: Buffer<u8> + Drop, M: Drop, A: Allocator + Copy, H: Mark> Sma
     A,
     H,
 > {
-    /// A window over a copy of the text: within the limit in the window itself, and else on a new
-    /// native block with exactly a place for each byte. The pass, which is of no block, becomes the
-    /// block's; the window is owner 0.
+    /// A window over a copy of the text: in the window itself where it is at most `inline_limit()`
+    /// bytes, else on a new native block with exactly a place for each byte. The pass, which is of
+    /// no block, becomes the block's; the window is owner 0.
     ///
     /// # Errors
     ///
@@ -39,7 +39,7 @@ impl<L: Layout, B: Buffer<u8> + Drop, M: Drop, A: Allocator + Copy, H: Mark> Sma
     ///
     /// # Allocates
     ///
-    /// Where there are more bytes than the limit.
+    /// Once, where there are more bytes than `inline_limit()`.
     pub fn try_from_str_as(alloc: A, text: &str, pass: &mut Pass<H>) -> Result<Self, AllocError>
         requires pass { IsPassOfNone pass.old }
         ensures ok { IfOk result (λ window. MakesSmall L.STATIC false H.whole text.now window) }
@@ -56,7 +56,7 @@ impl<L: Layout, B: Buffer<u8> + Drop, M: Drop, A: Allocator + Copy, H: Mark> Sma
         }
     }
 
-    /// The text.
+    /// The bytes as a `str`.
     pub fn as_str(&self) -> &str
         ensures { result.now ≡ self.now.items }
     {
@@ -66,7 +66,8 @@ impl<L: Layout, B: Buffer<u8> + Drop, M: Drop, A: Allocator + Copy, H: Mark> Sma
         }
     }
 
-    /// A window over a text that is there for good, as `from_static` of bytes.
+    /// A window over a `'static` text, which is never copied. It is no owner: its clones and cuts
+    /// add no entry and are never refused.
     pub fn from_static_str(alloc: A, text: &'static str) -> Self
     where
         L: StaticLayout,
@@ -75,7 +76,8 @@ impl<L: Layout, B: Buffer<u8> + Drop, M: Drop, A: Allocator + Copy, H: Mark> Sma
         Self::from(ArcSlice::from_static_str(alloc, text))
     }
 
-    /// A window over a copy of the text: `try_from_str_as` with a new pass.
+    /// A window over a copy of the text, in the window itself where it is at most `inline_limit()`
+    /// bytes: `try_from_str_as` with a new pass.
     ///
     /// # Errors
     ///
@@ -83,7 +85,7 @@ impl<L: Layout, B: Buffer<u8> + Drop, M: Drop, A: Allocator + Copy, H: Mark> Sma
     ///
     /// # Allocates
     ///
-    /// Where there are more bytes than the limit.
+    /// Once, where there are more bytes than `inline_limit()`.
     pub fn try_from_str(alloc: A, text: &str) -> Result<Self, AllocError>
     where
         H: Stepping,

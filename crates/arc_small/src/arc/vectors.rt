@@ -26,7 +26,7 @@ impl<
     A: Allocator + Copy,
     H: Mark,
 > SmallArcSlice<S, L, B, M, A, H> {
-    /// A window that is read over all bytes of a vector, also of few or none, as
+    /// A window that is read, over all bytes of a vector, also where they are few or none:
     /// `ArcSlice::try_from_vec_as`.
     ///
     /// # Errors
@@ -55,7 +55,7 @@ impl<
         }
     }
 
-    /// A window that is read over all bytes of a box, also of few or none, as
+    /// A window that is read, over all bytes of a box, also where they are few or none:
     /// `ArcSlice::try_from_boxed_as`.
     ///
     /// # Errors
@@ -64,7 +64,8 @@ impl<
     ///
     /// # Allocates
     ///
-    /// That of `ArcSlice::try_from_boxed_as`.
+    /// Once, where a block is needed, and once more to move the bytes, where the box's memory has
+    /// spare places.
     pub fn try_from_boxed_as(
         alloc: A,
         items: S::Boxed,
@@ -86,7 +87,7 @@ impl<
         }
     }
 
-    /// A window that is read over all bytes of a vector: `try_from_vec_as` with a new pass.
+    /// A window that is read, over all bytes of a vector: `try_from_vec_as` with a new pass.
     ///
     /// # Errors
     ///
@@ -115,7 +116,7 @@ impl<
         }
     }
 
-    /// A window that is read over all bytes of a box: `try_from_boxed_as` with a new pass.
+    /// A window that is read, over all bytes of a box: `try_from_boxed_as` with a new pass.
     ///
     /// # Errors
     ///
@@ -123,7 +124,8 @@ impl<
     ///
     /// # Allocates
     ///
-    /// That of `try_from_boxed_as`.
+    /// Once, where a block is needed, and once more to move the bytes, where the box's memory has
+    /// spare places.
     pub fn try_from_boxed(alloc: A, items: S::Boxed) -> Result<Self, S::Boxed>
     where
         H: Stepping,

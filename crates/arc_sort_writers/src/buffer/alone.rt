@@ -1,4 +1,5 @@
-//! What a sole writer has to tell who writes in the role of one of several.
+//! What a sole writer's parts in a caller's buffer say to those of one of several writers that
+//! consist of such parts.
 ghost use Rattle.std.specs.Prelude.{◌≡◌, ◌↔◌, true, false, IsTrue};
 ghost use Rattle.arc_sort_writers.specs.NativeWriters.{IsAlonePlace};
 ghost use Rattle.arc_block.specs.Place.{IsOnBlock, at_owner};
@@ -23,14 +24,14 @@ impl<S: Slice, B: BufferMut<S::Item> + Drop, M: Drop, A: Allocator + Copy, H: Ma
     A,
     H,
 > {
-    /// They are a sole writer's.
+    /// Their role is a sole writer's. Does nothing: its contract is the law.
     pub fn known_role(&self)
         ensures { self.now.role ≡ sole_writer (capacity_of self.now.role) }
     {
         let _ = &self.count;
     }
 
-    /// They stand on a block.
+    /// They stand on a block: the answer is `true`.
     pub fn is_on_block(&self) -> bool
         ensures answer { IsTrue result ↔ IsOnBlock self.now.place }
         ensures idle { result ≡ false → self.now ≡ idle_writer }
@@ -51,15 +52,15 @@ impl<S: Slice, B: BufferMut<S::Item> + Drop, M: Drop, A: Allocator + Copy, H: Ma
         self.count.is_unique_as(pass)
     }
 
-    /// On a block they are of another one than one of several writers. Does nothing: its contract
-    /// is the law.
+    /// They are of another block than one of several writers. Does nothing: its contract is the
+    /// law.
     pub fn apart_from(&self, writer: &SharedNative<S::Item, A, H>)
         ensures { at_owner self.now.place (Unit {0}) (λ o. ¬ (writer.now.owner.block ≡ o.block)) }
     {
         writer.apart_from(&self.count);
     }
 
-    /// Their block is no vector, and so none that is a box.
+    /// Their block is no vector: the answer is `false`.
     pub fn is_box_whole(&self) -> bool
         ensures { IsTrue result ↔ IsBoxWhole self.now.items self.now.place }
     {
@@ -74,7 +75,8 @@ impl<S: Slice, B: BufferMut<S::Item> + Drop, M: Drop, A: Allocator + Copy, H: Ma
         let _ = &self.count;
     }
 
-    /// They stand on a caller's buffer, and so not where one of several writers is by himself.
+    /// They stand on a caller's buffer, and so aren't parts of one of several writers. Does
+    /// nothing: its contract is the law.
     pub fn not_alone(&self)
         ensures { ¬ IsAlonePlace self.now.place }
     {

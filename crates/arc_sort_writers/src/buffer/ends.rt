@@ -33,7 +33,7 @@ impl<S: Slice, B: BufferMut<S::Item> + Drop, M: Drop, A: Allocator + Copy, H: Ma
     A,
     H,
 > {
-    /// Items from start to end of a caller's buffer, whose only owner this is.
+    /// The items from `start` to before `end` of a caller's buffer, whose only owner this is.
     pub fn over(
         alloc: A,
         count: SoleCount<S::Item, B, M, A, MAX_OWNERS, H>,
@@ -53,8 +53,8 @@ impl<S: Slice, B: BufferMut<S::Item> + Drop, M: Drop, A: Allocator + Copy, H: Ma
         }
     }
 
-    /// The count, which has the buffer, from where to before where the items are, and the
-    /// allocator.
+    /// The count, which has the buffer, the numbers in that from which and before which the items
+    /// lie, and the allocator.
     #[inline(always)]
     fn into_count(self) -> (SoleCount<S::Item, B, M, A, MAX_OWNERS, H>, usize, usize, A)
         ensures within { IsBufferWithin H.whole
@@ -73,7 +73,7 @@ impl<S: Slice, B: BufferMut<S::Item> + Drop, M: Drop, A: Allocator + Copy, H: Ma
         (count, start, end, alloc)
     }
 
-    /// The same items and places, which others may read from now on.
+    /// The same items and places, as those of a reader.
     pub fn freeze(self) -> Parts<S, B, M, A, H>
         ensures { result ≡ as_reader self }
     {
@@ -86,7 +86,12 @@ impl<S: Slice, B: BufferMut<S::Item> + Drop, M: Drop, A: Allocator + Copy, H: Ma
         )
     }
 
-    /// `try_freeze_as` of a sole writer's parts.
+    /// The same items, as parts of a window under the layout `L` that is read. It adds no entry and
+    /// takes no memory.
+    ///
+    /// # Errors
+    ///
+    /// The parts come back exactly where the layout doesn't hold the block.
     pub fn try_freeze_as<L: Layout>(self, pass: &mut Pass<H>) -> Result<Parts<S, B, M, A, H>, Self>
         requires pass { IsPassAt self.place pass.old }
         ensures frozen { IfOk result (λ parts.
@@ -109,7 +114,7 @@ impl<S: Slice, B: BufferMut<S::Item> + Drop, M: Drop, A: Allocator + Copy, H: Ma
         Ok(self.freeze())
     }
 
-    /// Whether a layout holds the block, which says whether one may be of a caller's making.
+    /// Whether a layout holds the block: whether blocks may be of a caller's making.
     pub fn is_held<L: Layout>(&self) -> bool
         ensures { IsTrue result ↔ IsBlockHeld (layout_facts L.Layout) self.now.place }
     {
@@ -138,7 +143,16 @@ impl<S: Slice, B: BufferMut<S::Item> + Drop, M: Drop, A: Allocator + Copy, H: Ma
         }
     }
 
-    /// The caller's buffer, where the items are all of it. Its metadata is dropped.
+    /// The caller's buffer, where the items are all of it. The block's metadata is dropped.
+    ///
+    /// # Errors
+    ///
+    /// The parts come back where the items are only a part of the buffer; the pass is then as
+    /// before.
+    ///
+    /// # History
+    ///
+    /// Taken: Down, without an atomic step. Refused: nothing.
     pub fn try_into_buffer_as(self, pass: &mut Pass<H>) -> Result<B, Self>
         requires pass { IsPassAt self.place pass.old }
         ensures taken { IfOk result (λ buffer. IsBufferWhole self.items self.place
@@ -157,7 +171,7 @@ impl<S: Slice, B: BufferMut<S::Item> + Drop, M: Drop, A: Allocator + Copy, H: Ma
         Ok(held.buffer)
     }
 
-    /// The metadata of the block, where it was made with some.
+    /// The metadata that the block was made with, or `None`.
     pub fn metadata(&self) -> Option<&M>
         ensures some { IfSome result (λ m. metadata_at self.now.place ≡ Some m.now) }
         ensures none { IfNone result (metadata_at self.now.place ≡ None) }
@@ -168,7 +182,7 @@ impl<S: Slice, B: BufferMut<S::Item> + Drop, M: Drop, A: Allocator + Copy, H: Ma
         }
     }
 
-    /// The metadata of the buffer.
+    /// The metadata that lies in the buffer.
     pub fn borrowed_metadata(&self) -> &B::Metadata
     where
         B: BorrowMetadata,
@@ -190,6 +204,10 @@ impl<S: Slice, B: BufferMut<S::Item> + Drop, M: Drop, A: Allocator + Copy, H: Ma
     }
 
     /// Ends the parts, and gives the block back.
+    ///
+    /// # History
+    ///
+    /// Down, without an atomic step.
     pub fn release_as(self, pass: &mut Pass<H>)
         requires pass { IsPassAt self.place pass.old }
         ensures entry { at_owner self.place (pass.new ≡ pass.old) (λ o.
@@ -199,7 +217,13 @@ impl<S: Slice, B: BufferMut<S::Item> + Drop, M: Drop, A: Allocator + Copy, H: Ma
         drop(count.into_value_as(pass));
     }
 
-    /// What a drop does, with the pass that the owner ended with.
+    /// What a drop does. Under `Open` the owner ends with a new pass, which is the answer, and the
+    /// block is given back. Under `Whole` it is a forgotten owner, and the answer is a pass of no
+    /// block.
+    ///
+    /// # History
+    ///
+    /// Under `Open`: Down, without an atomic step. Under `Whole`: nothing.
     pub fn let_go(self) -> Pass<H>
         ensures forgotten { H.whole ≡ true → IsPassOfNone result }
         ensures ended { H.whole ≡ false → EndsAt self.place result }
@@ -210,7 +234,7 @@ impl<S: Slice, B: BufferMut<S::Item> + Drop, M: Drop, A: Allocator + Copy, H: Ma
         pass
     }
 
-    /// Shows a pass the block's whole history so far, in which no other owner lives.
+    /// Shows a pass the block's whole history up to here, in which no other owner lives.
     pub fn only(&self, pass: &mut Pass<H>)
         requires pass { IsPassAt self.now.place pass.old }
         ensures { at_owner self.now.place (pass.new ≡ pass.old) (λ o.
@@ -219,7 +243,7 @@ impl<S: Slice, B: BufferMut<S::Item> + Drop, M: Drop, A: Allocator + Copy, H: Ma
         self.count.only(pass);
     }
 
-    /// Afterwards the first pass has seen at least what the other had.
+    /// From here on the first pass has seen at least what the other had.
     pub fn learn(&self, pass: &mut Pass<H>, other: &Pass<H>)
         requires pass { IsPassAt self.now.place pass.old }
         requires other { IsPassAt self.now.place other.now }

@@ -19,8 +19,8 @@ use arc_owners::owners::Pass;
 use arc_parts::room::Room;
 use std::alloc::Allocator;
 
-/// Puts an item at a place of the buffer, over the one that is there, or behind all, and answers
-/// the next place.
+/// Puts an item at a place of the buffer, in the place of the one that is there or behind all, and
+/// answers the next place.
 fn put_at<T: Drop, B: BufferMut<T>>(buffer: &mut B, at: usize, item: T) -> usize
     requires among { at ≤ length (B.list buffer.old) }
     requires place { at < B.places buffer.old }
@@ -48,7 +48,7 @@ impl<S: Slice, B: BufferMut<S::Item> + Drop, M: Drop, A: Allocator + Copy, H: Ma
 > {
     ghost use Rattle.arc_sort_writers.specs.Lends.{lends_buffer_items};
 
-    /// The items, to be changed in their places: what is written there they are afterwards.
+    /// The items, to be changed in their places: they are what is written there.
     pub fn as_mut_slice(&mut self) -> &mut [S::Item]
         ensures* writes_back { sem 𝓛 (lends_buffer_items S.row B.row M.row A.row H.row S.Item.row
             S.TryFromSliceError.row H.Mark S.Slice B.BufferMut.own B.Buffer
@@ -59,7 +59,23 @@ impl<S: Slice, B: BufferMut<S::Item> + Drop, M: Drop, A: Allocator + Copy, H: Ma
         self.count.get_mut().buffer_mut().as_mut_part(start, end)
     }
 
-    /// `try_reserve_as` of a sole writer's parts.
+    /// Makes room for `additional` items more behind those that there are. The buffer is asked
+    /// where its places aren't enough.
+    ///
+    /// # Errors
+    ///
+    /// - `Unsupported` where items that are dropped one by one end before the buffer's last one.
+    /// - What the buffer refuses with.
+    ///
+    /// The items are then as before.
+    ///
+    /// # Allocates
+    ///
+    /// As the buffer does.
+    ///
+    /// # History
+    ///
+    /// None.
     pub fn try_reserve_as(
         &mut self,
         additional: usize,
@@ -92,7 +108,8 @@ impl<S: Slice, B: BufferMut<S::Item> + Drop, M: Drop, A: Allocator + Copy, H: Ma
         }
     }
 
-    /// `try_reclaim` of a sole writer's parts.
+    /// Makes room for `additional` items more without asking the buffer, and answers whether there
+    /// is room.
     pub fn try_reclaim(&mut self, additional: usize) -> bool
         ensures { Reclaims (room_for S.DROPS (type_size S.Item.row) self.old additional)
             self.old self.new result }
@@ -108,7 +125,20 @@ impl<S: Slice, B: BufferMut<S::Item> + Drop, M: Drop, A: Allocator + Copy, H: Ma
         }
     }
 
-    /// `try_push_as` of a sole writer's parts.
+    /// Appends an item, once there is room.
+    ///
+    /// # Errors
+    ///
+    /// Those of `try_reserve_as` for one item, with the item, which comes back. Nothing is changed
+    /// then.
+    ///
+    /// # Allocates
+    ///
+    /// As the buffer does, where there are too few places.
+    ///
+    /// # History
+    ///
+    /// None.
     #[inline(always)]
     pub fn try_push_as(
         &mut self,
@@ -136,7 +166,7 @@ impl<S: Slice, B: BufferMut<S::Item> + Drop, M: Drop, A: Allocator + Copy, H: Ma
         }
     }
 
-    /// An item more, behind the others, where there is a place for it.
+    /// Appends an item. There is a place for it.
     pub fn push_reserved(&mut self, item: S::Item)
         requires { length self.old.items + 1 ≤ capacity_of self.old.role }
         ensures { self.new ≡ with_more (item ∷ []) self.old }
@@ -147,7 +177,7 @@ impl<S: Slice, B: BufferMut<S::Item> + Drop, M: Drop, A: Allocator + Copy, H: Ma
         }
     }
 
-    /// Takes so many items off the front; their places are none of the window's any more.
+    /// Takes the first `count` items off, with their places.
     pub fn advance(&mut self, count: usize)
         requires { count ≤ length self.old.items }
         ensures { self.new ≡ after_advance count self.old }
@@ -155,7 +185,7 @@ impl<S: Slice, B: BufferMut<S::Item> + Drop, M: Drop, A: Allocator + Copy, H: Ma
         self.start += count;
     }
 
-    /// Leaves the first so many items, if there are more.
+    /// Keeps the first `len` items, or all where there are no more.
     pub fn truncate(&mut self, len: usize)
         ensures { self.new ≡ after_truncate S.DROPS len self.old }
     {
@@ -176,7 +206,19 @@ impl<S: Slice, B: BufferMut<S::Item> + Drop, M: Drop, A: Allocator + Copy, H: Ma
 where
     S::Item: Copy,
 {
-    /// `try_extend_from_slice_as` of a sole writer's parts.
+    /// Appends a copy of the items, once there is room.
+    ///
+    /// # Errors
+    ///
+    /// Those of `try_reserve_as` for as many items. Nothing is changed then.
+    ///
+    /// # Allocates
+    ///
+    /// As the buffer does, where there are too few places.
+    ///
+    /// # History
+    ///
+    /// None.
     #[inline(never)]
     pub fn try_extend_from_slice_as(
         &mut self,
@@ -204,7 +246,7 @@ where
         }
     }
 
-    /// A copy of the items more, behind the others, where there are places for them.
+    /// Appends a copy of the items. There are places for them.
     pub fn extend_reserved(&mut self, items: &[S::Item])
         requires { length self.old.items + length items.now ≤ capacity_of self.old.role }
         ensures { self.new ≡ with_more items.now self.old }

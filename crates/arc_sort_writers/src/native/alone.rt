@@ -1,4 +1,5 @@
-//! What a sole writer on a native block has to tell who writes in the role of one of several.
+//! What a sole writer's parts on a native block say to those of one of several writers that consist
+//! of them.
 ghost use Rattle.std.specs.Prelude.{◌≡◌, ◌↔◌, true, false, IsTrue};
 ghost use Rattle.arc_sort_writers.specs.NativeWriters.{IsAlonePlace};
 ghost use Rattle.arc_block.specs.Place.{IsOnBlock, at_owner, nowhere};
@@ -15,7 +16,7 @@ use arc_owners::owners::Pass;
 use std::alloc::Allocator;
 
 impl<S: Slice, M: Drop, A: Allocator + Copy, H: Mark> SoleNative<S, M, A, H> {
-    /// They are a sole writer's.
+    /// Their role is a sole writer's. Does nothing: its contract is the law.
     pub fn known_role(&self)
         ensures { self.now.role ≡ sole_writer (capacity_of self.now.role) }
     {
@@ -41,7 +42,7 @@ impl<S: Slice, M: Drop, A: Allocator + Copy, H: Mark> SoleNative<S, M, A, H> {
     ///
     /// # History
     ///
-    /// On a block Alone with the answer.
+    /// On a block: Alone with the answer.
     pub fn is_alone_as(&self, pass: &mut Pass<H>) -> bool
         requires pass { IsPassAt self.now.place pass.old }
         ensures { AsksAlone self.now.place pass.old pass.new result }
@@ -52,8 +53,8 @@ impl<S: Slice, M: Drop, A: Allocator + Copy, H: Mark> SoleNative<S, M, A, H> {
         }
     }
 
-    /// On a block they are of another one than one of several writers. Does nothing: its contract
-    /// is the law.
+    /// On a block they are of another one than the block of one of several writers. Does nothing:
+    /// its contract is the law.
     pub fn apart_from(&self, writer: &SharedNative<S::Item, A, H>)
         ensures { at_owner self.now.place (Unit {0}) (λ o. ¬ (writer.now.owner.block ≡ o.block)) }
     {
@@ -62,7 +63,7 @@ impl<S: Slice, M: Drop, A: Allocator + Copy, H: Mark> SoleNative<S, M, A, H> {
         }
     }
 
-    /// They stand on nothing where one of several writers would be by himself. Does nothing: its
+    /// They stand on nothing, where they are all that one of several writers has. Does nothing: its
     /// contract is the law.
     pub fn is_nowhere(&self)
         requires { IsAlonePlace self.now.place }

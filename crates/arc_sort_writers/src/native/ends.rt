@@ -33,9 +33,9 @@ use std::mem;
 /// The fields of a sole writer's parts on a native block but the marker, in their order.
 type NativeFields<T, A, H> = (Option<NativeCount<MAX_OWNERS, H>>, CutMemory<T, A>, A);
 
-/// What a drop does: under `Open` the owner ends with a new pass, and its items are dropped; under
-/// `Whole` it is forgotten, and so are its items, which stay where they are. The pass is the one
-/// that the owner ended with; under `Whole` it is of no block.
+/// What a drop does. Under `Open` the owner ends with a new pass, which is the answer, and its
+/// items are dropped. Under `Whole` owner and items are forgotten: the items stay where they are,
+/// and the answer is a pass of no block.
 pub(super) fn end_native<T: Drop, A: Allocator + Copy, const MAX: u64, H: Mark>(
     count: NativeCount<MAX, H>,
     memory: WriterMemory<T, A>,
@@ -68,8 +68,7 @@ impl<S: Slice, M: Drop, A: Allocator + Copy, H: Mark> SoleNative<S, M, A, H> {
         (count, memory, alloc)
     }
 
-    /// The same items and places, which others may read from now on. It adds nothing and takes no
-    /// memory.
+    /// The same items and places, as those of a reader. It adds no entry and takes no memory.
     pub fn freeze<B: Buffer<S::Item> + Drop>(self) -> Parts<S, B, M, A, H>
         ensures { result ≡ as_reader self }
     {
@@ -93,17 +92,18 @@ impl<S: Slice, M: Drop, A: Allocator + Copy, H: Mark> SoleNative<S, M, A, H> {
         }
     }
 
-    /// The same items and places, which others may read from now on, as a window under the layout
-    /// `L` is. On nothing they are what no items are made of: a native block of no places, of which
-    /// the pass becomes one, where the layout has no static data.
+    /// The same items, as parts of a window under the layout `L` that is read. On nothing they
+    /// become those that no items make under that layout: on nothing, or on a new native block of
+    /// no places, of which the pass becomes one.
     ///
     /// # Errors
     ///
-    /// The parts, where memory for a block of no places is refused; the pass is then as before.
+    /// The parts come back where memory for a block of no places is refused; the pass is then as
+    /// before.
     ///
     /// # Allocates
     ///
-    /// On nothing, where the layout has no static data.
+    /// Once on nothing, where the layout has no static data.
     pub fn try_freeze_as<L: Layout, B: Buffer<S::Item> + Drop>(
         self,
         pass: &mut Pass<H>,
@@ -131,7 +131,7 @@ impl<S: Slice, M: Drop, A: Allocator + Copy, H: Mark> SoleNative<S, M, A, H> {
         }
     }
 
-    /// Every layout holds a native block.
+    /// Every layout holds a native block: the answer is `true`.
     pub fn is_held<L: Layout>(&self) -> bool
         ensures { IsTrue result ↔ IsBlockHeld (layout_facts L.Layout) self.now.place }
     {
@@ -150,7 +150,7 @@ impl<S: Slice, M: Drop, A: Allocator + Copy, H: Mark> SoleNative<S, M, A, H> {
         self
     }
 
-    /// None: a native block has no metadata.
+    /// `None`: a native block has no metadata.
     pub fn metadata(&self) -> Option<&M>
         ensures some { IfSome result (λ m. metadata_at self.now.place ≡ Some m.now) }
         ensures none { IfNone result (metadata_at self.now.place ≡ None) }
@@ -159,7 +159,7 @@ impl<S: Slice, M: Drop, A: Allocator + Copy, H: Mark> SoleNative<S, M, A, H> {
         None
     }
 
-    /// None: nothing of a caller's lies there.
+    /// `None`: no caller's buffer is there.
     pub fn borrowed_metadata<B: Buffer<S::Item> + BorrowMetadata>(&self) -> Option<&B::Metadata>
         ensures some { IfSome result (λ m.
             IsMetadataAt B.list B.metadata self.now.place self.now.items m.now) }
@@ -188,16 +188,15 @@ impl<S: Slice, M: Drop, A: Allocator + Copy, H: Mark> SoleNative<S, M, A, H> {
         self.len() == n && (self.count.is_none() || self.memory.count() == n)
     }
 
-    /// The items as an array, where there are `N` of them, which on a block are all its places.
-    /// Else the parts come back.
+    /// The items as an array of `N`. On a block they have to be all its places.
     ///
     /// # Errors
     ///
-    /// The parts, with another number of items or of places; the pass is then as before.
+    /// The parts come back with another number of items or of places; the pass is then as before.
     ///
     /// # History
     ///
-    /// Taken off a block, Down without a step.
+    /// Taken off a block: Down, without an atomic step. Else nothing.
     pub fn try_into_array_as<const N: usize>(self, pass: &mut Pass<H>) -> Result<[S::Item; N], Self>
         requires pass { IsPassAt self.place pass.old }
         ensures taken { IfOk result (λ array. IsWholeWriter N self × (array ≡ self.items)) }
@@ -216,7 +215,7 @@ impl<S: Slice, M: Drop, A: Allocator + Copy, H: Mark> SoleNative<S, M, A, H> {
         Ok(whole_of::<S, A>(memory).into_array())
     }
 
-    /// The same parts, of items of another kind. It adds nothing.
+    /// The same parts, of items of another kind. It adds no entry.
     pub fn into_kind<K: Slice<Item = S::Item>>(self) -> SoleNative<K, M, A, H>
         requires { K.DROPS ≡ S.DROPS }
         ensures { result ≡ self }
@@ -234,7 +233,7 @@ impl<S: Slice, M: Drop, A: Allocator + Copy, H: Mark> SoleNative<S, M, A, H> {
     ///
     /// # History
     ///
-    /// On a block Down, without a step.
+    /// On a block: Down, without an atomic step.
     pub fn release_as(self, pass: &mut Pass<H>)
         requires pass { IsPassAt self.place pass.old }
         ensures entry { at_owner self.place (pass.new ≡ pass.old) (λ o.
@@ -247,13 +246,13 @@ impl<S: Slice, M: Drop, A: Allocator + Copy, H: Mark> SoleNative<S, M, A, H> {
         drop(whole_of::<S, A>(memory));
     }
 
-    /// What a drop does: under `Open` the owner ends with a new pass, and the block is given back
-    /// with its items; under `Whole` it is forgotten, without a step, and its items stay. The pass
-    /// is the one that the owner ended with; on no block, and under `Whole`, it is of none.
+    /// What a drop does. Under `Open` the owner ends with a new pass, which is the answer, and the
+    /// block is given back with its items. Under `Whole` it is a forgotten owner: no step is made,
+    /// and its items stay. The answer is a pass of no block under `Whole`, and on no block.
     ///
     /// # History
     ///
-    /// On a block Down under `Open`, without a step, and nothing under `Whole`.
+    /// Under `Open`, on a block: Down, without an atomic step. Else nothing.
     pub fn let_go(self) -> Pass<H>
         ensures forgotten { H.whole ≡ true → IsPassOfNone result }
         ensures ended { H.whole ≡ false → EndsAt self.place result }
@@ -269,8 +268,8 @@ impl<S: Slice, M: Drop, A: Allocator + Copy, H: Mark> SoleNative<S, M, A, H> {
         }
     }
 
-    /// Shows a pass the block's whole history so far, in which no other owner lives. It adds
-    /// nothing.
+    /// Shows a pass the block's whole history up to here, in which no other owner lives. It adds no
+    /// entry.
     pub fn only(&self, pass: &mut Pass<H>)
         requires pass { IsPassAt self.now.place pass.old }
         ensures { at_owner self.now.place (pass.new ≡ pass.old) (λ o.
@@ -281,7 +280,7 @@ impl<S: Slice, M: Drop, A: Allocator + Copy, H: Mark> SoleNative<S, M, A, H> {
         }
     }
 
-    /// Afterwards the first pass has seen at least what the other had. It adds nothing.
+    /// From here on the first pass has seen at least what the other had. It adds no entry.
     pub fn learn(&self, pass: &mut Pass<H>, other: &Pass<H>)
         requires pass { IsPassAt self.now.place pass.old }
         requires other { IsPassAt self.now.place other.now }
@@ -295,8 +294,8 @@ impl<S: Slice, M: Drop, A: Allocator + Copy, H: Mark> SoleNative<S, M, A, H> {
 }
 
 impl<S: Slice, M: Drop, A: Allocator + Copy, H: Stepping> SoleNative<S, M, A, H> {
-    /// A new pass of the block, which has seen at least how this owner became one, and made
-    /// nothing; on no block a pass of none. It adds nothing.
+    /// A new pass of the block. It has seen at least how this owner became one, and nothing was
+    /// made with it. On no block it is a pass of none. It adds no entry.
     pub fn pass(&self) -> Pass<H>
         ensures { at_owner self.now.place (IsPassOfNone result) (λ o. IsNewPass o result) }
     {

@@ -1,4 +1,5 @@
-//! A sole writer on a native block, as one of several writers, and one who was one of several.
+//! A sole writer on a native block becomes one of several writers, and one of several becomes a
+//! sole writer.
 ghost use Rattle.std.specs.Prelude.{◌≡◌, ℕ, ◌≤◌, ◌↔◌, IsTrue, false, length, IfOk, IfErr};
 ghost use Rattle.arc_owners.specs.memory.SoleCounts.{count_owner};
 ghost use Rattle.arc_memory.specs.Sources.{IsPiece};
@@ -20,13 +21,13 @@ use std::alloc::Allocator;
 use std::marker::PhantomData;
 
 impl<S: Slice, M: Drop, A: Allocator + Copy, H: Mark> SoleNative<S, M, A, H> {
-    /// What gives and takes memory for them.
+    /// The allocator.
     pub fn alloc(&self) -> A {
         self.alloc
     }
 
-    /// Full places aren't counted: none are more when items are pushed. Does nothing: its contract
-    /// is the law.
+    /// Full places aren't counted, so that pushed items change no such count. Does nothing: its
+    /// contract is the law.
     #[tactic(auto, using(crate::proofs::CutNatives::uncounted_cut))]
     pub fn known_uncounted(&self)
         requires { S.DROPS ≡ false }
@@ -35,7 +36,7 @@ impl<S: Slice, M: Drop, A: Allocator + Copy, H: Mark> SoleNative<S, M, A, H> {
         let _ = &self.count;
     }
 
-    /// Their block is no vector, and so none that is a box.
+    /// Their block is no vector: the answer is `false`.
     pub fn is_box_whole(&self) -> bool
         ensures { IsTrue result ↔ IsBoxWhole self.now.items self.now.place }
     {

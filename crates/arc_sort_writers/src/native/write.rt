@@ -18,7 +18,7 @@ use std::alloc::Allocator;
 impl<S: Slice, M: Drop, A: Allocator + Copy, H: Mark> SoleNative<S, M, A, H> {
     ghost use Rattle.arc_sort_writers.specs.Lends.{lends_native_items};
 
-    /// The items, to be changed in their places: what is written there they are afterwards.
+    /// The items, to be changed in their places: they are what is written there.
     #[inline(always)]
     pub fn as_mut_slice(&mut self) -> &mut [S::Item]
         ensures* writes_back { sem 𝓛 (lends_native_items S.row M.row A.row H.row S.Item.row
@@ -28,7 +28,8 @@ impl<S: Slice, M: Drop, A: Allocator + Copy, H: Mark> SoleNative<S, M, A, H> {
         self.memory.as_mut_slice()
     }
 
-    /// Whether there is room for so many items more without memory; then it is made.
+    /// Makes room for `additional` items more where that takes no memory, and answers whether there
+    /// is room.
     pub fn try_reclaim(&mut self, additional: usize) -> bool
         ensures { Reclaims (room_for S.DROPS (type_size S.Item.row) self.old additional)
             self.old self.new result }
@@ -47,19 +48,20 @@ impl<S: Slice, M: Drop, A: Allocator + Copy, H: Mark> SoleNative<S, M, A, H> {
         }
     }
 
-    /// An item more, behind the others, once there is room for it.
+    /// Appends an item, once there is room.
     ///
     /// # Errors
     ///
-    /// Those of `try_reserve_as`, with the item.
+    /// Those of `try_reserve_as` for one item, with the item, which comes back. Nothing is changed
+    /// then.
     ///
     /// # Allocates
     ///
-    /// As `try_reserve_as`.
+    /// Where there are too few places: as `try_reserve_as` does for one item.
     ///
     /// # History
     ///
-    /// As `try_reserve_as`.
+    /// None. Where a first block is made, the pass becomes that block's.
     #[inline(always)]
     pub fn try_push_as(
         &mut self,
@@ -85,7 +87,7 @@ impl<S: Slice, M: Drop, A: Allocator + Copy, H: Mark> SoleNative<S, M, A, H> {
         }
     }
 
-    /// An item more, behind the others, where there is a place for it.
+    /// Appends an item. There is a place for it.
     #[inline(always)]
     pub fn push_reserved(&mut self, item: S::Item)
         requires { length self.old.items + 1 ≤ capacity_of self.old.role }
@@ -94,7 +96,7 @@ impl<S: Slice, M: Drop, A: Allocator + Copy, H: Mark> SoleNative<S, M, A, H> {
         self.memory.push_reserved(item);
     }
 
-    /// Takes so many items off the front; their places are none of the window's any more.
+    /// Takes the first `count` items off, with their places.
     #[inline(always)]
     pub fn advance(&mut self, count: usize)
         requires { count ≤ length self.old.items }
@@ -106,7 +108,7 @@ impl<S: Slice, M: Drop, A: Allocator + Copy, H: Mark> SoleNative<S, M, A, H> {
         self.memory.forget_front(count);
     }
 
-    /// Leaves the first so many items, if there are more.
+    /// Keeps the first `len` items, or all where there are no more.
     #[inline(always)]
     pub fn truncate(&mut self, len: usize)
         ensures { self.new ≡ after_truncate S.DROPS len self.old }
@@ -125,19 +127,19 @@ impl<S: Slice, M: Drop, A: Allocator + Copy, H: Mark> SoleNative<S, M, A, H>
 where
     S::Item: Copy,
 {
-    /// A copy of the items more, behind the others, once there is room for them.
+    /// Appends a copy of the items, once there is room.
     ///
     /// # Errors
     ///
-    /// Those of `try_reserve_as`.
+    /// Those of `try_reserve_as` for as many items. Nothing is changed then.
     ///
     /// # Allocates
     ///
-    /// As `try_reserve_as`.
+    /// Where there are too few places: as `try_reserve_as` does for as many items.
     ///
     /// # History
     ///
-    /// As `try_reserve_as`.
+    /// None. Where a first block is made, the pass becomes that block's.
     #[inline(always)]
     pub fn try_extend_from_slice_as(
         &mut self,
@@ -164,7 +166,7 @@ where
         }
     }
 
-    /// A copy of the items more, behind the others, where there are places for them.
+    /// Appends a copy of the items. There are places for them.
     #[inline(always)]
     pub fn extend_reserved(&mut self, items: &[S::Item])
         requires { length self.old.items + length items.now ≤ capacity_of self.old.role }

@@ -1,4 +1,4 @@
-//! One of several writers' array.
+//! An array of what one of several writers has.
 ghost use Rattle.std.specs.Prelude.{◌≡◌, ◌↔◌, false, IfOk, IfErr, IsTrue, length};
 ghost use Rattle.arc_owners.specs.count.Calls.{Asks, IsPassFor, TakesBlock};
 
@@ -23,13 +23,18 @@ impl<T: Drop, A: Allocator + Copy, H: Mark> SharedNative<T, A, H> {
         (SharedNative { writer, head }, is)
     }
 
-    /// The items as an array, where there are `N` of them, which are all places of the block, and
-    /// no other owner lives. Else the writer comes back. Gives the memory back.
+    /// The items as an array of `N`, where they are all places of the block, and no other owner
+    /// lives. The block's memory is given back.
+    ///
+    /// # Errors
+    ///
+    /// The writer comes back where it has another number of items or of places, and where another
+    /// owner lives.
     ///
     /// # History
     ///
-    /// Taken, Alone and Down. Refused, Alone with no where only the count could decide, and else
-    /// nothing.
+    /// Taken: Alone with yes, then Down. Refused: Alone with no, where only the count could decide;
+    /// else nothing.
     pub fn try_into_array_as<const N: usize>(self, pass: &mut Pass<H>) -> Result<[T; N], Self>
         requires pass { IsPassFor self.owner pass.old }
         ensures whole { IfOk result (λ _. (length self.items ≡ N) × (self.size ≡ N)) }

@@ -1,4 +1,5 @@
-//! What a sole writer has to tell who writes in the role of one of several.
+//! What a sole writer's parts on a vector say to those of one of several writers that consist of
+//! them.
 ghost use Rattle.std.specs.Prelude.{◌≡◌, ℕ, ◌↔◌, true, false, IsTrue};
 ghost use Rattle.arc_sort_writers.specs.NativeWriters.{IsAlonePlace};
 ghost use Rattle.arc_block.specs.Place.{IsOnBlock, at_owner};
@@ -22,19 +23,19 @@ impl<S: Slice, B: Buffer<S::Item> + Drop, M: Drop, A: Allocator + Copy, H: Mark>
     A,
     H,
 > {
-    /// What gives and takes memory for them.
+    /// The allocator.
     pub fn alloc(&self) -> A {
         self.alloc
     }
 
-    /// They are a sole writer's.
+    /// Their role is a sole writer's. Does nothing: its contract is the law.
     pub fn known_role(&self)
         ensures { self.now.role ≡ sole_writer (capacity_of self.now.role) }
     {
         let _ = &self.count;
     }
 
-    /// They stand on a block.
+    /// They stand on a block: the answer is `true`.
     pub fn is_on_block(&self) -> bool
         ensures answer { IsTrue result ↔ IsOnBlock self.now.place }
         ensures idle { result ≡ false → self.now ≡ idle_writer }
@@ -43,15 +44,16 @@ impl<S: Slice, B: Buffer<S::Item> + Drop, M: Drop, A: Allocator + Copy, H: Mark>
         true
     }
 
-    /// They stand where one of several writers is by himself.
+    /// They stand where one of several writers has no other owner beside him. Does nothing: its
+    /// contract is the law.
     pub fn is_alone_place(&self)
         ensures { IsAlonePlace self.now.place }
     {
         let _ = &self.count;
     }
 
-    /// Full places aren't counted: none are more when items are pushed. Does nothing: its contract
-    /// is the law.
+    /// Full places aren't counted, so that pushed items change no such count. Does nothing: its
+    /// contract is the law.
     #[tactic(auto, using(crate::proofs::Writers::uncounted_vector))]
     pub fn known_uncounted(&self)
         requires { S.DROPS ≡ false }

@@ -47,8 +47,7 @@ impl<S: Slice, B: Buffer<S::Item> + Drop, M: Drop, A: Allocator + Copy, H: Mark>
         (count, items, start, end, alloc)
     }
 
-    /// The same items and places, which others may read from now on. It adds nothing and takes no
-    /// memory.
+    /// The same items and places, as those of a reader. It adds no entry and takes no memory.
     pub fn freeze(self) -> Parts<S, B, M, A, H>
         ensures { result ≡ as_reader self }
     {
@@ -61,7 +60,12 @@ impl<S: Slice, B: Buffer<S::Item> + Drop, M: Drop, A: Allocator + Copy, H: Mark>
         )
     }
 
-    /// `try_freeze_as` of a sole writer's parts.
+    /// The same items, as parts of a window under the layout `L` that is read. It adds no entry and
+    /// takes no memory.
+    ///
+    /// # Errors
+    ///
+    /// The parts come back exactly where the layout doesn't hold the block.
     pub fn try_freeze_as<L: Layout>(self, pass: &mut Pass<H>) -> Result<Parts<S, B, M, A, H>, Self>
         requires pass { IsPassAt self.place pass.old }
         ensures frozen { IfOk result (λ parts.
@@ -84,7 +88,7 @@ impl<S: Slice, B: Buffer<S::Item> + Drop, M: Drop, A: Allocator + Copy, H: Mark>
         Ok(self.freeze())
     }
 
-    /// Whether a layout holds the block, which says whether one may be of a caller's making.
+    /// Whether a layout holds the block: whether blocks may be of a caller's making.
     pub fn is_held<L: Layout>(&self) -> bool
         ensures { IsTrue result ↔ IsBlockHeld (layout_facts L.Layout) self.now.place }
     {
@@ -101,7 +105,7 @@ impl<S: Slice, B: Buffer<S::Item> + Drop, M: Drop, A: Allocator + Copy, H: Mark>
         self
     }
 
-    /// None: a vector has no metadata.
+    /// `None`: a vector has no metadata.
     pub fn metadata(&self) -> Option<&M>
         ensures some { IfSome result (λ m. metadata_at self.now.place ≡ Some m.now) }
         ensures none { IfNone result (metadata_at self.now.place ≡ None) }
@@ -110,7 +114,7 @@ impl<S: Slice, B: Buffer<S::Item> + Drop, M: Drop, A: Allocator + Copy, H: Mark>
         None
     }
 
-    /// None: nothing of a caller's lies there.
+    /// `None`: no caller's buffer is there.
     pub fn borrowed_metadata(&self) -> Option<&B::Metadata>
     where
         B: BorrowMetadata,
@@ -131,7 +135,7 @@ impl<S: Slice, B: Buffer<S::Item> + Drop, M: Drop, A: Allocator + Copy, H: Mark>
         self
     }
 
-    /// The same parts, of items of another kind. It adds nothing.
+    /// The same parts, of items of another kind. It adds no entry.
     pub fn into_kind<K: Slice<Item = S::Item>>(self) -> SoleVector<K, B, M, A, H>
         requires { K.DROPS ≡ S.DROPS }
         ensures { result ≡ self }
@@ -150,7 +154,7 @@ impl<S: Slice, B: Buffer<S::Item> + Drop, M: Drop, A: Allocator + Copy, H: Mark>
     ///
     /// # History
     ///
-    /// Down, without a step.
+    /// Down, without an atomic step.
     pub fn release_as(self, pass: &mut Pass<H>)
         requires pass { IsPassAt self.place pass.old }
         ensures entry { at_owner self.place (pass.new ≡ pass.old) (λ o.
@@ -161,13 +165,13 @@ impl<S: Slice, B: Buffer<S::Item> + Drop, M: Drop, A: Allocator + Copy, H: Mark>
         drop(items);
     }
 
-    /// What a drop does: under `Open` the owner ends with a new pass, and the block is given back
-    /// with its items; under `Whole` it is forgotten, without a step, and its items stay. The pass
-    /// is the one that the owner ended with; under `Whole` it is of none.
+    /// What a drop does. Under `Open` the owner ends with a new pass, which is the answer, and the
+    /// block is given back with its items. Under `Whole` it is a forgotten owner: no step is made,
+    /// and its items stay. The answer is a pass of no block under `Whole`.
     ///
     /// # History
     ///
-    /// Down under `Open`, without a step, and nothing under `Whole`.
+    /// Under `Open`: Down, without an atomic step. Under `Whole`: nothing.
     pub fn let_go(self) -> Pass<H>
         ensures forgotten { H.whole ≡ true → IsPassOfNone result }
         ensures ended { H.whole ≡ false → EndsAt self.place result }
@@ -176,8 +180,8 @@ impl<S: Slice, B: Buffer<S::Item> + Drop, M: Drop, A: Allocator + Copy, H: Mark>
         end_sole(count, items)
     }
 
-    /// Shows a pass the block's whole history so far, in which no other owner lives. It adds
-    /// nothing.
+    /// Shows a pass the block's whole history up to here, in which no other owner lives. It adds no
+    /// entry.
     pub fn only(&self, pass: &mut Pass<H>)
         requires pass { IsPassAt self.now.place pass.old }
         ensures { at_owner self.now.place (pass.new ≡ pass.old) (λ o.
@@ -186,7 +190,7 @@ impl<S: Slice, B: Buffer<S::Item> + Drop, M: Drop, A: Allocator + Copy, H: Mark>
         self.count.only(pass);
     }
 
-    /// Afterwards the first pass has seen at least what the other had. It adds nothing.
+    /// From here on the first pass has seen at least what the other had. It adds no entry.
     pub fn learn(&self, pass: &mut Pass<H>, other: &Pass<H>)
         requires pass { IsPassAt self.now.place pass.old }
         requires other { IsPassAt self.now.place other.now }
@@ -204,8 +208,8 @@ impl<S: Slice, B: Buffer<S::Item> + Drop, M: Drop, A: Allocator + Copy, H: Stepp
     A,
     H,
 > {
-    /// A new pass of the block, which has seen at least how this owner became one, and made
-    /// nothing. It adds nothing.
+    /// A new pass of the block. It has seen at least how this owner became one, and nothing was
+    /// made with it. It adds no entry.
     pub fn pass(&self) -> Pass<H>
         ensures { at_owner self.now.place (IsPassOfNone result) (λ o. IsNewPass o result) }
     {

@@ -33,12 +33,12 @@ impl<S: Slice, B: Buffer<S::Item> + Drop, M: Drop, A: Allocator + Copy, H: Mark>
     ///
     /// # Errors
     ///
-    /// The parts, where items that are dropped one by one are a part alone; the pass is then as
-    /// before.
+    /// The parts come back where items that are dropped one by one are only a part of the vector;
+    /// the pass is then as before.
     ///
     /// # History
     ///
-    /// Taken, Down without a step.
+    /// Taken: Down, without an atomic step. Refused: nothing.
     pub fn try_into_vec_as(self, pass: &mut Pass<H>) -> Result<Vec<S::Item, A>, Self>
         requires pass { IsPassAt self.place pass.old }
         ensures taken { IfOk result (λ v. IsVecPart S.DROPS self.items self.place
@@ -54,24 +54,23 @@ impl<S: Slice, B: Buffer<S::Item> + Drop, M: Drop, A: Allocator + Copy, H: Mark>
         Ok(self.take_memory_as(pass))
     }
 
-    /// Whether the list is all of the block's vector, which has no places more.
+    /// Whether the items fill all places of the block's vector.
     pub fn is_box_whole(&self) -> bool
         ensures { IsTrue result ↔ IsBoxWhole self.now.items self.now.place }
     {
         self.start == 0 && self.end == self.items.capacity()
     }
 
-    /// The items as the block's vector, where they are all of it and it has no places more: so it
-    /// is a box.
+    /// The items as the block's vector, where they fill all its places, as a box's do.
     ///
     /// # Errors
     ///
-    /// The parts, where the items are a part of the vector's places alone; the pass is then as
+    /// The parts come back where the items don't fill all places of the vector; the pass is then as
     /// before.
     ///
     /// # History
     ///
-    /// Taken, Down without a step.
+    /// Taken: Down, without an atomic step. Refused: nothing.
     pub fn try_into_box_vec_as(self, pass: &mut Pass<H>) -> Result<Vec<S::Item, A>, Self>
         requires pass { IsPassAt self.place pass.old }
         ensures taken { IfOk result (λ v. IsBoxWhole self.items self.place

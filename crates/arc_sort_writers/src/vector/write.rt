@@ -27,7 +27,7 @@ impl<S: Slice, B: Buffer<S::Item> + Drop, M: Drop, A: Allocator + Copy, H: Mark>
 > {
     ghost use Rattle.arc_sort_writers.specs.Lends.{lends_vector_items};
 
-    /// The items, to be changed in their places: what is written there they are afterwards.
+    /// The items, to be changed in their places: they are what is written there.
     #[inline(always)]
     pub fn as_mut_slice(&mut self) -> &mut [S::Item]
         ensures* writes_back { sem 𝓛 (lends_vector_items S.row B.row M.row A.row H.row S.Item.row
@@ -37,7 +37,8 @@ impl<S: Slice, B: Buffer<S::Item> + Drop, M: Drop, A: Allocator + Copy, H: Mark>
         self.items.slice_mut(self.start..self.end)
     }
 
-    /// Whether there is room for so many items more without memory; then it is made.
+    /// Makes room for `additional` items more where that takes no memory, and answers whether there
+    /// is room.
     pub fn try_reclaim(&mut self, additional: usize) -> bool
         ensures { Reclaims (room_for S.DROPS (type_size S.Item.row) self.old additional)
             self.old self.new result }
@@ -53,19 +54,20 @@ impl<S: Slice, B: Buffer<S::Item> + Drop, M: Drop, A: Allocator + Copy, H: Mark>
         }
     }
 
-    /// An item more, behind the others, once there is room for it.
+    /// Appends an item, once there is room.
     ///
     /// # Errors
     ///
-    /// Those of `try_reserve_as`, with the item.
+    /// Those of `try_reserve_as` for one item, with the item, which comes back. Nothing is changed
+    /// then.
     ///
     /// # Allocates
     ///
-    /// As `try_reserve_as`.
+    /// Where there are too few places: as `try_reserve_as` does for one item.
     ///
     /// # History
     ///
-    /// As `try_reserve_as`.
+    /// None.
     #[inline(always)]
     pub fn try_push_as(
         &mut self,
@@ -91,18 +93,18 @@ impl<S: Slice, B: Buffer<S::Item> + Drop, M: Drop, A: Allocator + Copy, H: Mark>
         }
     }
 
-    /// An item more, behind the others, where there is a place for it.
+    /// Appends an item. There is a place for it.
     #[inline(always)]
     pub fn push_reserved(&mut self, item: S::Item)
         requires { length self.old.items + 1 ≤ capacity_of self.old.role }
         ensures { self.new ≡ with_more (item ∷ []) self.old }
     {
         self.items.push_reserved(item);
-        // Where there was a place behind them, they end where the vector does.
+        // The items end where the vector's do, since there is a place behind them.
         self.end = self.items.len();
     }
 
-    /// Takes so many items off the front; their places are none of the window's any more.
+    /// Takes the first `count` items off, with their places.
     #[inline(always)]
     pub fn advance(&mut self, count: usize)
         requires { count ≤ length self.old.items }
@@ -111,7 +113,7 @@ impl<S: Slice, B: Buffer<S::Item> + Drop, M: Drop, A: Allocator + Copy, H: Mark>
         self.start += count;
     }
 
-    /// Leaves the first so many items, if there are more.
+    /// Keeps the first `len` items, or all where there are no more.
     pub fn truncate(&mut self, len: usize)
         ensures { self.new ≡ after_truncate S.DROPS len self.old }
     {
@@ -135,19 +137,19 @@ impl<S: Slice, B: Buffer<S::Item> + Drop, M: Drop, A: Allocator + Copy, H: Mark>
 where
     S::Item: Copy,
 {
-    /// A copy of the items more, behind the others, once there is room for them.
+    /// Appends a copy of the items, once there is room.
     ///
     /// # Errors
     ///
-    /// Those of `try_reserve_as`.
+    /// Those of `try_reserve_as` for as many items. Nothing is changed then.
     ///
     /// # Allocates
     ///
-    /// As `try_reserve_as`.
+    /// Where there are too few places: as `try_reserve_as` does for as many items.
     ///
     /// # History
     ///
-    /// As `try_reserve_as`.
+    /// None.
     #[inline(never)]
     pub fn try_extend_from_slice_as(
         &mut self,
@@ -174,7 +176,7 @@ where
         }
     }
 
-    /// A copy of the items more, behind the others, where there are places for them.
+    /// Appends a copy of the items. There are places for them.
     pub fn extend_reserved(&mut self, items: &[S::Item])
         requires { length self.old.items + length items.now ≤ capacity_of self.old.role }
         ensures { self.new ≡ with_more items.now self.old }
@@ -188,8 +190,8 @@ where
     }
 }
 
-/// A vector with a copy of the items behind its own, for which it has places. It is taken by value,
-/// so that the loop writes nothing but items, and can become vector code.
+/// The vector, with a copy of the items appended, for which it has places. It goes by value, so
+/// that the loop writes only items and can become vector code.
 fn with_all<T: Copy + Drop, A: Allocator>(vec: Vec<T, A>, items: &[T]) -> Vec<T, A>
     requires { vec_len vec + length items.now ≤ vec_capacity vec }
     ensures items { result.items ≡ vec.items ++ items.now }

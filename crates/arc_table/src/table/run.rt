@@ -31,12 +31,13 @@ where
     /// # Errors
     ///
     /// The commands and `AllocError`, where memory for the replies is refused. It is asked for
-    /// before the first command, so the table is as it was.
+    /// before the first command, so the table is then as before.
     ///
     /// # Allocates
     ///
-    /// Room for the replies, unless there are no commands, and what each command asks for. Where
-    /// that is refused, the command's reply tells it, and the commands behind it are carried out.
+    /// Once for the replies, unless there are no commands, and what each command asks for. Where
+    /// memory for a command is refused its reply says so, and the commands behind it are carried
+    /// out.
     ///
     /// # History
     ///

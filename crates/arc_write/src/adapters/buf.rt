@@ -37,7 +37,7 @@ impl<
         self.as_slice()
     }
 
-    /// The window's own `advance`: the places of what was read go too.
+    /// Takes the first `count` bytes off, with their places, by the window's own `advance`.
     fn advance(&mut self, count: usize)
         requires { count ≤ length self.old.items }
         ensures value { self.new.items ≡ drop count self.old.items }
@@ -71,7 +71,7 @@ impl<
         self.as_slice()
     }
 
-    /// The window's own `advance`: the places of what was read go too.
+    /// Takes the first `count` bytes off, with their places, by the window's own `advance`.
     fn advance(&mut self, count: usize)
         requires { count ≤ length self.old.items }
         ensures value { self.new.items ≡ drop count self.old.items }

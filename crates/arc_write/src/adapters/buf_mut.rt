@@ -33,11 +33,11 @@ where
 
     ghost max_spare = { λ w. Some (spare_places w) };
 
-    /// Whether the window has so many places more. It makes none.
+    /// Whether the window has places for `additional` bytes more. It makes no room.
     ///
     /// # Errors
     ///
-    /// `AllocError` where it hasn't.
+    /// `AllocError` where it has too few places.
     fn reserve(&mut self, additional: usize) -> Result<(), AllocError>
         ensures kept { self.new.items ≡ self.old.items }
         ensures spare { MakesSpare result (spare_places self.old) (spare_places self.new)
@@ -53,11 +53,12 @@ where
         }
     }
 
-    /// A copy of the bytes more, where the window has places for all of them. It adds nothing.
+    /// Appends the bytes, where the window has places for all of them. It makes no room, and adds
+    /// no entry.
     ///
     /// # Errors
     ///
-    /// `AllocError` where it hasn't; nothing is changed then.
+    /// `AllocError` where it has too few places; nothing is changed then.
     fn put_slice(&mut self, source: &[u8]) -> Result<(), AllocError>
         ensures ok { OnOk result (self.new.items ≡ self.old.items ++ source.now) }
         ensures err { OnErr result (self.new.items ≡ self.old.items) }
@@ -86,12 +87,12 @@ where
         self.put_slice(&[byte])
     }
 
-    /// So many bytes of one value more, where the window has places for all of them. It adds
-    /// nothing.
+    /// Appends `count` bytes of one value, where the window has places for all of them. It makes no
+    /// room, and adds no entry.
     ///
     /// # Errors
     ///
-    /// `AllocError` where it hasn't; nothing is changed then.
+    /// `AllocError` where it has too few places; nothing is changed then.
     fn put_bytes(&mut self, byte: u8, count: usize) -> Result<(), AllocError>
         ensures ok { OnOk result (self.new.items ≡ self.old.items ++ replicate count byte) }
         ensures err { OnErr result (self.new.items ≡ self.old.items) }
@@ -129,7 +130,7 @@ impl<
 where
     R::Parts: CopyWriterParts<S, B, M, A, H>,
 {
-    /// So many bytes of one value more, where the window has places for them.
+    /// Appends `count` bytes of one value. The window has places for them.
     fn fill(&mut self, byte: u8, count: usize)
         requires { length self.old.items + count ≤ capacity_of self.old.role }
         ensures { self.new ≡ with_more (replicate count byte) self.old }

@@ -106,7 +106,7 @@ impl<
     A: Allocator + Copy,
     H: Mark,
 > WriteWindow<S, L, R, B, M, A, H> {
-    /// Whether the window's items are those of the slice.
+    /// Whether the window's items equal those of `other`.
     pub fn eq_slice(&self, other: &[S::Item]) -> bool
     where
         S::Item: PartialEq,
@@ -124,7 +124,7 @@ impl<
     A: Allocator + Copy,
     H: Mark,
 > WriteWindow<Text, L, R, B, M, A, H> {
-    /// Whether the window's text is this one.
+    /// Whether the window's text equals `other`.
     pub fn eq_str(&self, other: &str) -> bool
         ensures { result ≡ pointwise nat_eq self.now.items other.now }
     {

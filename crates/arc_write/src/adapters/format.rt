@@ -30,19 +30,20 @@ where
 {
     ghost write_str_gives = { λ w text v. v.items ≡ w.items ++ text };
 
-    /// A copy of the text more: `try_extend_from_str`.
+    /// Appends the text, all of it or nothing: `try_extend_from_str`.
     ///
     /// # Errors
     ///
-    /// In the place of each of `try_reserve_as`; nothing is changed then.
+    /// `fmt::Error` where `try_reserve` refuses room for as many bytes; nothing is changed then.
     ///
     /// # Allocates
     ///
-    /// As `try_reserve_as`.
+    /// Where the window has too few places: as `try_reserve` does for as many bytes.
     ///
     /// # History
     ///
-    /// That of `try_reserve_as`.
+    /// Of a sole writer: nothing. Of one of several, on a block, where it has too few places: Alone
+    /// with the answer.
     fn write_str(&mut self, text: &str) -> fmt::Result
         ensures ok { IsOk result → self.new.items ≡ self.old.items ++ text.now }
         ensures extended { OnOk result (WithNewPass {H = H} H.real self.old.place (λ first last.
@@ -79,19 +80,20 @@ where
 {
     ghost write_str_gives = { λ w text v. v.items ≡ w.items ++ text };
 
-    /// A copy of the text more: `try_extend_from_slice`.
+    /// Appends the text, all of it or nothing: `try_extend_from_slice`.
     ///
     /// # Errors
     ///
-    /// In the place of each of `try_reserve_as`; nothing is changed then.
+    /// `fmt::Error` where `try_reserve` refuses room for as many bytes; nothing is changed then.
     ///
     /// # Allocates
     ///
-    /// As `try_reserve_as`.
+    /// Where the window has too few places: as `try_reserve` does for as many bytes.
     ///
     /// # History
     ///
-    /// That of `try_reserve_as`.
+    /// Of a sole writer: nothing. Of one of several, on a block, where it has too few places: Alone
+    /// with the answer.
     fn write_str(&mut self, text: &str) -> fmt::Result
         ensures ok { IsOk result → self.new.items ≡ self.old.items ++ text.now }
         ensures extended { OnOk result (WithNewPass {H = H} H.real self.old.place (λ first last.
@@ -128,19 +130,20 @@ where
 {
     ghost write_str_gives = { λ w text v. v.items ≡ w.items ++ text };
 
-    /// A copy of the text more: `try_extend_from_slice`.
+    /// Appends the text, all of it or nothing: `try_extend_from_slice`.
     ///
     /// # Errors
     ///
-    /// In the place of each of `try_reserve_as`; nothing is changed then.
+    /// `fmt::Error` where `try_reserve` refuses room for as many bytes; nothing is changed then.
     ///
     /// # Allocates
     ///
-    /// As `try_reserve_as`.
+    /// Where the window has too few places: as `try_reserve` does for as many bytes.
     ///
     /// # History
     ///
-    /// That of `try_reserve_as`.
+    /// Of a sole writer: nothing. Of one of several, on a block, where it has too few places: Alone
+    /// with the answer.
     fn write_str(&mut self, text: &str) -> fmt::Result
         ensures ok { IsOk result → self.new.items ≡ self.old.items ++ text.now }
         ensures extended { OnOk result (WithNewPass {H = H} H.real self.old.place (λ first last.

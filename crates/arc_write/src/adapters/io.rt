@@ -27,8 +27,8 @@ impl<
 > io::Read for WriteWindow<Plain<u8>, L, R, B, M, A, H> {
     ghost remaining = { λ w. Some w.items };
 
-    /// Moves the window's first bytes to the front of the buffer, as many as there are or as it
-    /// has places for, and answers how many. Always Ok. It adds nothing.
+    /// Moves the window's first bytes to the front of the buffer, as many as both have, and answers
+    /// how many. The answer is always `Ok`. It adds no entry.
     fn read(&mut self, buffer: &mut [u8]) -> io::Result<usize>
         ensures bound { ReadsAtMost result buffer.new }
         ensures bytes { ReadConsumes (Some self.old.items) (Some self.new.items) result buffer.new }
@@ -44,12 +44,12 @@ impl<
         Ok(count)
     }
 
-    /// Moves the window's first bytes to the buffer, as many as that has places for. It adds
-    /// nothing.
+    /// Fills the buffer with the window's first bytes, which it takes off. It adds no entry.
     ///
     /// # Errors
-    /// One of kind `UnexpectedEof` where the window has fewer bytes: all of them went to the front
-    /// of the buffer.
+    ///
+    /// One of kind `UnexpectedEof` where the window has fewer bytes than the buffer. Then all of
+    /// them are in the front of the buffer, and the window is empty.
     fn read_exact(&mut self, buffer: &mut [u8]) -> io::Result<()>
         ensures bytes { OnOk result
             (Consumes (Some self.old.items) (Some self.new.items) buffer.new) }
@@ -83,8 +83,8 @@ where
 {
     ghost contents = { λ w. Some w.items };
 
-    /// Appends as many of the bytes as the window has places for, and answers how many. It makes
-    /// no room. Always Ok. It adds nothing.
+    /// Appends as many of the bytes as the window has places for, and answers how many. The answer
+    /// is always `Ok`. It makes no room, and adds no entry.
     fn write(&mut self, bytes: &[u8]) -> io::Result<usize>
         ensures bound { WritesAtMost result bytes.now }
         ensures bytes { WriteAppends (Some self.old.items) (Some self.new.items) result bytes.now }
@@ -98,11 +98,12 @@ where
         }
     }
 
-    /// Appends the bytes within the window's places. It makes no room and adds nothing.
+    /// Appends the bytes, within the window's places. It makes no room, and adds no entry.
     ///
     /// # Errors
-    /// One of kind `WriteZero` where there are more bytes than places: those that fit were
-    /// appended.
+    ///
+    /// One of kind `WriteZero` where there are more bytes than places: as many are appended as
+    /// there are places.
     fn write_all(&mut self, bytes: &[u8]) -> io::Result<()>
         ensures bytes { OnOk result
             (Appends (Some self.old.items) (Some self.new.items) bytes.now) }
@@ -119,7 +120,7 @@ where
         Ok(())
     }
 
-    /// Always Ok: nothing is held back.
+    /// Does nothing, since no byte is held back. The answer is always `Ok`.
     fn flush(&mut self) -> io::Result<()>
         ensures bytes { Keeps (Some self.old.items) (Some self.new.items) }
         ensures ok { IsOk result }

@@ -28,7 +28,7 @@ impl<
     A: Allocator + Copy,
     H: Mark,
 > WriteWindow<S, L, R, B, M, A, H> {
-    /// The metadata of the block, where it was made with some.
+    /// The metadata that the window's block was made with, or `None`.
     pub fn metadata(&self) -> Option<&M>
         ensures some { IfSome result (λ m. metadata_at self.now.place ≡ Some m.now) }
         ensures none { IfNone result (metadata_at self.now.place ≡ None) }
@@ -36,7 +36,8 @@ impl<
         self.parts.metadata()
     }
 
-    /// The metadata of the caller's buffer on which the window stands.
+    /// The metadata that lies in the caller's buffer on which the window stands, or `None` where it
+    /// stands on none.
     pub fn borrowed_metadata(&self) -> Option<&B::Metadata>
     where
         B: BorrowMetadata,
@@ -108,7 +109,8 @@ impl<
         }
     }
 
-    /// A window over all items of a caller's buffer: `try_from_buffer_as` with a new pass.
+    /// A window over all items of a caller's buffer, of which none is copied: `try_from_buffer_as`
+    /// with a new pass.
     ///
     /// # Errors
     ///
@@ -134,8 +136,8 @@ impl<
         made
     }
 
-    /// A window over a caller's buffer as by `try_from_buffer_as`, with metadata, which is one for
-    /// all windows of the block.
+    /// A window over all items of a caller's buffer, as `try_from_buffer_as` makes it, with
+    /// metadata that all windows of the block share.
     ///
     /// # Errors
     ///
@@ -170,8 +172,8 @@ impl<
         }
     }
 
-    /// A window over a caller's buffer, with metadata: `try_from_buffer_with_metadata_as` with a
-    /// new pass.
+    /// A window over all items of a caller's buffer, with metadata that all windows of the block
+    /// share: `try_from_buffer_with_metadata_as` with a new pass.
     ///
     /// # Errors
     ///

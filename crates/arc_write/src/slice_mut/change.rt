@@ -33,18 +33,18 @@ impl<
     A: Allocator + Copy,
     H: Mark,
 > WriteWindow<S, L, R, B, M, A, H> {
-    /// The same items at the same place, which others may read from now on. A window on nothing
-    /// becomes what no items are made of under the layout: a window on nothing, or on a native
+    /// The same items at the same place, as a window under the layout `K` that is read. A window on
+    /// nothing becomes the one that no items make under that layout: on nothing, or on a new native
     /// block of no places, of which the pass becomes one.
     ///
     /// # Errors
     ///
-    /// The window, where the layout doesn't hold its block, and where memory for one of no places
-    /// is refused; the pass is then as before.
+    /// The window comes back where the layout doesn't hold its block, and where memory for a block
+    /// of no places is refused; the pass is then as before.
     ///
     /// # Allocates
     ///
-    /// On nothing, where the layout has no static data.
+    /// Once for a window on nothing, where the layout has no static data.
     pub fn try_freeze_as<K: Layout>(
         self,
         pass: &mut Pass<H>,
@@ -68,17 +68,17 @@ impl<
         }
     }
 
-    /// The same items at the same place, which others may read from now on: `try_freeze_as` with a
-    /// new pass.
+    /// The same items at the same place, as a window under the layout `K` that is read:
+    /// `try_freeze_as` with a new pass.
     ///
     /// # Errors
     ///
-    /// The window, where the layout doesn't hold its block, and where memory for one of no places
-    /// is refused.
+    /// The window comes back where the layout doesn't hold its block, and where memory for a block
+    /// of no places is refused.
     ///
     /// # Allocates
     ///
-    /// On nothing, where the layout has no static data.
+    /// Once for a window on nothing, where the layout has no static data.
     pub fn try_freeze<K: Layout>(self) -> Result<ArcSlice<S, K, B, M, A, H>, Self>
     where
         H: Stepping,
@@ -99,13 +99,13 @@ impl<
         }
     }
 
-    /// The same window, under the layout `K`: it goes where `writer_move` says. One on no block, or
-    /// on one that the layout holds, stays where it stands. It adds nothing and takes no memory.
+    /// The same window, under the layout `K`. It stays where it stands: on nothing, or on a block
+    /// that the layout holds. It adds no entry and takes no memory.
     ///
     /// # Errors
     ///
-    /// The window, exactly where it stands on a block that the layout doesn't hold; the pass is
-    /// then as before.
+    /// The window comes back exactly where it stands on a block that the layout doesn't hold; the
+    /// pass is then as before.
     #[tactic(auto, using(crate::proofs::Moves::held_moves, crate::proofs::Moves::back_refused))]
     pub fn try_with_layout_as<K: LayoutMut>(
         self,
@@ -128,11 +128,12 @@ impl<
         }
     }
 
-    /// The same window, under the layout `K`: `try_with_layout_as` with a new pass.
+    /// The same window, at the same place, under the layout `K`: `try_with_layout_as` with a new
+    /// pass.
     ///
     /// # Errors
     ///
-    /// Those of `try_with_layout_as`.
+    /// The window comes back exactly where it stands on a block that the layout doesn't hold.
     pub fn try_with_layout<K: LayoutMut>(self) -> Result<WriteWindow<S, K, R, B, M, A, H>, Self>
     where
         H: Stepping,
@@ -161,18 +162,18 @@ impl<L: LayoutMut, B: BufferMut<u8> + Drop, M: Drop, A: Allocator + Copy, H: Mar
     A,
     H,
 > {
-    /// The same window, over bytes. It adds nothing.
+    /// The same window, over bytes. It adds no entry.
     pub fn into_arc_slice_mut(self) -> ArcSliceMut<Plain<u8>, L, 1, B, M, A, H>
         ensures { result ≡ self }
     {
         ArcSliceMut::from_parts(self.into_parts().into_kind())
     }
 
-    /// The same window, over text. It adds nothing.
+    /// The same window, over text. It adds no entry.
     ///
     /// # Errors
     ///
-    /// The bytes, with what is wrong with them, exactly where they aren't valid UTF-8.
+    /// The error and the window over bytes, exactly where they aren't valid UTF-8.
     pub fn try_from_arc_slice_mut(
         bytes: ArcSliceMut<Plain<u8>, L, 1, B, M, A, H>,
     ) -> Result<Self, (Utf8Error, ArcSliceMut<Plain<u8>, L, 1, B, M, A, H>)>
@@ -198,18 +199,18 @@ impl<L: LayoutMut, B: BufferMut<u8> + Drop, M: Drop, A: Allocator + Copy, H: Mar
     A,
     H,
 > {
-    /// The same window, over bytes. It adds nothing.
+    /// The same window, over bytes. It adds no entry.
     pub fn into_arc_slice_mut(self) -> ArcSliceMut<Plain<u8>, L, 0, B, M, A, H>
         ensures { result ≡ self }
     {
         ArcSliceMut::from_parts(self.into_parts().into_kind())
     }
 
-    /// The same window, over text. It adds nothing.
+    /// The same window, over text. It adds no entry.
     ///
     /// # Errors
     ///
-    /// The bytes, with what is wrong with them, exactly where they aren't valid UTF-8.
+    /// The error and the window over bytes, exactly where they aren't valid UTF-8.
     pub fn try_from_arc_slice_mut(
         bytes: ArcSliceMut<Plain<u8>, L, 0, B, M, A, H>,
     ) -> Result<Self, (Utf8Error, ArcSliceMut<Plain<u8>, L, 0, B, M, A, H>)>
@@ -235,14 +236,14 @@ impl<L: LayoutMut, B: BufferMut<u8> + Drop, M: Drop, A: Allocator + Copy, H: Mar
     A,
     H,
 > {
-    /// The same window, over bytes. It adds nothing.
+    /// The same window, over bytes. It adds no entry.
     pub fn into_arc_slice_mut(self) -> ArcSliceMut<Plain<u8>, L, 1, B, M, A, H>
         ensures { result ≡ self }
     {
         ArcSliceMut::from_parts(self.into_parts().into_kind())
     }
 
-    /// The same window, over byte text. It adds nothing. Never refused.
+    /// The same window, over byte text. It adds no entry. Never refused.
     pub fn try_from_arc_slice_mut(
         bytes: ArcSliceMut<Plain<u8>, L, 1, B, M, A, H>,
     ) -> Result<Self, (Infallible, ArcSliceMut<Plain<u8>, L, 1, B, M, A, H>)>
@@ -261,14 +262,14 @@ impl<L: LayoutMut, B: BufferMut<u8> + Drop, M: Drop, A: Allocator + Copy, H: Mar
     A,
     H,
 > {
-    /// The same window, over bytes. It adds nothing.
+    /// The same window, over bytes. It adds no entry.
     pub fn into_arc_slice_mut(self) -> ArcSliceMut<Plain<u8>, L, 0, B, M, A, H>
         ensures { result ≡ self }
     {
         ArcSliceMut::from_parts(self.into_parts().into_kind())
     }
 
-    /// The same window, over byte text. It adds nothing. Never refused.
+    /// The same window, over byte text. It adds no entry. Never refused.
     pub fn try_from_arc_slice_mut(
         bytes: ArcSliceMut<Plain<u8>, L, 0, B, M, A, H>,
     ) -> Result<Self, (Infallible, ArcSliceMut<Plain<u8>, L, 0, B, M, A, H>)>

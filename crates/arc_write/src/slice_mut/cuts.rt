@@ -20,8 +20,8 @@ impl<
     A: Allocator + Copy,
     H: Mark,
 > WriteWindow<S, L, R, B, M, A, H> {
-    /// Takes the first `n` items and their places off the window, which stays on its block, also
-    /// with no items. It adds nothing.
+    /// Takes the first `n` items and their places off the window. It stays on its block, also
+    /// without items. It adds no entry.
     pub fn advance(&mut self, n: usize)
     where
         S: Subsliceable,
@@ -31,10 +31,12 @@ impl<
         self.parts.advance(n);
     }
 
-    /// Leaves the window's first `n` items, or all where it has no more. It stays on its block,
-    /// also with no items. Items that are dropped one by one stay in the block until its release,
-    /// and what is left then has no places beside its own; others leave their places to the
-    /// window. It adds nothing.
+    /// Keeps the window's first `n` items, or all where it has no more. It stays on its block, also
+    /// without items. It adds no entry.
+    ///
+    /// The places of items that aren't dropped one by one stay the window's. Items that are dropped
+    /// one by one stay in the block until its release, and the window then has no places but those
+    /// of its items.
     pub fn truncate(&mut self, n: usize)
     where
         S: Subsliceable,

@@ -19,9 +19,9 @@ use arc_read::slice::ArcSlice;
 use arc_writer_parts::sole::SoleParts;
 use std::alloc::Allocator;
 
-/// Windows that are read, and may be written again where no other owner of their block lives:
-/// `ArcSlice`, of whatever kind and layout. It is a trait, since `ArcSlice` stands in a crate
-/// below.
+/// Windows that are read, and may become windows that are written, where no other owner of their
+/// block lives: `ArcSlice`, of every kind and layout. It is a trait, since `ArcSlice` belongs to a
+/// crate below.
 pub trait IntoMut: Sized {
     /// The kind of slice.
     type Kind: Slice;
@@ -41,20 +41,22 @@ pub trait IntoMut: Sized {
     /// The window's items, and where it stands.
     ghost seen: { Self → Window Self.Kind.Item Self.Metadata };
 
-    /// The same items, as their only writer under the layout `K`, where the window stands on a
-    /// block that may be written and that the layout holds, and that no other owner has, or where
-    /// it has no items and stands on no block. On a block it goes where `writer_move` says; an
-    /// empty window of a static slice stands on nothing afterwards. A native block may be written,
-    /// and a vector; a caller's buffer that was made a window to be read may not, nor an `Arc`.
+    /// The same items, as their only writer under the layout `K`. The window stands on a block that
+    /// may be written and that the layout holds, and no other owner has it; or it stands on no
+    /// block and has no items. On a block it stays where it stands. An empty window of a `'static`
+    /// slice stands on nothing afterwards.
+    ///
+    /// A native block may be written, and a vector. A caller's buffer that was given to be read may
+    /// not be, nor an `Arc`.
     ///
     /// # Errors
     ///
-    /// The window, where the block may not be written, or isn't held, or another owner lives, or
-    /// where it has items of a static slice.
+    /// The window comes back where its block may not be written, where the layout doesn't hold
+    /// that, where another owner lives, and where it has items of a `'static` slice.
     ///
     /// # History
     ///
-    /// On a block that may be written, and that `K` holds, Alone with the answer.
+    /// On a block that may be written, and that `K` holds: Alone with the answer.
     fn try_into_mut_as<K: LayoutMut>(
         self,
         pass: &mut Pass<Self::Mark>,
@@ -77,11 +79,12 @@ pub trait IntoMut: Sized {
     ///
     /// # Errors
     ///
-    /// Those of `try_into_mut_as`.
+    /// The window comes back where its block may not be written, where the layout doesn't hold
+    /// that, where another owner lives, and where it has items of a `'static` slice.
     ///
     /// # History
     ///
-    /// That of `try_into_mut_as`.
+    /// On a block that may be written, and that `K` holds: Alone with the answer.
     fn try_into_mut<K: LayoutMut>(
         self,
     ) -> Result<

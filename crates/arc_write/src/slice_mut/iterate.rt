@@ -25,20 +25,21 @@ impl<
     A: Allocator + Copy,
     H: Mark,
 > WriteWindow<S, L, R, B, M, A, H> {
-    /// The items that come, each behind the others by `try_push`, so each with a new pass.
+    /// Appends the iterator's items one by one, each by `try_push` and so with a new pass.
     ///
     /// # Errors
     ///
-    /// That of `try_push`, at the first item for which there is no room, with that item. Those
-    /// before it stay in the window; none is asked for after it.
+    /// The error of `try_push` and the item, at the first item for which there is no room. The
+    /// items before it stay in the window, and the iterator is asked for none after it.
     ///
     /// # Allocates
     ///
-    /// As `try_reserve_as`, for each item.
+    /// Where the window has too few places for an item: as `try_reserve` does for one.
     ///
     /// # History
     ///
-    /// That of `try_reserve_as`.
+    /// Of a sole writer: nothing. Of one of several, on a block, at each item for which it has too
+    /// few places: Alone with the answer.
     pub fn try_extend<I: IntoIterator<Item = S::Item>>(
         &mut self,
         iter: I,
@@ -84,15 +85,16 @@ impl<
     A: Allocator + Copy,
     H: Mark,
 > ArcSliceMut<S, L, 1, B, M, A, H> {
-    /// A window over the items that come: `try_extend` of a window on nothing.
+    /// A window over the iterator's items: `try_extend` of a window on nothing.
     ///
     /// # Errors
     ///
-    /// The window with the items that were taken, and the error and the item of `try_extend`.
+    /// The window with the items before the one that was refused, the error of `try_push`, and that
+    /// item.
     ///
     /// # Allocates
     ///
-    /// As `try_extend`.
+    /// Where the window has too few places for an item: as `try_reserve` does for one.
     pub fn try_from_iter<I: IntoIterator<Item = S::Item>>(
         alloc: A,
         iter: I,

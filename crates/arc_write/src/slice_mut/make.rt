@@ -23,8 +23,8 @@ impl<
     A: Allocator + Copy,
     H: Mark,
 > ArcSliceMut<S, L, 1, B, M, A, H> {
-    /// A window with no items, and with so many places: for none on nothing, else on a new native
-    /// block. The pass, which is of no block, becomes the block's; the window is owner 0.
+    /// A window without items, with `capacity` places, on a new native block. No places stand on
+    /// nothing. The pass, which is of no block, becomes the block's; the window is owner 0.
     ///
     /// # Errors
     ///
@@ -52,7 +52,7 @@ impl<
         }
     }
 
-    /// A window with no items, and with so many places: `try_with_capacity_as` with a new pass.
+    /// A window without items, with `capacity` places: `try_with_capacity_as` with a new pass.
     ///
     /// # Errors
     ///
@@ -76,9 +76,9 @@ impl<
         made
     }
 
-    /// A window over a copy of the items: no items stand on nothing, else they stand on a new
-    /// native block with exactly a place for each. The pass, which is of no block, becomes the
-    /// block's; the window is owner 0.
+    /// A window over a copy of the items, on a new native block with exactly a place for each. No
+    /// items stand on nothing. The pass, which is of no block, becomes the block's; the window is
+    /// owner 0.
     ///
     /// # Errors
     ///
@@ -132,9 +132,8 @@ impl<
         made
     }
 
-    /// A window over so many zeros: none stand on nothing, else they stand on a new native block
-    /// with exactly a place for each. The pass, which is of no block, becomes the block's; the
-    /// window is owner 0.
+    /// A window over `count` zeros, on a new native block with exactly a place for each. None stand
+    /// on nothing. The pass, which is of no block, becomes the block's; the window is owner 0.
     ///
     /// # Errors
     ///
@@ -159,7 +158,7 @@ impl<
         }
     }
 
-    /// A window over so many zeros: `try_zeroed_as` with a new pass.
+    /// A window over `count` zeros: `try_zeroed_as` with a new pass.
     ///
     /// # Errors
     ///
@@ -184,7 +183,8 @@ impl<
         made
     }
 
-    /// A window over an array's items, which are moved into a block as `try_from_slice_as` copies.
+    /// A window over an array's items, which are moved into a block where `try_from_slice_as`
+    /// copies them.
     ///
     /// # Errors
     ///

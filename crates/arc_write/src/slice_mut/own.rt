@@ -28,7 +28,7 @@ impl<
     ///
     /// # History
     ///
-    /// On a block Down; of a sole writer and of a vector without a step.
+    /// On a block: Down; of a sole writer, and on a vector, without an atomic step.
     pub fn release_as(self, pass: &mut Pass<H>)
         requires pass { IsPassAt self.place pass.old }
         ensures entry { ReleasesAt R.Parts.several self.place pass.old pass.new }
@@ -36,14 +36,13 @@ impl<
         self.into_parts().release_as(pass);
     }
 
-    /// Ends the window: one of several writers reads the count first, and where no other owner
-    /// lives gives the block back without a further step. A block's only owner needn't ask whether
-    /// he is alone.
+    /// Ends the window. One of several writers reads the count first: where no other owner lives it
+    /// gives the block back without another step. A block's only owner reads no count.
     ///
     /// # History
     ///
-    /// On a block of a sole writer Down, without a step, and of one of several Alone with the
-    /// answer, then Down.
+    /// On a block, of a sole writer: Down, without an atomic step. On a block, of one of several:
+    /// Alone with the answer, then Down.
     pub fn drop_with_unique_hint_as(self, pass: &mut Pass<H>)
         requires pass { IsPassAt self.place pass.old }
         ensures entry { ReleasesHintedAt R.Parts.several self.place pass.old pass.new }
@@ -55,7 +54,8 @@ impl<
     ///
     /// # History
     ///
-    /// That of `drop_with_unique_hint_as`.
+    /// On a block, of a sole writer: Down, without an atomic step. On a block, of one of several:
+    /// Alone with the answer, then Down.
     pub fn drop_with_unique_hint(self)
     where
         H: Stepping,
@@ -67,7 +67,7 @@ impl<
         pass.show();
     }
 
-    /// Afterwards the first pass has seen at least what the other had. It adds nothing.
+    /// From here on the first pass has seen at least what the other had. It adds no entry.
     pub fn learn(&self, pass: &mut Pass<H>, other: &Pass<H>)
         requires pass { IsPassAt self.now.place pass.old }
         requires other { IsPassAt self.now.place other.now }
@@ -77,14 +77,14 @@ impl<
         self.parts.learn(pass, other);
     }
 
-    /// What a drop does: under `Open` the window ends with a new pass, and the last owner gives the
-    /// block back with its items; under `Whole` it is a forgotten owner, without a step, and its
-    /// items stay. The pass is the one that it ended with; on no block, and under `Whole`, it is of
-    /// none.
+    /// What a drop does. Under `Open` the window ends with a new pass, which is the answer, and the
+    /// last owner gives the block back with its items. Under `Whole` the window is a forgotten
+    /// owner: no step is made, and its items stay. The answer is a pass of no block under `Whole`,
+    /// and on no block.
     ///
     /// # History
     ///
-    /// On a block Down under `Open`, of a sole writer without a step, and nothing under `Whole`.
+    /// Under `Open`, on a block: Down; of a sole writer without an atomic step. Else nothing.
     pub fn let_go(self) -> Pass<H>
         ensures forgotten { H.whole ≡ true → IsPassOfNone result }
         ensures ended { H.whole ≡ false → EndsAt self.place result }
@@ -92,8 +92,8 @@ impl<
         self.into_parts().let_go()
     }
 
-    /// A new pass of the window's block, which has seen at least how the window became an owner,
-    /// and made nothing; on no block a pass of none. It adds nothing.
+    /// A new pass of the window's block. It has seen at least how the window became an owner, and
+    /// nothing was made with it. On no block it is a pass of none. It adds no entry.
     pub fn pass(&self) -> Pass<H>
     where
         H: Stepping,
@@ -111,8 +111,8 @@ impl<
     A: Allocator + Copy,
     H: Mark,
 > ArcSliceMut<S, L, 1, B, M, A, H> {
-    /// Shows a pass the block's whole history so far, in which no other owner than this window
-    /// lives. It adds nothing.
+    /// Shows a pass the block's whole history up to here, in which no other owner than this window
+    /// lives. It adds no entry.
     pub fn only(&self, pass: &mut Pass<H>)
         requires pass { IsPassAt self.now.place pass.old }
         ensures { at_owner self.now.place (pass.new ≡ pass.old) (λ o.

@@ -29,31 +29,31 @@ impl<
     A: Allocator + Copy,
     H: Mark,
 > WriteWindow<S, L, R, B, M, A, H> {
-    /// Makes room for so many items more.
+    /// Makes room for `additional` items more behind those of the window.
     ///
     /// # Errors
     ///
-    /// Where the window hasn't the places already, in this order:
+    /// Where the window has too few places, in this order:
     ///
     /// - `NotUnique` of one of several writers, on a block where another owner lives.
     /// - `Unsupported` where items that are dropped one by one end before the block's full places.
-    /// - Over a caller's buffer its own refusal.
+    /// - What the caller's buffer refuses with, over one.
     /// - `CapacityOverflow` where a block would have to grow to more than 2^63 - 1 places or bytes.
     /// - `AllocError` where memory is refused for a larger block, or for a first one of any size.
     ///
-    /// Everything is then as before.
+    /// Nothing is changed then.
     ///
     /// # Allocates
     ///
-    /// Once for a first block, and once where the block grows: where the places behind the items
-    /// aren't enough, unless items that aren't dropped one by one are no more than the places in
-    /// front of them, and the whole block is large enough.
+    /// Once for a first block, and once where the block grows. It grows where the places behind the
+    /// items aren't enough, unless the items can be moved to its front: they aren't dropped one by
+    /// one, they are no more than the places in front of them, and the whole block is large enough.
     ///
     /// # History
     ///
-    /// Of a sole writer nothing is added; of one of several, on a block, where the window hasn't
-    /// the places already, Alone with the answer. Where a first block is made, the pass, which was
-    /// of none, becomes that block's.
+    /// Of a sole writer: nothing. Of one of several, on a block, where it has too few places: Alone
+    /// with the answer. Where a first block is made, the pass, which is of no block before, becomes
+    /// that block's.
     pub fn try_reserve_as(
         &mut self,
         additional: usize,
@@ -74,19 +74,31 @@ impl<
         self.parts.try_reserve_as(additional, pass)
     }
 
-    /// Makes room for so many items more: `try_reserve_as` with a new pass.
+    /// Makes room for `additional` items more behind those of the window: `try_reserve_as` with a
+    /// new pass.
     ///
     /// # Errors
     ///
-    /// Those of `try_reserve_as`.
+    /// Where the window has too few places, in this order:
+    ///
+    /// - `NotUnique` of one of several writers, on a block where another owner lives.
+    /// - `Unsupported` where items that are dropped one by one end before the block's full places.
+    /// - What the caller's buffer refuses with, over one.
+    /// - `CapacityOverflow` where a block would have to grow to more than 2^63 - 1 places or bytes.
+    /// - `AllocError` where memory is refused for a larger block, or for a first one of any size.
+    ///
+    /// Nothing is changed then.
     ///
     /// # Allocates
     ///
-    /// As `try_reserve_as`.
+    /// Once for a first block, and once where the block grows. It grows where the places behind the
+    /// items aren't enough, unless the items can be moved to its front: they aren't dropped one by
+    /// one, they are no more than the places in front of them, and the whole block is large enough.
     ///
     /// # History
     ///
-    /// That of `try_reserve_as`.
+    /// Of a sole writer: nothing. Of one of several, on a block, where it has too few places: Alone
+    /// with the answer.
     pub fn try_reserve(&mut self, additional: usize) -> Result<(), TryReserveError>
     where
         H: Stepping,
@@ -108,12 +120,13 @@ impl<
         made
     }
 
-    /// Whether there is room for so many items more without memory; then it is made.
+    /// Makes room for `additional` items more where that takes no memory, and answers whether there
+    /// is room.
     ///
     /// # History
     ///
-    /// Of a sole writer nothing is added; of one of several, on a block, where the window hasn't
-    /// the places already, Alone with the answer.
+    /// Of a sole writer: nothing. Of one of several, on a block, where it has too few places: Alone
+    /// with the answer.
     pub fn try_reclaim_as(&mut self, additional: usize, pass: &mut Pass<H>) -> bool
         requires pass { IsPassAt self.old.place pass.old }
         ensures room { ReclaimsRoom R.Parts.several S.DROPS (type_size S.Item.row) additional
@@ -132,8 +145,8 @@ impl<
     A: Allocator + Copy,
     H: Mark,
 > ArcSliceMut<S, L, 1, B, M, A, H> {
-    /// Whether there is room for so many items more without memory; then it is made. It adds
-    /// nothing.
+    /// Makes room for `additional` items more where that takes no memory, and answers whether there
+    /// is room. It adds no entry.
     pub fn try_reclaim(&mut self, additional: usize) -> bool
         ensures { Reclaims (room_for S.DROPS (type_size S.Item.row) self.old additional)
             self.old self.new result }
@@ -150,12 +163,12 @@ impl<
     A: Allocator + Copy,
     H: Mark,
 > ArcSliceMut<S, L, 0, B, M, A, H> {
-    /// Whether there is room for so many items more without memory; then it is made:
-    /// `try_reclaim_as` with a new pass.
+    /// Makes room for `additional` items more where that takes no memory, and answers whether there
+    /// is room. This is `try_reclaim_as` with a new pass.
     ///
     /// # History
     ///
-    /// That of `try_reclaim_as`.
+    /// On a block, where the window has too few places: Alone with the answer.
     pub fn try_reclaim(&mut self, additional: usize) -> bool
     where
         H: Stepping,

@@ -1,9 +1,13 @@
 //! Windows of several writers on one block: how a window becomes one, and is its block's only owner
 //! again.
-ghost use Rattle.std.specs.Prelude.{◌≡◌, false, IfErr, IfOk, is_ok, ℕ};
-ghost use Rattle.arc_parts.specs.Shared.{as_shared, as_unique, AsksAlone, is_vector_at};
-ghost use Rattle.arc_parts.specs.Steps.{IsPassAt};
-ghost use Rattle.arc_parts.specs.Window.{IsOfBuffer};
+ghost use Rattle.std.specs.Prelude.{◌≡◌, false, IfErr, IfOk, IfSome, is_ok, is_some, ℕ};
+ghost use Rattle.arc_owners.specs.count.Calls.{IsFreshPass};
+ghost use Rattle.arc_block.specs.Block.{native};
+ghost use Rattle.arc_block.specs.Place.{at_owner};
+ghost use Rattle.arc_parts.specs.Shared.{as_shared, as_unique, AsksAlone, BecomesUnique};
+ghost use Rattle.arc_parts.specs.Shared.{is_vector_at};
+ghost use Rattle.arc_parts.specs.Steps.{IsPassAt, LeavesLastAt};
+ghost use Rattle.arc_parts.specs.Window.{IsOfBuffer, IsOfSort};
 ghost use Rattle.arc_parts.specs.Writers.{with_full};
 ghost use Rattle.arc_read.specs.Steps.{WithNewPass};
 
@@ -23,12 +27,12 @@ impl<
     A: Allocator + Copy,
     H: Mark,
 > ArcSliceMut<S, L, 1, B, M, A, H> {
-    /// The same window, as one of several writers from now on: it may be split, and others may
-    /// write their own places of its block. It adds nothing and takes no memory.
+    /// The same window, as one of several writers: it may be split, and others may then write their
+    /// own places of its block. It adds no entry and takes no memory.
     ///
     /// # Errors
     ///
-    /// The window, exactly where it stands on a caller's buffer.
+    /// The window comes back exactly where it stands on a caller's buffer.
     pub fn into_shared(self) -> Result<ArcSliceMut<S, L, 0, B, M, A, H>, Self>
     where
         S: Shareable,
@@ -74,16 +78,16 @@ impl<
     }
 
     /// The same window, as its block's only writer, where it stands on a block that no other owner
-    /// has. It keeps its places; those behind them come where room is asked for. It takes no
-    /// memory.
+    /// has. It keeps its places; those of the block behind them become its own where room is asked
+    /// for. It takes no memory.
     ///
     /// # Errors
     ///
-    /// The window, on no block, and where another owner lives.
+    /// The window comes back on no block, and where another owner lives.
     ///
     /// # History
     ///
-    /// On a block Alone with the answer.
+    /// On a block: Alone with the answer.
     pub fn try_into_unique_as(
         self,
         pass: &mut Pass<H>,
@@ -103,11 +107,11 @@ impl<
     ///
     /// # Errors
     ///
-    /// Those of `try_into_unique_as`.
+    /// The window comes back on no block, and where another owner lives.
     ///
     /// # History
     ///
-    /// That of `try_into_unique_as`.
+    /// On a block: Alone with the answer.
     pub fn try_into_unique(self) -> Result<ArcSliceMut<S, L, 1, B, M, A, H>, Self>
     where
         H: Stepping,
@@ -120,5 +124,69 @@ impl<
         let made = self.try_into_unique_as(&mut pass);
         pass.show();
         made
+    }
+
+    /// Ends the window, where it stands on a native block, by one subtraction from the count. The
+    /// last owner gets the block's memory: a window that is the only writer of the same items and
+    /// places, on a new block, and a pass of that. Every other one gets `None`. It takes no memory.
+    ///
+    /// # Errors
+    ///
+    /// The window comes back exactly on nothing and on a vector, where it has no other owner beside
+    /// it. Nothing is done then.
+    ///
+    /// # History
+    ///
+    /// Down; nothing on an error.
+    pub fn into_unique_if_last_as(
+        self,
+        pass: &mut Pass<H>,
+    ) -> Result<Option<(ArcSliceMut<S, L, 1, B, M, A, H>, Pass<H>)>, Self>
+        requires pass { IsPassAt self.place pass.old }
+        ensures ended { IfOk result (λ last. IsOfSort native self.place
+            × LeavesLastAt self.place pass.old pass.new (is_some last)) }
+        ensures sole { IfOk result (λ last. IfSome last (λ r. BecomesUnique H.whole self r.0)) }
+        ensures pass { IfOk result (λ last. IfSome last (λ r.
+            at_owner r.0.place ⊥ (λ o. IsFreshPass o r.1))) }
+        ensures refused { IfErr result (λ back. (back ≡ self)
+            × (¬ IsOfSort native self.place) × (pass.new ≡ pass.old)) }
+    {
+        match self.into_parts().into_unique_if_last_as(pass) {
+            Ok(Some((parts, new))) => Ok(Some((ArcSliceMut::from_parts(parts), new))),
+            Ok(None) => Ok(None),
+            Err(parts) => Err(Self::from_parts(parts)),
+        }
+    }
+
+    /// Ends the window, and gives the last owner one that is the only writer:
+    /// `into_unique_if_last_as` with a new pass.
+    ///
+    /// # Errors
+    ///
+    /// The window comes back exactly on nothing and on a vector, where it has no other owner beside
+    /// it. Nothing is done then.
+    ///
+    /// # History
+    ///
+    /// Down; nothing on an error.
+    pub fn into_unique_if_last(self) -> Result<Option<ArcSliceMut<S, L, 1, B, M, A, H>>, Self>
+    where
+        H: Stepping,
+        ensures ended { IfOk result (λ last. IsOfSort native self.place
+            × WithNewPass {H = H} H.real self.place (λ first now.
+            LeavesLastAt self.place first now (is_some last))) }
+        ensures sole { IfOk result (λ last. IfSome last (λ sole.
+            BecomesUnique H.whole self sole)) }
+        ensures refused { IfErr result (λ back. (back ≡ self) × (¬ IsOfSort native self.place)
+            × WithNewPass {H = H} H.real self.place (λ first last. last ≡ first)) }
+    {
+        let mut pass = self.pass();
+        let ended = self.into_unique_if_last_as(&mut pass);
+        pass.show();
+        match ended {
+            Ok(Some((sole, _))) => Ok(Some(sole)),
+            Ok(None) => Ok(None),
+            Err(back) => Err(back),
+        }
     }
 }

@@ -25,24 +25,25 @@ impl<
     A: Allocator + Copy,
     H: Mark,
 > ArcSliceMut<S, L, 0, B, M, A, H> {
-    /// Keeps the first `at` places and hands out those behind them, with the items that lie there:
-    /// another owner of the same block. Where the items end before, it has none. The places of a
-    /// vector are moved to a native block first, of which the pass becomes one. On nothing both
-    /// windows stand on nothing.
+    /// Keeps the first `at` places, and hands out those behind them with the items that lie there:
+    /// another owner of the same block. The places of a vector are moved to a native block first,
+    /// of which the pass becomes one. Of a window on nothing both parts stand on nothing.
     ///
     /// # Errors
     ///
-    /// On a native block `CountFull`, exactly where `MAX_OWNERS` owners live, and on a vector
-    /// `AllocError`, where memory for the native block is refused. Everything is then as before.
+    /// - `CountFull` on a native block, exactly where `MAX_OWNERS` owners live.
+    /// - `AllocError` on a vector, where memory for the native block is refused.
+    ///
+    /// Nothing is changed then.
     ///
     /// # Allocates
     ///
-    /// On a vector alone.
+    /// Once, on a vector.
     ///
     /// # History
     ///
-    /// On a native block Up, or Full where refused. On a vector Down, without a step, and Up in the
-    /// new block.
+    /// On a native block: Up, or Full where it is refused. On a vector: Down, without an atomic
+    /// step, and Up in the new block.
     pub fn try_split_off_as(
         &mut self,
         rt: &impl Wait,
@@ -60,26 +61,30 @@ impl<
         ensures refused { IfErr result (λ e. (self.new ≡ self.old)
             × RefusesSplitAt self.old.place pass.old pass.new e) }
     {
-        match self.parts.try_split_off_as(rt, at, pass) {
+        match self.parts.try_split_as::<true>(rt, at, pass) {
             Ok(back) => Ok(Self::from_parts(back)),
             Err(e) => Err(e),
         }
     }
 
-    /// Keeps the first `at` places and hands out those behind them: `try_split_off_as` with a new
-    /// pass.
+    /// Keeps the first `at` places, and hands out those behind them with the items that lie there:
+    /// `try_split_off_as` with a new pass.
     ///
     /// # Errors
     ///
-    /// Those of `try_split_off_as`.
+    /// - `CountFull` on a native block, exactly where `MAX_OWNERS` owners live.
+    /// - `AllocError` on a vector, where memory for the native block is refused.
+    ///
+    /// Nothing is changed then.
     ///
     /// # Allocates
     ///
-    /// As `try_split_off_as`.
+    /// Once, on a vector.
     ///
     /// # History
     ///
-    /// That of `try_split_off_as`.
+    /// On a native block: Up, or Full where it is refused. On a vector: Down, without an atomic
+    /// step, and Up in the new block.
     pub fn try_split_off(&mut self, rt: &impl Wait, at: usize) -> Result<Self, OwnerError>
     where
         S: Subsliceable,
@@ -99,20 +104,26 @@ impl<
         made
     }
 
-    /// Keeps the places behind the first `at` and hands out these, with the items that lie there,
-    /// as `try_split_off_as` hands out the others.
+    /// Hands out the first `at` places with the items that lie there, and keeps those behind them.
+    /// The part that is handed out is another owner of the same block. The places of a vector are
+    /// moved to a native block first, of which the pass becomes one. Of a window on nothing both
+    /// parts stand on nothing.
     ///
     /// # Errors
     ///
-    /// Those of `try_split_off_as`.
+    /// - `CountFull` on a native block, exactly where `MAX_OWNERS` owners live.
+    /// - `AllocError` on a vector, where memory for the native block is refused.
+    ///
+    /// Nothing is changed then.
     ///
     /// # Allocates
     ///
-    /// As `try_split_off_as`.
+    /// Once, on a vector.
     ///
     /// # History
     ///
-    /// As `try_split_off_as`.
+    /// On a native block: Up, or Full where it is refused. On a vector: Down, without an atomic
+    /// step, and Up in the new block.
     pub fn try_split_to_as(
         &mut self,
         rt: &impl Wait,
@@ -130,26 +141,30 @@ impl<
         ensures refused { IfErr result (λ e. (self.new ≡ self.old)
             × RefusesSplitAt self.old.place pass.old pass.new e) }
     {
-        match self.parts.try_split_to_as(rt, at, pass) {
+        match self.parts.try_split_as::<false>(rt, at, pass) {
             Ok(front) => Ok(Self::from_parts(front)),
             Err(e) => Err(e),
         }
     }
 
-    /// Keeps the places behind the first `at` and hands out these: `try_split_to_as` with a new
-    /// pass.
+    /// Hands out the first `at` places with the items that lie there, and keeps those behind them:
+    /// `try_split_to_as` with a new pass.
     ///
     /// # Errors
     ///
-    /// Those of `try_split_off_as`.
+    /// - `CountFull` on a native block, exactly where `MAX_OWNERS` owners live.
+    /// - `AllocError` on a vector, where memory for the native block is refused.
+    ///
+    /// Nothing is changed then.
     ///
     /// # Allocates
     ///
-    /// As `try_split_off_as`.
+    /// Once, on a vector.
     ///
     /// # History
     ///
-    /// That of `try_split_off_as`.
+    /// On a native block: Up, or Full where it is refused. On a vector: Down, without an atomic
+    /// step, and Up in the new block.
     pub fn try_split_to(&mut self, rt: &impl Wait, at: usize) -> Result<Self, OwnerError>
     where
         S: Subsliceable,
@@ -170,12 +185,12 @@ impl<
         made
     }
 
-    /// Moves the places of a vector to a native block, as a split does before it, and hands out a
-    /// pass of that block. So who calls this first has the passes of both blocks.
+    /// Moves the places of a vector to a native block, as a split does first, and hands out a pass
+    /// of that block. So the caller has the passes of both blocks.
     ///
     /// # Errors
     ///
-    /// `AllocError` where memory for the native block is refused. Everything is then as before.
+    /// `AllocError` where memory for the native block is refused. Nothing is changed then.
     ///
     /// # Allocates
     ///
@@ -183,7 +198,7 @@ impl<
     ///
     /// # History
     ///
-    /// Down of the vector's owner, without a step.
+    /// Down of the vector's owner, without an atomic step.
     pub fn try_leave_vector_as(&mut self, pass: &mut Pass<H>) -> Result<Pass<H>, AllocError>
     where
         S: Subsliceable,
@@ -197,18 +212,18 @@ impl<
         self.parts.try_leave_vector_as(pass)
     }
 
-    /// Puts the other window's places behind this one's, with the items that lie there, where this
-    /// one is full, and both stand on one block and the other begins where this one ends; or where
-    /// both stand on nothing. That it is one block, where both stand on one, is asked. The other
-    /// owner ends.
+    /// Puts the other window's places, with the items that lie there, behind this one's. The other
+    /// owner ends. This window has to be full, and the other one to begin in its block where this
+    /// one ends; or both stand on nothing. The caller has to show that it is one block, where both
+    /// stand on one.
     ///
     /// # Errors
     ///
-    /// The other window, exactly where it isn't so. Everything is then as before.
+    /// The other window comes back exactly where it isn't so. Nothing is changed then.
     ///
     /// # History
     ///
-    /// Down of the other owner.
+    /// On a block: Down of the other owner.
     pub fn try_unsplit_as(&mut self, other: Self, pass: &mut Pass<H>) -> Result<(), Self>
     where
         S: Concatenable,
@@ -227,15 +242,16 @@ impl<
         }
     }
 
-    /// Puts the other window's places behind this one's: `try_unsplit_as` with a new pass.
+    /// Puts the other window's places, with the items that lie there, behind this one's:
+    /// `try_unsplit_as` with a new pass.
     ///
     /// # Errors
     ///
-    /// Those of `try_unsplit_as`.
+    /// The other window comes back exactly where it isn't so. Nothing is changed then.
     ///
     /// # History
     ///
-    /// That of `try_unsplit_as`.
+    /// On a block: Down of the other owner.
     pub fn try_unsplit(&mut self, other: Self) -> Result<(), Self>
     where
         S: Concatenable,

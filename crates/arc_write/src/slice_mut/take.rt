@@ -29,18 +29,18 @@ impl<
     H: Mark,
 > WriteWindow<S, L, R, B, M, A, H> {
     /// The items as their block's vector, moved to its front, where the block is a vector and no
-    /// other owner lives. Items that are dropped one by one have to be all of it. A sole writer
-    /// asks nobody: he is alone.
+    /// other owner lives. Items that are dropped one by one have to be all of it. Of a sole writer
+    /// the count isn't read.
     ///
     /// # Errors
     ///
-    /// The window, on another block or none, where items that are dropped one by one are a part
-    /// alone, and where another owner lives.
+    /// The window comes back where it stands on no vector, where items that are dropped one by one
+    /// are only a part of the vector, and where another owner lives.
     ///
     /// # History
     ///
-    /// Taken, of a sole writer Down without a step, and of one of several Alone and Down. Refused,
-    /// of one of several Alone with no where only the count could decide, and else nothing.
+    /// Of a sole writer, taken: Down, without an atomic step. Of one of several, taken: Alone with
+    /// yes, then Down; refused: Alone with no, where only the count could decide. Else nothing.
     pub fn try_into_vec_as(self, pass: &mut Pass<H>) -> Result<S::Vec, Self>
     where
         S: VecIn<A>,
@@ -60,15 +60,17 @@ impl<
         }
     }
 
-    /// The items as their block's vector: `try_into_vec_as` with a new pass.
+    /// The items as their block's vector, moved to its front: `try_into_vec_as` with a new pass.
     ///
     /// # Errors
     ///
-    /// Those of `try_into_vec_as`.
+    /// The window comes back where it stands on no vector, where items that are dropped one by one
+    /// are only a part of the vector, and where another owner lives.
     ///
     /// # History
     ///
-    /// That of `try_into_vec_as`.
+    /// Of a sole writer, taken: Down, without an atomic step. Of one of several, taken: Alone with
+    /// yes, then Down; refused: Alone with no, where only the count could decide. Else nothing.
     pub fn try_into_vec(self) -> Result<S::Vec, Self>
     where
         H: Stepping,
@@ -90,17 +92,18 @@ impl<
         taken
     }
 
-    /// The items as a box, where they are all of a vector that has no places more, and no other
-    /// owner lives. No item is copied, and a sole writer asks nobody.
+    /// The items as a box, where they are all of a vector without spare places, and no other owner
+    /// lives. No item is copied, and of a sole writer the count isn't read.
     ///
     /// # Errors
     ///
-    /// The window, on another block or none, where the items are a part of the vector's places
-    /// alone, and where another owner lives.
+    /// The window comes back where it stands on no vector, where the items don't fill all places of
+    /// the vector, and where another owner lives.
     ///
     /// # History
     ///
-    /// As `try_into_vec_as`.
+    /// Of a sole writer, taken: Down, without an atomic step. Of one of several, taken: Alone with
+    /// yes, then Down; refused: Alone with no, where only the count could decide. Else nothing.
     pub fn try_into_boxed_as(self, pass: &mut Pass<H>) -> Result<S::Boxed, Self>
     where
         S: VecIn<A>,
@@ -118,15 +121,17 @@ impl<
         }
     }
 
-    /// The items as a box: `try_into_boxed_as` with a new pass.
+    /// The items as a box, of which none is copied: `try_into_boxed_as` with a new pass.
     ///
     /// # Errors
     ///
-    /// Those of `try_into_boxed_as`.
+    /// The window comes back where it stands on no vector, where the items don't fill all places of
+    /// the vector, and where another owner lives.
     ///
     /// # History
     ///
-    /// That of `try_into_boxed_as`.
+    /// Of a sole writer, taken: Down, without an atomic step. Of one of several, taken: Alone with
+    /// yes, then Down; refused: Alone with no, where only the count could decide. Else nothing.
     pub fn try_into_boxed(self) -> Result<S::Boxed, Self>
     where
         H: Stepping,
@@ -155,16 +160,16 @@ impl<
     A: Allocator + Copy,
     H: Mark,
 > ArcSliceMut<S, L, 1, B, M, A, H> {
-    /// The items as an array, where the window has `N` of them, which on a block are all places of
-    /// a native one. Else the window comes back.
+    /// The items as an array of `N`. On a block they have to be all places of a native one.
     ///
     /// # Errors
     ///
-    /// The window, with another number of items or of places; the pass is then as before.
+    /// The window comes back with another number of items, and on a block whose places they don't
+    /// fill or that isn't native; the pass is then as before.
     ///
     /// # History
     ///
-    /// Taken off a block, Down without a step.
+    /// Taken off a block: Down, without an atomic step. Else nothing.
     pub fn try_into_array_as<const N: usize>(self, pass: &mut Pass<H>) -> Result<[S::Item; N], Self>
         requires pass { IsPassAt self.place pass.old }
         ensures taken { IfOk result (λ array. IsWholeWriter N self × (array ≡ self.items)) }
@@ -179,15 +184,16 @@ impl<
         }
     }
 
-    /// The items as an array: `try_into_array_as` with a new pass.
+    /// The items as an array of `N`: `try_into_array_as` with a new pass.
     ///
     /// # Errors
     ///
-    /// Those of `try_into_array_as`.
+    /// The window comes back with another number of items, and on a block whose places they don't
+    /// fill or that isn't native.
     ///
     /// # History
     ///
-    /// That of `try_into_array_as`.
+    /// Taken off a block: Down, without an atomic step. Else nothing.
     pub fn try_into_array<const N: usize>(self) -> Result<[S::Item; N], Self>
     where
         H: Stepping,
@@ -203,17 +209,17 @@ impl<
         taken
     }
 
-    /// The caller's buffer on which the window stands, where the items are all of it. Its metadata
-    /// is dropped. Nobody is asked: a sole writer is alone.
+    /// The caller's buffer on which the window stands, where the items are all of it. The block's
+    /// metadata is dropped. The count isn't read: the writer is alone.
     ///
     /// # Errors
     ///
-    /// The window, on another block or none, and where the items are a part alone; the pass is then
-    /// as before.
+    /// The window comes back where it stands on no caller's buffer, and where the items are only a
+    /// part of it; the pass is then as before.
     ///
     /// # History
     ///
-    /// Taken, Down without a step.
+    /// Taken: Down, without an atomic step. Refused: nothing.
     pub fn try_into_buffer_as(self, pass: &mut Pass<H>) -> Result<B, Self>
         requires pass { IsPassAt self.place pass.old }
         ensures taken { IfOk result (λ buffer. IsBufferWhole self.items self.place
@@ -229,15 +235,16 @@ impl<
         }
     }
 
-    /// The caller's buffer: `try_into_buffer_as` with a new pass.
+    /// The caller's buffer on which the window stands: `try_into_buffer_as` with a new pass.
     ///
     /// # Errors
     ///
-    /// Those of `try_into_buffer_as`.
+    /// The window comes back where it stands on no caller's buffer, and where the items are only a
+    /// part of it.
     ///
     /// # History
     ///
-    /// That of `try_into_buffer_as`.
+    /// Taken: Down, without an atomic step. Refused: nothing.
     pub fn try_into_buffer(self) -> Result<B, Self>
     where
         H: Stepping,
@@ -264,18 +271,18 @@ impl<
     A: Allocator + Copy,
     H: Mark,
 > ArcSliceMut<S, L, 0, B, M, A, H> {
-    /// The items as an array, where the window has `N` of them, which on a block are all places of
-    /// a native one, and no other owner lives. Else the window comes back.
+    /// The items as an array of `N`. On a block they have to be all places of a native one, and no
+    /// other owner lives.
     ///
     /// # Errors
     ///
-    /// The window, with another number of items or of places, on a vector, and where another owner
-    /// lives.
+    /// The window comes back with another number of items, on a block whose places they don't fill,
+    /// on a vector, and where another owner lives.
     ///
     /// # History
     ///
-    /// Taken off a block, Alone and Down. Refused, Alone with no where only the count could decide,
-    /// and else nothing.
+    /// Taken off a block: Alone with yes, then Down. Refused: Alone with no, where only the count
+    /// could decide; else nothing.
     pub fn try_into_array_as<const N: usize>(self, pass: &mut Pass<H>) -> Result<[S::Item; N], Self>
         requires pass { IsPassAt self.place pass.old }
         ensures taken { IfOk result (λ array. IsWholeWriter N self × (array ≡ self.items)) }
@@ -289,15 +296,17 @@ impl<
         }
     }
 
-    /// The items as an array: `try_into_array_as` with a new pass.
+    /// The items as an array of `N`: `try_into_array_as` with a new pass.
     ///
     /// # Errors
     ///
-    /// Those of `try_into_array_as`.
+    /// The window comes back with another number of items, on a block whose places they don't fill,
+    /// on a vector, and where another owner lives.
     ///
     /// # History
     ///
-    /// That of `try_into_array_as`.
+    /// Taken off a block: Alone with yes, then Down. Refused: Alone with no, where only the count
+    /// could decide; else nothing.
     pub fn try_into_array<const N: usize>(self) -> Result<[S::Item; N], Self>
     where
         H: Stepping,
@@ -314,11 +323,11 @@ impl<
         taken
     }
 
-    /// No caller's buffer: none of several writers stands on one.
+    /// Refuses always: none of several writers stands on a caller's buffer.
     ///
     /// # Errors
     ///
-    /// The window; the pass is as before.
+    /// The window comes back; the pass is as before.
     pub fn try_into_buffer_as(self, pass: &mut Pass<H>) -> Result<B, Self>
         requires pass { IsPassAt self.place pass.old }
         ensures back { result ≡ Err self }
@@ -328,11 +337,11 @@ impl<
         Err(self)
     }
 
-    /// No caller's buffer: `try_into_buffer_as` with a new pass.
+    /// Refuses always: none of several writers stands on a caller's buffer.
     ///
     /// # Errors
     ///
-    /// The window.
+    /// The window comes back.
     pub fn try_into_buffer(self) -> Result<B, Self>
     where
         H: Stepping,

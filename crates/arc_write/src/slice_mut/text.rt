@@ -30,26 +30,27 @@ impl<
     A: Allocator + Copy,
     H: Mark,
 > WriteWindow<Text, L, R, B, M, A, H> {
-    /// The text.
+    /// The items as a `str`.
     pub fn as_str(&self) -> &str
         ensures { result.now ≡ self.now.items }
     {
         unsafe { str::from_utf8_unchecked(self.parts.as_slice()) }
     }
 
-    /// A copy of the text more, behind what is there, once there is room for it.
+    /// Appends a copy of the text, behind the others, once there is room.
     ///
     /// # Errors
     ///
-    /// Those of `try_reserve_as`.
+    /// Those of `try_reserve_as` for as many bytes. Nothing is changed then.
     ///
     /// # Allocates
     ///
-    /// As `try_reserve_as`.
+    /// Where the window has too few places: as `try_reserve_as` does for as many bytes.
     ///
     /// # History
     ///
-    /// As `try_reserve_as`.
+    /// Of a sole writer: nothing. Of one of several, on a block, where it has too few places: Alone
+    /// with the answer.
     pub fn try_extend_from_str_as(
         &mut self,
         text: &str,
@@ -72,19 +73,20 @@ impl<
         self.parts.try_extend_from_slice_as(text.as_bytes(), pass)
     }
 
-    /// A copy of the text more, behind what is there: `try_extend_from_str_as` with a new pass.
+    /// Appends a copy of the text, behind the others: `try_extend_from_str_as` with a new pass.
     ///
     /// # Errors
     ///
-    /// Those of `try_extend_from_str_as`.
+    /// Those of `try_reserve` for as many bytes. Nothing is changed then.
     ///
     /// # Allocates
     ///
-    /// As `try_reserve_as`.
+    /// Where the window has too few places: as `try_reserve` does for as many bytes.
     ///
     /// # History
     ///
-    /// That of `try_reserve_as`.
+    /// Of a sole writer: nothing. Of one of several, on a block, where it has too few places: Alone
+    /// with the answer.
     pub fn try_extend_from_str(&mut self, text: &str) -> Result<(), TryReserveError>
     where
         H: Stepping,
@@ -119,9 +121,9 @@ impl<L: LayoutMut, B: BufferMut<u8> + Drop, M: Drop, A: Allocator + Copy, H: Mar
     A,
     H,
 > {
-    /// A window over a copy of the text: no text stands on nothing, else it stands on a new native
-    /// block with exactly a place for each byte. The pass, which is of no block, becomes the
-    /// block's; the window is owner 0.
+    /// A window over a copy of the text, on a new native block with exactly a place for each byte.
+    /// No text stands on nothing. The pass, which is of no block, becomes the block's; the window
+    /// is owner 0.
     ///
     /// # Errors
     ///

@@ -47,8 +47,8 @@ impl<
     }
 
     /// A window over all items of a vector, on a block that is the vector, with its places: no item
-    /// is copied. One without places stands on nothing. The pass, which is of no block, becomes the
-    /// block's; the window is owner 0.
+    /// is copied. A vector without places stands on nothing. The pass, which is of no block,
+    /// becomes the block's; the window is owner 0.
     ///
     /// # Errors
     ///
@@ -74,7 +74,8 @@ impl<
         }
     }
 
-    /// A window over all items of a vector: `try_from_vec_as` with a new pass.
+    /// A window over all items of a vector, of which none is copied: `try_from_vec_as` with a new
+    /// pass.
     ///
     /// # Errors
     ///

@@ -32,8 +32,8 @@ impl<
 > WriteWindow<S, L, R, B, M, A, H> {
     ghost use Rattle.arc_write.specs.Lends.{lends_items};
 
-    /// The items, to be changed in their places: what is written there they are afterwards. It
-    /// adds nothing.
+    /// The items, to be changed in their places: afterwards the window has what is written there.
+    /// It adds no entry.
     #[inline(always)]
     pub fn as_mut_slice(&mut self) -> &mut [S::Item]
     where
@@ -46,19 +46,21 @@ impl<
         self.parts.as_mut_slice()
     }
 
-    /// An item more, behind the others, once there is room for it.
+    /// Appends an item, behind the others, once there is room.
     ///
     /// # Errors
     ///
-    /// Those of `try_reserve_as`, with the item.
+    /// Those of `try_reserve_as` for one item, with the item, which comes back. Nothing is changed
+    /// then.
     ///
     /// # Allocates
     ///
-    /// As `try_reserve_as`.
+    /// Where the window has too few places: as `try_reserve_as` does for one item.
     ///
     /// # History
     ///
-    /// As `try_reserve_as`.
+    /// Of a sole writer: nothing. Of one of several, on a block, where it has too few places: Alone
+    /// with the answer.
     #[inline(always)]
     pub fn try_push_as(
         &mut self,
@@ -82,19 +84,21 @@ impl<
         self.parts.try_push_as(item, pass)
     }
 
-    /// An item more, behind the others: `try_push_as` with a new pass.
+    /// Appends an item, behind the others: `try_push_as` with a new pass.
     ///
     /// # Errors
     ///
-    /// Those of `try_push_as`.
+    /// Those of `try_reserve` for one item, with the item, which comes back. Nothing is changed
+    /// then.
     ///
     /// # Allocates
     ///
-    /// As `try_reserve_as`.
+    /// Where the window has too few places: as `try_reserve` does for one item.
     ///
     /// # History
     ///
-    /// That of `try_reserve_as`.
+    /// Of a sole writer: nothing. Of one of several, on a block, where it has too few places: Alone
+    /// with the answer.
     #[inline(always)]
     pub fn try_push(&mut self, item: S::Item) -> Result<(), (TryReserveError, S::Item)>
     where
@@ -119,19 +123,20 @@ impl<
         pushed
     }
 
-    /// A copy of the items more, behind the others, once there is room for them.
+    /// Appends a copy of the items, behind the others, once there is room.
     ///
     /// # Errors
     ///
-    /// Those of `try_reserve_as`.
+    /// Those of `try_reserve_as` for as many items. Nothing is changed then.
     ///
     /// # Allocates
     ///
-    /// As `try_reserve_as`.
+    /// Where the window has too few places: as `try_reserve_as` does for as many items.
     ///
     /// # History
     ///
-    /// As `try_reserve_as`.
+    /// Of a sole writer: nothing. Of one of several, on a block, where it has too few places: Alone
+    /// with the answer.
     #[inline(always)]
     pub fn try_extend_from_slice_as(
         &mut self,
@@ -159,19 +164,20 @@ impl<
         self.parts.try_extend_from_slice_as(items, pass)
     }
 
-    /// A copy of the items more, behind the others: `try_extend_from_slice_as` with a new pass.
+    /// Appends a copy of the items, behind the others: `try_extend_from_slice_as` with a new pass.
     ///
     /// # Errors
     ///
-    /// Those of `try_extend_from_slice_as`.
+    /// Those of `try_reserve` for as many items. Nothing is changed then.
     ///
     /// # Allocates
     ///
-    /// As `try_reserve_as`.
+    /// Where the window has too few places: as `try_reserve` does for as many items.
     ///
     /// # History
     ///
-    /// That of `try_reserve_as`.
+    /// Of a sole writer: nothing. Of one of several, on a block, where it has too few places: Alone
+    /// with the answer.
     #[inline(always)]
     pub fn try_extend_from_slice(&mut self, items: &[S::Item]) -> Result<(), TryReserveError>
     where
@@ -199,12 +205,12 @@ impl<
         extended
     }
 
-    /// A copy of the items more, behind the others, where the window has places for all of them. It
-    /// adds nothing.
+    /// Appends a copy of the items, where the window has places for all of them. It makes no room,
+    /// and adds no entry.
     ///
     /// # Errors
     ///
-    /// `AllocError` where it hasn't; nothing is changed then.
+    /// `AllocError` where it has too few places; nothing is changed then.
     pub(crate) fn try_extend_within(&mut self, items: &[S::Item]) -> Result<(), AllocError>
     where
         S: CopySlice,

@@ -18,17 +18,17 @@ impl<S: Slice, B: BufferMut<S::Item> + Drop, M: Drop, A: Allocator + Copy, H: Ma
     A,
     H,
 > {
-    /// Puts the other parts' places behind these, with the items that lie there, where these are
-    /// full, and both stand on one block and the others begin where these end; or where both stand
-    /// on nothing. That it is one block, where both stand on one, is asked. The other owner ends.
+    /// Puts the other parts' places, with the items that lie there, behind these. The other owner
+    /// ends. These parts have to be full, and the others to begin in the block where these end; or
+    /// both stand on nothing. The caller has to show that it is one block, where both stand on one.
     ///
     /// # Errors
     ///
-    /// The other parts, exactly where it isn't so. Everything is then as before.
+    /// The other parts come back exactly where it isn't so. Nothing is changed then.
     ///
     /// # History
     ///
-    /// Down of the other owner.
+    /// On a block: Down of the other owner.
     pub fn try_unsplit_as(&mut self, other: Self, pass: &mut Pass<H>) -> Result<(), Self>
         requires block { IsOneBlock self.old.place other.place }
         requires pass { IsPassAt self.old.place pass.old }
@@ -52,7 +52,7 @@ impl<S: Slice, B: BufferMut<S::Item> + Drop, M: Drop, A: Allocator + Copy, H: Ma
         }
     }
 
-    /// The same by value.
+    /// The same for parts by value.
     fn unsplit_as(self, other: Self, pass: &mut Pass<H>) -> Result<Self, (Self, Self)>
         requires block { IsOneBlock self.place other.place }
         requires pass { IsPassAt self.place pass.old }

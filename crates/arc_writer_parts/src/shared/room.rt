@@ -1,4 +1,4 @@
-//! Room for one of several writers, who has to be alone for it.
+//! Room for one of several writers, who makes it only while no other owner lives.
 ghost use Rattle.std.specs.Prelude.{◌≡◌, ◌≤◌, ◌<◌, ◌+◌, ◌-◌, ◌∷◌, [], false, length, OnOk};
 ghost use Rattle.std.specs.Mem.{type_size};
 ghost use Rattle.arc_parts.specs.Shared.{MakesSharedRoom, MakesRoomBeside, ReclaimsShared};
@@ -38,7 +38,7 @@ impl<S: Slice, B: BufferMut<S::Item> + Drop, M: Drop, A: Allocator + Copy, H: Ma
         self.capacity() - self.len()
     }
 
-    /// An item more, behind the others, where there is a place for it.
+    /// Appends an item. There is a place for it.
     #[inline(always)]
     pub(super) fn push_reserved(&mut self, item: S::Item)
         requires { length self.old.items + 1 ≤ capacity_of self.old.role }
@@ -65,7 +65,8 @@ impl<S: Slice, B: BufferMut<S::Item> + Drop, M: Drop, A: Allocator + Copy, H: Ma
         }
     }
 
-    /// `try_reserve_as` where there are too few places, apart so that the test is inlined alone.
+    /// `try_reserve_as` where there are too few places. It stands apart, so that only the test
+    /// before it is inlined.
     #[cold]
     #[inline(never)]
     pub(super) fn try_make_room(
@@ -89,7 +90,7 @@ impl<S: Slice, B: BufferMut<S::Item> + Drop, M: Drop, A: Allocator + Copy, H: Ma
         made
     }
 
-    /// The same by value.
+    /// `try_make_room` by value.
     #[tactic(auto, using(crate::proofs::Rooms::asked_shared, crate::proofs::Rooms::refused_shared, crate::proofs::Rooms::alone_shared, crate::proofs::Rooms::no_buffer_shared, crate::proofs::Rooms::sole_again))]
     fn with_room_as(
         self,
@@ -123,7 +124,8 @@ impl<S: Slice, B: BufferMut<S::Item> + Drop, M: Drop, A: Allocator + Copy, H: Ma
         }
     }
 
-    /// The only writer with room for so many items more, where there is some, as one of several.
+    /// One of several writers again, made of the only writer, with room for `additional` items more
+    /// where there is some.
     #[tactic(auto, using(crate::proofs::Rooms::no_buffer_room))]
     fn room_alone_as(
         sole: SoleParts<S, B, M, A, H>,
@@ -145,7 +147,7 @@ impl<S: Slice, B: BufferMut<S::Item> + Drop, M: Drop, A: Allocator + Copy, H: Ma
         (sole.into_shared_memory(), made)
     }
 
-    /// The same by value, where there are too few places.
+    /// `try_reclaim_as` by value, where there are too few places.
     #[tactic(auto, using(crate::proofs::Rooms::asked_reclaimed, crate::proofs::Rooms::refused_reclaimed, crate::proofs::Rooms::idle_reclaimed, crate::proofs::Rooms::no_buffer_shared, crate::proofs::Rooms::no_buffer_reclaimed))]
     pub(super) fn with_places_as(self, additional: usize, pass: &mut Pass<H>) -> (Self, bool)
         requires short { capacity_of self.role - length self.items < additional }

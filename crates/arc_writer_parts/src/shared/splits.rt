@@ -1,15 +1,18 @@
 //! How the places of one of several writers are split in two.
-ghost use Rattle.std.specs.Prelude.{◌≡◌, ◌≤◌, true, false, IfOk, IfErr, OnErr};
-ghost use Rattle.arc_sort_writers.specs.NativeWriters.{IsAlonePlace};
-ghost use Rattle.arc_block.specs.Place.{IsOnBlock, at_owner};
-ghost use Rattle.arc_parts.specs.Shared.{SplitsWriterOff, SplitsWriterTo, RefusesSplitAt};
-ghost use Rattle.arc_parts.specs.Shared.{LeavesVector, LeavesShown, is_vector_at, as_shared};
+ghost use Rattle.std.specs.Prelude.{◌≡◌, ◌≤◌, Bool, Some, true, false, if◌then◌else◌};
+ghost use Rattle.std.specs.Prelude.{IfErr, IfOk, OnErr};
+ghost use Rattle.arc_owners.specs.count.Calls.{IsFirst, IsFreshPass, Leaves};
+ghost use Rattle.arc_owners.specs.history.Histories.{Counted};
+ghost use Rattle.arc_block.specs.declared.block.TheConstants.{MAX_OWNERS};
+ghost use Rattle.arc_block.specs.Place.{at_owner};
+ghost use Rattle.arc_parts.specs.Shared.{LeavesVector, RefusesSplitAt, SplitsWriterAt};
+ghost use Rattle.arc_parts.specs.Shared.{is_vector_at, on_native};
 ghost use Rattle.arc_parts.specs.Steps.{IsPassAt};
 ghost use Rattle.arc_parts.specs.Writers.{capacity_of};
+ghost use Rattle.arc_sort_writers.specs.NativeWriters.{native_row};
 
 use super::{SharedParts, SharedStorage};
 use crate::role::WriterParts;
-use crate::sole::SoleParts;
 use arc_buffer::buffer::BufferMut;
 use arc_buffer::kinds::Slice;
 use arc_owners::error::{AllocError, OwnerError};
@@ -19,6 +22,18 @@ use arc_sort_writers::shared::SharedNative;
 use std::alloc::Allocator;
 use std::mem;
 use std::sync::Wait;
+
+/// The two parts, with the one that stays first: the front where `FRONT_STAYS`, else the back.
+#[inline(always)]
+fn staying_first<N, const FRONT_STAYS: bool>(front: N, back: N) -> (N, N)
+    ensures stays { result.0 ≡ (if FRONT_STAYS then front else back) }
+    ensures leaves { result.1 ≡ (if FRONT_STAYS then back else front) }
+{
+    if FRONT_STAYS {
+        return (front, back);
+    }
+    (back, front)
+}
 
 impl<S: Slice, B: BufferMut<S::Item> + Drop, M: Drop, A: Allocator + Copy, H: Mark> SharedParts<
     S,
@@ -30,25 +45,27 @@ impl<S: Slice, B: BufferMut<S::Item> + Drop, M: Drop, A: Allocator + Copy, H: Ma
 where
     S::Item: Copy,
 {
-    /// Keeps the first `at` places and hands out those behind them, with the items that lie there:
-    /// another owner of the same block. Where the items end before, it has none. The places of a
-    /// vector are moved to a native block first, of which the pass becomes one. On nothing both
-    /// parts stand on nothing.
+    /// Splits the places at `at`, with the items that lie there. One part stays, the front where
+    /// `FRONT_STAYS` and else the back. The other is handed out: another owner of the same block.
+    /// The places of a vector are moved to a native block first, of which the pass becomes one. On
+    /// nothing both parts stand on nothing.
     ///
     /// # Errors
     ///
-    /// On a native block `CountFull`, exactly where `MAX_OWNERS` owners live, and on a vector
-    /// `AllocError`, where memory for the native block is refused. Everything is then as before.
+    /// - `CountFull` on a native block, exactly where `MAX_OWNERS` owners live.
+    /// - `AllocError` on a vector, where memory for the native block is refused.
+    ///
+    /// Nothing is changed then.
     ///
     /// # Allocates
     ///
-    /// On a vector alone.
+    /// Once, on a vector.
     ///
     /// # History
     ///
-    /// On a native block Up, or Full where refused. On a vector Down, without a step, and Up in the
-    /// new block.
-    pub fn try_split_off_as(
+    /// On a native block: Up, or Full where it is refused. On a vector: Down, without an atomic
+    /// step, and Up in the new block.
+    pub fn try_split_as<const FRONT_STAYS: bool>(
         &mut self,
         rt: &impl Wait,
         at: usize,
@@ -56,17 +73,17 @@ where
     ) -> Result<Self, OwnerError>
         requires at { at ≤ capacity_of self.old.role }
         requires pass { IsPassAt self.old.place pass.old }
-        ensures made { IfOk result (λ back. SplitsWriterOff H H.real false H.whole at
-            self.old self.new back pass.old pass.new) }
+        ensures made { IfOk result (λ made. SplitsWriterAt H H.real FRONT_STAYS false H.whole at
+            self.old self.new made pass.old pass.new) }
         ensures refused { IfErr result (λ e. (self.new ≡ self.old)
             × RefusesSplitAt self.old.place pass.old pass.new e) }
     {
         self.known_kind();
         let nothing = Self::on_nothing(self.alloc);
-        match mem::replace(self, nothing).split_off_as(rt, at, pass) {
-            Ok((front, back)) => {
-                self.take_in(front);
-                Ok(back)
+        match mem::replace(self, nothing).split_as::<FRONT_STAYS>(rt, at, pass) {
+            Ok((stays, made)) => {
+                self.take_in(stays);
+                Ok(made)
             }
             Err((whole, e)) => {
                 self.take_in(whole);
@@ -75,8 +92,9 @@ where
         }
     }
 
-    /// The same by value: the parts in front, which go on as this owner, and those behind.
-    fn split_off_as(
+    /// `try_split_as` by value: the part that stays, which goes on as this owner, and the other
+    /// one.
+    fn split_as<const FRONT_STAYS: bool>(
         self,
         rt: &impl Wait,
         at: usize,
@@ -84,181 +102,76 @@ where
     ) -> Result<(Self, Self), (Self, OwnerError)>
         requires at { at ≤ capacity_of self.role }
         requires pass { IsPassAt self.place pass.old }
-        ensures made { IfOk result (λ r. SplitsWriterOff H H.real false H.whole at
+        ensures made { IfOk result (λ r. SplitsWriterAt H H.real FRONT_STAYS false H.whole at
             self r.0 r.1 pass.old pass.new) }
         ensures refused { IfErr result (λ r. (r.0 ≡ self)
             × RefusesSplitAt self.place pass.old pass.new r.1) }
     {
         let SharedParts { on, alloc } = self;
         match on {
-            SharedStorage::Several(writer) => match writer.try_split_off_as(rt, at, pass) {
-                Ok((front, back)) => Ok((Self::several(alloc, front), Self::several(alloc, back))),
-                Err((writer, e)) => Err((Self::several(alloc, writer), e.into())),
-            },
+            SharedStorage::Several(writer) => {
+                match writer.try_split_as::<FRONT_STAYS>(rt, at, pass) {
+                    Ok((front, back)) => {
+                        let (stays, made) = staying_first::<_, FRONT_STAYS>(front, back);
+                        Ok((Self::several(alloc, stays), Self::several(alloc, made)))
+                    }
+                    Err((writer, e)) => Err((Self::several(alloc, writer), e.into())),
+                }
+            }
             SharedStorage::Alone(parts) => {
-                match Self::split_alone_off_as(alloc, parts, rt, at, pass) {
-                    Ok(made) => Ok(made),
-                    Err(parts) => Err((Self::alone(alloc, parts), OwnerError::AllocError)),
+                if !parts.is_on_block() {
+                    return Ok((Self::alone(alloc, parts), Self::on_nothing(alloc)));
+                }
+                let mut whole = Self::alone(alloc, parts);
+                match whole.split_vector_as::<FRONT_STAYS>(rt, at, pass) {
+                    Ok(made) => Ok((whole, made)),
+                    Err(e) => Err((whole, e)),
                 }
             }
         }
     }
 
-    /// The same where no other owner lives.
-    fn split_alone_off_as(
-        alloc: A,
-        parts: SoleParts<S, B, M, A, H>,
-        rt: &impl Wait,
-        at: usize,
-        pass: &mut Pass<H>,
-    ) -> Result<(Self, Self), SoleParts<S, B, M, A, H>>
-        requires kind { S.DROPS ≡ false }
-        requires place { IsAlonePlace parts.place }
-        requires at { at ≤ capacity_of parts.role }
-        requires pass { IsPassAt parts.place pass.old }
-        ensures made { IfOk result (λ r. SplitsWriterOff H H.real false H.whole at
-            (as_shared parts) r.0 r.1 pass.old pass.new) }
-        ensures refused { IfErr result (λ back. (back ≡ parts) × IsOnBlock parts.place
-            × (pass.new ≡ pass.old)) }
-    {
-        if !parts.is_on_block() {
-            return Ok((Self::on_nothing(alloc), Self::on_nothing(alloc)));
-        }
-        let Ok((writer, mut new)) = SharedNative::try_copy(
-            alloc,
-            parts.as_slice(),
-            parts.capacity(),
-        ) else {
-            return Err(parts);
-        };
-        match writer.try_split_off_as(rt, at, &mut new) {
-            Ok((front, back)) => {
-                Self::leave_for(parts, new, pass);
-                Ok((Self::several(alloc, front), Self::several(alloc, back)))
-            }
-            Err((writer, _)) => {
-                // It isn't reached: a new block has one owner.
-                writer.release_as(&mut new);
-                Err(parts)
-            }
-        }
-    }
-    /// Keeps the places behind the first `at` and hands out these, with the items that lie there,
-    /// as `try_split_off_as` hands out the others.
-    ///
-    /// # Errors
-    ///
-    /// Those of `try_split_off_as`.
-    ///
-    /// # Allocates
-    ///
-    /// As `try_split_off_as`.
-    ///
-    /// # History
-    ///
-    /// As `try_split_off_as`.
-    pub fn try_split_to_as(
+    /// The same of a vector, whose places are moved first.
+    #[tactic(auto, using(crate::proofs::Splits::vector_refused))]
+    fn split_vector_as<const FRONT_STAYS: bool>(
         &mut self,
         rt: &impl Wait,
         at: usize,
         pass: &mut Pass<H>,
     ) -> Result<Self, OwnerError>
+        requires vector { is_vector_at self.old.place ≡ true }
         requires at { at ≤ capacity_of self.old.role }
         requires pass { IsPassAt self.old.place pass.old }
-        ensures made { IfOk result (λ front. SplitsWriterTo H H.real false H.whole at
-            self.old front self.new pass.old pass.new) }
+        ensures made { IfOk result (λ made. SplitsWriterAt H H.real FRONT_STAYS false H.whole at
+            self.old self.new made pass.old pass.new) }
         ensures refused { IfErr result (λ e. (self.new ≡ self.old)
             × RefusesSplitAt self.old.place pass.old pass.new e) }
     {
-        self.known_kind();
-        let nothing = Self::on_nothing(self.alloc);
-        match mem::replace(self, nothing).split_to_as(rt, at, pass) {
-            Ok((back, front)) => {
-                self.take_in(back);
-                Ok(front)
-            }
-            Err((whole, e)) => {
-                self.take_in(whole);
-                Err(e)
-            }
-        }
-    }
-
-    /// The same by value: the parts behind, which go on as this owner, and those in front.
-    fn split_to_as(
-        self,
-        rt: &impl Wait,
-        at: usize,
-        pass: &mut Pass<H>,
-    ) -> Result<(Self, Self), (Self, OwnerError)>
-        requires at { at ≤ capacity_of self.role }
-        requires pass { IsPassAt self.place pass.old }
-        ensures made { IfOk result (λ r. SplitsWriterTo H H.real false H.whole at
-            self r.1 r.0 pass.old pass.new) }
-        ensures refused { IfErr result (λ r. (r.0 ≡ self)
-            × RefusesSplitAt self.place pass.old pass.new r.1) }
-    {
-        let SharedParts { on, alloc } = self;
-        match on {
-            SharedStorage::Several(writer) => match writer.try_split_to_as(rt, at, pass) {
-                Ok((back, front)) => Ok((Self::several(alloc, back), Self::several(alloc, front))),
-                Err((writer, e)) => Err((Self::several(alloc, writer), e.into())),
-            },
-            SharedStorage::Alone(parts) => {
-                match Self::split_alone_to_as(alloc, parts, rt, at, pass) {
-                    Ok(made) => Ok(made),
-                    Err(parts) => Err((Self::alone(alloc, parts), OwnerError::AllocError)),
-                }
-            }
-        }
-    }
-
-    /// The same where no other owner lives.
-    fn split_alone_to_as(
-        alloc: A,
-        parts: SoleParts<S, B, M, A, H>,
-        rt: &impl Wait,
-        at: usize,
-        pass: &mut Pass<H>,
-    ) -> Result<(Self, Self), SoleParts<S, B, M, A, H>>
-        requires kind { S.DROPS ≡ false }
-        requires place { IsAlonePlace parts.place }
-        requires at { at ≤ capacity_of parts.role }
-        requires pass { IsPassAt parts.place pass.old }
-        ensures made { IfOk result (λ r. SplitsWriterTo H H.real false H.whole at
-            (as_shared parts) r.1 r.0 pass.old pass.new) }
-        ensures refused { IfErr result (λ back. (back ≡ parts) × IsOnBlock parts.place
-            × (pass.new ≡ pass.old)) }
-    {
-        if !parts.is_on_block() {
-            return Ok((Self::on_nothing(alloc), Self::on_nothing(alloc)));
-        }
-        let Ok((writer, mut new)) = SharedNative::try_copy(
-            alloc,
-            parts.as_slice(),
-            parts.capacity(),
-        ) else {
-            return Err(parts);
+        self.known_place();
+        let Ok((writer, mut new)) = self.copied() else {
+            return Err(OwnerError::AllocError);
         };
-        match writer.try_split_to_as(rt, at, &mut new) {
-            Ok((back, front)) => {
-                Self::leave_for(parts, new, pass);
-                Ok((Self::several(alloc, back), Self::several(alloc, front)))
+        match writer.try_split_as::<FRONT_STAYS>(rt, at, &mut new) {
+            Ok((front, back)) => {
+                let (stays, made) = staying_first::<_, FRONT_STAYS>(front, back);
+                self.leave_for(stays, pass);
+                mem::replace(pass, new).show();
+                Ok(Self::several(self.alloc, made))
             }
             Err((writer, _)) => {
-                // It isn't reached: a new block has one owner.
+                // This arm isn't reached: a new block has one owner.
                 writer.release_as(&mut new);
-                Err(parts)
+                Err(OwnerError::AllocError)
             }
         }
     }
 
-    /// Moves the places of a vector to a native block, as a split does before it, and hands out a
-    /// pass of that block. So who calls this first has the passes of both blocks.
+    /// Moves the places of a vector to a native block, as a split does first, and hands out a pass
+    /// of that block. So the caller has the passes of both blocks.
     ///
     /// # Errors
     ///
-    /// `AllocError` where memory for the native block is refused. Everything is then as before.
+    /// `AllocError` where memory for the native block is refused. Nothing is changed then.
     ///
     /// # Allocates
     ///
@@ -266,7 +179,7 @@ where
     ///
     /// # History
     ///
-    /// Down of the vector's owner, without a step.
+    /// Down of the vector's owner, without an atomic step.
     pub fn try_leave_vector_as(&mut self, pass: &mut Pass<H>) -> Result<Pass<H>, AllocError>
         requires vector { is_vector_at self.old.place ≡ true }
         requires pass { IsPassAt self.old.place pass.old }
@@ -274,24 +187,34 @@ where
             pass.old pass.new new) }
         ensures refused { OnErr result ((self.new ≡ self.old) × (pass.new ≡ pass.old)) }
     {
+        let (writer, new) = self.copied()?;
+        self.leave_for(writer, pass);
+        Ok(new)
+    }
+
+    /// A writer of a copy of the items, on a native block with as many places, and a pass of that.
+    fn copied(&self) -> Result<(SharedNative<S::Item, A, H>, Pass<H>), AllocError>
+        ensures made { IfOk result (λ r.
+            native_row r.0 ≡ on_native false (Some r.0.owner) self.now) }
+        ensures first { IfOk result (λ r. IsFirst MAX_OWNERS H.whole Counted r.0.owner) }
+        ensures pass { IfOk result (λ r. IsFreshPass r.0.owner r.1) }
+    {
+        self.known_place();
         let (writer, new) = SharedNative::try_copy(self.alloc, self.as_slice(), self.capacity())?;
+        Ok((writer, new))
+    }
+
+    /// Puts this writer in the place of the vector's, which ends as an owner of the vector.
+    fn leave_for(&mut self, writer: SharedNative<S::Item, A, H>, pass: &mut Pass<H>)
+        requires vector { is_vector_at self.old.place ≡ true }
+        requires pass { IsPassAt self.old.place pass.old }
+        ensures moved { self.new ≡ native_row writer }
+        ensures left { at_owner self.old.place ⊥ (λ o. (last : Bool)
+            × Leaves o pass.old pass.new last) }
+    {
         match mem::replace(&mut self.on, SharedStorage::Several(writer)) {
             SharedStorage::Alone(parts) => parts.release_as(pass),
             SharedStorage::Several(_) => unreachable!(),
         }
-        Ok(new)
-    }
-
-    /// The vector's owner ends, and the pass is from now on the one of the block to which it moved.
-    fn leave_for(parts: SoleParts<S, B, M, A, H>, new: Pass<H>, pass: &mut Pass<H>)
-        requires place { IsAlonePlace parts.place }
-        requires block { IsOnBlock parts.place }
-        requires pass { IsPassAt parts.place pass.old }
-        ensures pass { pass.new ≡ new }
-        ensures left { at_owner parts.place ⊥ (λ o. LeavesShown H H.real o pass.old) }
-    {
-        let mut old = mem::replace(pass, new);
-        parts.release_as(&mut old);
-        old.show();
     }
 }

@@ -1,4 +1,5 @@
-//! What one of several writers takes back, where he is alone: a vector's items, or an array.
+//! What one of several writers takes back while no other owner lives: a vector's items, or an
+//! array.
 ghost use Rattle.std.specs.Prelude.{◌≡◌, IfOk, IfErr};
 ghost use Rattle.arc_parts.specs.Steps.{IsPassAt, TakesAt, RefusesTaking};
 ghost use Rattle.arc_parts.specs.Writers.{IsWholeWriter};
@@ -18,18 +19,18 @@ impl<S: Slice, B: BufferMut<S::Item> + Drop, M: Drop, A: Allocator + Copy, H: Ma
     A,
     H,
 > {
-    /// The items as an array, where there are `N` of them, which on a block are all places of a
-    /// native one, and no other owner lives. Else the parts come back.
+    /// The items as an array of `N`. On a block they have to be all places of a native one, and no
+    /// other owner lives.
     ///
     /// # Errors
     ///
-    /// The parts, with another number of items or of places, on a vector, and where another owner
-    /// lives.
+    /// The parts come back with another number of items, on a block whose places they don't fill,
+    /// on a vector, and where another owner lives.
     ///
     /// # History
     ///
-    /// Taken off a block, Alone and Down. Refused, Alone with no where only the count could decide,
-    /// and else nothing.
+    /// Taken off a block: Alone with yes, then Down. Refused: Alone with no, where only the count
+    /// could decide; else nothing.
     #[tactic(auto, using(crate::proofs::Takes::asked_taken, crate::proofs::Takes::asked_refused))]
     pub fn try_into_array_as<const N: usize>(self, pass: &mut Pass<H>) -> Result<[S::Item; N], Self>
         requires pass { IsPassAt self.place pass.old }

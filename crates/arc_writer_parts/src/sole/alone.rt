@@ -1,4 +1,4 @@
-//! What a sole writer has to tell who writes in the role of one of several.
+//! What a sole writer's parts say to the parts of one of several writers that consist of them.
 ghost use Rattle.std.specs.Prelude.{◌≡◌, ℕ, ◌↔◌, false, IsTrue};
 ghost use Rattle.arc_sort_writers.specs.NativeWriters.{IsAlonePlace};
 ghost use Rattle.arc_block.specs.Place.{IsOnBlock, at_owner};
@@ -23,7 +23,7 @@ impl<S: Slice, B: BufferMut<S::Item> + Drop, M: Drop, A: Allocator + Copy, H: Ma
     A,
     H,
 > {
-    /// They are a sole writer's. Does nothing: its contract is the law.
+    /// Their role is a sole writer's. Does nothing: its contract is the law.
     pub(crate) fn known_role(&self)
         ensures { self.now.role ≡ sole_writer (capacity_of self.now.role) }
     {
@@ -34,8 +34,8 @@ impl<S: Slice, B: BufferMut<S::Item> + Drop, M: Drop, A: Allocator + Copy, H: Ma
         }
     }
 
-    /// Where one of several writers is by himself, full places aren't counted: none are more when
-    /// items are pushed. Does nothing: its contract is the law.
+    /// Where one of several writers has no other owner beside him, full places aren't counted, so
+    /// that pushed items change no such count. Does nothing: its contract is the law.
     pub(crate) fn known_uncounted(&self)
         requires kind { S.DROPS ≡ false }
         requires place { IsAlonePlace self.now.place }
@@ -60,7 +60,7 @@ impl<S: Slice, B: BufferMut<S::Item> + Drop, M: Drop, A: Allocator + Copy, H: Ma
         }
     }
 
-    /// Whether the list is all of the block's vector, which has no places more.
+    /// Whether the items fill all places of the block's vector.
     pub(crate) fn is_box_whole(&self) -> bool
         ensures { IsTrue result ↔ IsBoxWhole self.now.items self.now.place }
     {
@@ -76,7 +76,7 @@ impl<S: Slice, B: BufferMut<S::Item> + Drop, M: Drop, A: Allocator + Copy, H: Ma
     ///
     /// # History
     ///
-    /// On a block Alone with the answer.
+    /// On a block: Alone with the answer.
     pub(crate) fn is_alone_as(&self, pass: &mut Pass<H>) -> bool
         requires pass { IsPassAt self.now.place pass.old }
         ensures { AsksAlone self.now.place pass.old pass.new result }
@@ -88,8 +88,8 @@ impl<S: Slice, B: BufferMut<S::Item> + Drop, M: Drop, A: Allocator + Copy, H: Ma
         }
     }
 
-    /// On a block they are of another one than one of several writers. Does nothing: its contract
-    /// is the law.
+    /// On a block they are of another one than the block of one of several writers. Does nothing:
+    /// its contract is the law.
     pub(crate) fn apart_from(&self, writer: &SharedNative<S::Item, A, H>)
         ensures { at_owner self.now.place (Unit {0}) (λ o. ¬ (writer.now.owner.block ≡ o.block)) }
     {

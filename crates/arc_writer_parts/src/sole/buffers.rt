@@ -25,8 +25,8 @@ impl<S: Slice, B: BufferMut<S::Item> + Drop, M: Drop, A: Allocator + Copy, H: Ma
     H,
 > {
     /// All items of a caller's buffer with its places, on a block that keeps the buffer as one that
-    /// may be written, with its metadata where there is some: no item is copied. The pass, which is
-    /// of no block, becomes the block's.
+    /// may be written, and the metadata, if there is some. No item is copied. The pass, which is of
+    /// no block, becomes the block's.
     ///
     /// # Errors
     ///
@@ -55,16 +55,16 @@ impl<S: Slice, B: BufferMut<S::Item> + Drop, M: Drop, A: Allocator + Copy, H: Ma
         }
     }
 
-    /// The caller's buffer, where the items are all of it. Its metadata is dropped.
+    /// The caller's buffer, where the items are all of it. The block's metadata is dropped.
     ///
     /// # Errors
     ///
-    /// The parts, on another block or none, and where the items are a part alone; the pass is then
-    /// as before.
+    /// The parts come back where they stand on no caller's buffer, and where the items are only a
+    /// part of it; the pass is then as before.
     ///
     /// # History
     ///
-    /// Taken, Down without a step.
+    /// Taken: Down, without an atomic step. Refused: nothing.
     pub fn try_into_buffer_as(self, pass: &mut Pass<H>) -> Result<B, Self>
         requires pass { IsPassAt self.place pass.old }
         ensures taken { IfOk result (λ buffer. IsBufferWhole self.items self.place

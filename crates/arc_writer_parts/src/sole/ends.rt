@@ -35,8 +35,12 @@ impl<S: Slice, B: BufferMut<S::Item> + Drop, M: Drop, A: Allocator + Copy, H: Ma
     A,
     H,
 > {
-    /// The items from `start` to before `end` of a block that may be written, as their only
-    /// writer, where no other owner lives. Else the block comes back.
+    /// The items from `start` to before `end` of a block that may be written, as their only writer,
+    /// where no other owner lives.
+    ///
+    /// # Errors
+    ///
+    /// The block comes back where another owner lives.
     ///
     /// # History
     ///
@@ -71,7 +75,11 @@ impl<S: Slice, B: BufferMut<S::Item> + Drop, M: Drop, A: Allocator + Copy, H: Ma
     }
 
     /// The items from `start` to before `end` of a native block, as their only writer, where no
-    /// other owner lives. Else the block comes back.
+    /// other owner lives.
+    ///
+    /// # Errors
+    ///
+    /// The block comes back where another owner lives.
     ///
     /// # History
     ///
@@ -92,7 +100,7 @@ impl<S: Slice, B: BufferMut<S::Item> + Drop, M: Drop, A: Allocator + Copy, H: Ma
     {
         match block.try_into_sole_as(start, end, pass) {
             Ok((count, memory)) => {
-                // Of items that need no drop the memory has those from `start` on alone.
+                // Of items that need no drop the memory has only those from `start` on.
                 let first = memory.start();
                 let (start, end) = (start - first, end - first);
                 Ok(Self::in_native(SoleNative::over(alloc, count, memory, start, end)))
@@ -101,18 +109,18 @@ impl<S: Slice, B: BufferMut<S::Item> + Drop, M: Drop, A: Allocator + Copy, H: Ma
         }
     }
 
-    /// The same items at the same place as a reader's parts, as their only writer under the layout
-    /// `L`, where they stand on a block that may be written and that the layout holds, and that no
-    /// other owner has, or where there are none and they stand on no block.
+    /// The items of a reader's parts at the same place, as their only writer under the layout `L`.
+    /// They stand on a block that may be written and that the layout holds, and no other owner has
+    /// it; or there are none and they stand on no block.
     ///
     /// # Errors
     ///
-    /// The parts, where the block's sort may not be written, or isn't held, or another owner lives,
-    /// or where there are items of a static slice.
+    /// The parts come back where the block may not be written, where the layout doesn't hold it,
+    /// where another owner lives, and where there are items of a `'static` slice.
     ///
     /// # History
     ///
-    /// On a block that may be written Alone with the answer.
+    /// On a block that may be written, and that the layout holds: Alone with the answer.
     pub fn try_from_parts_as<L: Layout>(
         parts: Parts<S, B, M, A, H>,
         pass: &mut Pass<H>,
@@ -158,16 +166,16 @@ impl<S: Slice, B: BufferMut<S::Item> + Drop, M: Drop, A: Allocator + Copy, H: Ma
         }
     }
 
-    /// The items as an array, where there are `N` of them, which on a block are all places of a
-    /// native one. Else the parts come back.
+    /// The items as an array of `N`. On a block they have to be all places of a native one.
     ///
     /// # Errors
     ///
-    /// The parts, with another number of items or of places; the pass is then as before.
+    /// The parts come back with another number of items, and on a block whose places they don't
+    /// fill or that isn't native; the pass is then as before.
     ///
     /// # History
     ///
-    /// Taken off a block, Down without a step.
+    /// Taken off a block: Down, without an atomic step. Else nothing.
     pub fn try_into_array_as<const N: usize>(self, pass: &mut Pass<H>) -> Result<[S::Item; N], Self>
         requires pass { IsPassAt self.place pass.old }
         ensures taken { IfOk result (λ array. IsWholeWriter N self × (array ≡ self.items)) }
@@ -189,7 +197,7 @@ impl<S: Slice, B: BufferMut<S::Item> + Drop, M: Drop, A: Allocator + Copy, H: Ma
         }
     }
 
-    /// The same parts, of items of another kind. It adds nothing.
+    /// The same parts, of items of another kind. It adds no entry.
     pub fn into_kind<K: Slice<Item = S::Item>>(self) -> SoleParts<K, B, M, A, H>
         requires { K.DROPS ≡ S.DROPS }
         ensures { result ≡ self }
@@ -202,8 +210,8 @@ impl<S: Slice, B: BufferMut<S::Item> + Drop, M: Drop, A: Allocator + Copy, H: Ma
         }
     }
 
-    /// Shows a pass the block's whole history so far, in which no other owner lives. It adds
-    /// nothing.
+    /// Shows a pass the block's whole history up to here, in which no other owner lives. It adds no
+    /// entry.
     pub fn only(&self, pass: &mut Pass<H>)
         requires pass { IsPassAt self.now.place pass.old }
         ensures { at_owner self.now.place (pass.new ≡ pass.old) (λ o.

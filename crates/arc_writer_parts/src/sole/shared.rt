@@ -17,12 +17,12 @@ impl<S: Slice, B: BufferMut<S::Item> + Drop, M: Drop, A: Allocator + Copy, H: Ma
     A,
     H,
 > {
-    /// The same items and places, as one of several writers from now on. It adds no entry and takes
-    /// no memory.
+    /// The same items and places, as those of one of several writers. It adds no entry and takes no
+    /// memory.
     ///
     /// # Errors
     ///
-    /// The parts, exactly where they stand on a caller's buffer.
+    /// The parts come back exactly where they stand on a caller's buffer.
     pub fn into_shared(self) -> Result<SharedParts<S, B, M, A, H>, Self>
         requires kind { S.DROPS ≡ false }
         ensures shared { IfOk result (λ shared. (shared ≡ as_shared self)
@@ -35,7 +35,7 @@ impl<S: Slice, B: BufferMut<S::Item> + Drop, M: Drop, A: Allocator + Copy, H: Ma
         Ok(self.into_shared_memory())
     }
 
-    /// The same where they stand on no caller's buffer.
+    /// `into_shared` of parts that stand on no caller's buffer.
     pub(crate) fn into_shared_memory(self) -> SharedParts<S, B, M, A, H>
         requires kind { S.DROPS ≡ false }
         requires place { ¬ IsOfBuffer self.place }

@@ -21,8 +21,9 @@ impl<S: Slice, B: BufferMut<S::Item> + Drop, M: Drop, A: Allocator + Copy, H: Ma
     A,
     H,
 > {
-    /// All items of a vector with its places, on a block that is the vector: no item is copied. One
-    /// without places stands on nothing. The pass, which is of no block, becomes the block's.
+    /// All items of a vector with its places, on a block that is the vector: no item is copied. A
+    /// vector without places stands on nothing. The pass, which is of no block, becomes the
+    /// block's.
     ///
     /// # Errors
     ///

@@ -16,7 +16,8 @@ impl<S: Slice, B: BufferMut<S::Item> + Drop, M: Drop, A: Allocator + Copy, H: Ma
     A,
     H,
 > {
-    /// Whether there is room for so many items more without memory; then it is made.
+    /// Makes room for `additional` items more where that takes no memory, and answers whether it
+    /// did.
     pub fn try_reclaim(&mut self, additional: usize) -> bool
         ensures { Reclaims (room_for S.DROPS (type_size S.Item.row) self.old additional)
             self.old self.new result }
@@ -28,7 +29,7 @@ impl<S: Slice, B: BufferMut<S::Item> + Drop, M: Drop, A: Allocator + Copy, H: Ma
         }
     }
 
-    /// An item more, behind the others, where there is a place for it.
+    /// Appends an item. There is a place for it.
     #[inline(always)]
     pub(crate) fn push_reserved(&mut self, item: S::Item)
         requires { length self.old.items + 1 ≤ capacity_of self.old.role }

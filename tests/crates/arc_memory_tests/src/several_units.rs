@@ -34,7 +34,7 @@ fn split_off<'a, T: Copy + Drop>(
         return None;
     }
     let mut pass = parts.pass();
-    parts.try_split_off_as(rt, at, &mut pass).ok()
+    parts.try_split_as::<true>(rt, at, &mut pass).ok()
 }
 
 /// Whether the other parts are put behind the first ones.

@@ -42,12 +42,16 @@ enum Row {
     Array,
     /// Items that are taken back as their vector.
     Vector,
+    /// The second of two windows that end gets the vector.
+    LastVector,
     /// A part of a vector, which isn't given for it.
     Part,
     /// A buffer with metadata beside a clone.
     Metadata,
     /// A buffer that is taken back.
     Buffer,
+    /// The second of two windows that end gets the buffer.
+    LastBuffer,
     /// A writer over a buffer, which is cut short.
     BufferCut,
     /// A writer over a buffer, which is frozen and split.
@@ -62,9 +66,11 @@ const ROWS: &[Row] = &[
     Row::Frozen,
     Row::Array,
     Row::Vector,
+    Row::LastVector,
     Row::Part,
     Row::Metadata,
     Row::Buffer,
+    Row::LastBuffer,
     Row::BufferCut,
     Row::BufferFrozen,
 ];
@@ -209,6 +215,20 @@ fn vector(rt: &impl Wait, heap: Heap<'_>, values: &Values) -> Option<bool> {
     Some([beside, with, living(values)] == [THREE, THREE, [1; 5]])
 }
 
+/// Whether the second of two windows that end gets the vector, with all items.
+fn last_vector(rt: &impl Wait, heap: Heap<'_>, values: &Values) -> Option<bool> {
+    let window = of_vector(heap, values)?;
+    let clone = window.try_clone(rt).ok()?;
+    if window.into_vec_if_last().ok()?.is_some() {
+        return None;
+    }
+    let beside = living(values);
+    let items = clone.into_vec_if_last().ok()??;
+    let with = living(values);
+    drop(items);
+    Some([beside, with, living(values)] == [THREE, THREE, [1; 5]])
+}
+
 /// Whether a part of a vector comes back where the vector is asked for, and drops all items.
 fn part(rt: &impl Wait, heap: Heap<'_>, values: &Values) -> Option<bool> {
     let window = of_vector(heap, values)?;
@@ -265,6 +285,20 @@ fn buffer(alloc: Global, heap: Heap<'_>, values: &Values) -> Option<bool> {
     Some((with, living(values)) == ([2, 2, 2, 2, 1], [1; 5]))
 }
 
+/// The same of a buffer, whose metadata is dropped then.
+fn last_buffer(rt: &impl Wait, alloc: Global, heap: Heap<'_>, values: &Values) -> Option<bool> {
+    let window = of_buffer(alloc, heap, values)?;
+    let clone = window.try_clone(rt).ok()?;
+    if window.into_buffer_if_last().ok()?.is_some() {
+        return None;
+    }
+    let beside = living(values);
+    let buffer = clone.into_buffer_if_last().ok()??;
+    let with = living(values);
+    drop(buffer);
+    Some([beside, with, living(values)] == [[2; 5], [2, 2, 2, 2, 1], [1; 5]])
+}
+
 /// One that is written.
 fn over_buffer<'a>(alloc: Global, heap: Heap<'a>, values: &Values) -> Option<Writer<'a>> {
     over_filled!(Writer, alloc, heap, values)
@@ -306,9 +340,11 @@ fn run(rt: &impl Wait, alloc: Global, heap: Heap<'_>, values: &Values, row: Row)
         Row::Frozen => frozen(rt, heap, values),
         Row::Array => array(heap, values),
         Row::Vector => vector(rt, heap, values),
+        Row::LastVector => last_vector(rt, heap, values),
         Row::Part => part(rt, heap, values),
         Row::Metadata => metadata(rt, alloc, heap, values),
         Row::Buffer => buffer(alloc, heap, values),
+        Row::LastBuffer => last_buffer(rt, alloc, heap, values),
         Row::BufferCut => buffer_cut(alloc, heap, values),
         Row::BufferFrozen => buffer_frozen(rt, alloc, heap, values),
     }

@@ -14,6 +14,8 @@ mod given_back;
 #[cfg(test)]
 mod items;
 #[cfg(test)]
+mod last_owners;
+#[cfg(test)]
 mod layouts;
 #[cfg(test)]
 mod lendings;

@@ -289,3 +289,106 @@ fn refused_with_a_pass(rt: HostRuntime) -> Result<(), Fail> {
     assert!(rt; heap.pieces() == 0);
     Ok(())
 }
+
+/// Two owners of what the reader stands on end by this call: whether the first gets nothing, and
+/// the second has the two bytes.
+macro_rules! last_of_two {
+    ($rt:ident, $made:expr, $end:ident) => {{
+        let mut pass = Pass::none();
+        let window = $made(&mut pass)?;
+        let clone = window.try_clone_as($rt, &mut pass).ok()?;
+        let first = window.$end(&mut pass).ok()?;
+        let last = clone.$end(&mut pass).ok()??;
+        Some([first.is_none(), last.as_slice() == [1, 2].as_slice()])
+    }};
+}
+
+/// The same of a vector, a box, a buffer, and a buffer behind an `Arc`.
+fn last_vector(rt: &impl Wait, heap: Heap<'_>) -> Option<[bool; 2]> {
+    let items = Vec::from_slice(heap, &[1, 2]).ok()?;
+    let made = |pass: &mut Pass| InHeap::try_from_vec_as(heap, items, pass).ok();
+    last_of_two!(rt, made, into_vec_if_last_as)
+}
+
+fn last_box(rt: &impl Wait, heap: Heap<'_>) -> Option<[bool; 2]> {
+    let items = Vec::from_slice(heap, &[1, 2]).ok()?;
+    let made = |pass: &mut Pass| InHeap::try_from_vec_as(heap, items, pass).ok();
+    last_of_two!(rt, made, into_boxed_if_last_as)
+}
+
+fn last_buffer(rt: &impl Wait, heap: Heap<'_>) -> Option<[bool; 2]> {
+    let items = Vec::from_slice(heap, &[1, 2]).ok()?;
+    let made = |pass: &mut Pass| InHeap::try_from_buffer_as(heap, items, pass).ok();
+    last_of_two!(rt, made, into_buffer_if_last_as)
+}
+
+fn last_arc(rt: &impl Wait, heap: Heap<'_>) -> Option<[bool; 2]> {
+    let items = Vec::from_slice(heap, &[1, 2]).ok()?;
+    let shared = Arc::new(heap, items).ok()?;
+    let made = |pass: &mut Pass| InHeap::try_from_raw_buffer_as(heap, shared, pass).ok();
+    last_of_two!(rt, made, into_raw_buffer_if_last_as)
+}
+
+/// Writers whose memory comes from that heap.
+type MutInHeap<'a> = ArcSliceMut<Plain<u8>, DefaultLayoutMut, 1, Vec<u8, Heap<'a>>, (), Heap<'a>>;
+
+/// One of two writers on a block ends, and then the other, who is the only writer then: whether the
+/// first gets nothing, and the other has his byte, and another one in the place of the first.
+fn last_writer(rt: &impl Wait, heap: Heap<'_>) -> Option<[bool; 3]> {
+    let whole: MutInHeap = ArcSliceMut::try_from_slice(heap, &[1, 2]).ok()?;
+    let mut front = whole.into_shared().ok()?;
+    front.check_split_off(1).ok()?;
+    let mut pass = front.pass();
+    let back = front.try_split_off_as(rt, 1, &mut pass).ok()?;
+    let first = back.into_unique_if_last_as(&mut pass).ok()?;
+    let (mut sole, mut next) = front.into_unique_if_last_as(&mut pass).ok()??;
+    let has_own = sole.as_slice() == [1].as_slice() && sole.capacity() == 1;
+    heap.refuse(1);
+    let is_pushed = sole.try_push_as(3, &mut next).is_ok();
+    Some([
+        first.is_none(),
+        has_own,
+        is_pushed && sole.as_slice() == [1, 3].as_slice(),
+    ])
+}
+
+/// Whether windows come back that stand on nothing of the sort: on static data, on a native block,
+/// and one of several writers on a vector.
+fn no_last(alloc: Global) -> Option<[bool; 5]> {
+    let fixed = Reader::from_static(alloc, b"ab");
+    let back = fixed.into_vec_if_last().err()?;
+    let back = back.into_boxed_if_last().err()?;
+    let back = back.into_buffer_if_last().err()?;
+    let back = back.into_raw_buffer_if_last().err()?;
+    let is_fixed = back.as_slice() == b"ab".as_slice();
+    let native = Reader::try_from_slice(alloc, &[1, 2]).ok()?;
+    let back = native.into_vec_if_last().err()?;
+    let is_native = back.as_slice() == [1, 2].as_slice() && back.is_unique();
+    let spare = Vec::with_capacity(alloc, 2).ok()?;
+    let is_spare = Reader::try_from_vec(alloc, spare)
+        .ok()?
+        .into_boxed_if_last()
+        .is_err();
+    let writer = shared_vector(alloc)?.into_unique_if_last().err()?;
+    let is_writer = writer.as_slice() == [1, 2].as_slice();
+    Some([
+        is_fixed,
+        is_native,
+        is_spare,
+        is_writer,
+        writer.try_into_unique().is_ok(),
+    ])
+}
+
+#[test]
+fn last_with_a_pass(rt: HostRuntime) -> Result<(), Fail> {
+    let heap = CountingHeap::new(rt.alloc());
+    assert!(rt; last_vector(&rt, &heap) == Some([true; 2]));
+    assert!(rt; last_box(&rt, &heap) == Some([true; 2]));
+    assert!(rt; last_buffer(&rt, &heap) == Some([true; 2]));
+    assert!(rt; last_arc(&rt, &heap) == Some([true; 2]));
+    assert!(rt; last_writer(&rt, &heap) == Some([true; 3]));
+    assert!(rt; heap.pieces() == 0);
+    assert!(rt; no_last(rt.alloc()) == Some([true; 5]));
+    Ok(())
+}
