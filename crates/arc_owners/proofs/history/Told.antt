@@ -19,7 +19,7 @@ use Rattle.arc_owners.specs.history.Histories.{Beginning, is_in, owner_made, own
 use Rattle.arc_owners.specs.history.Histories.{is_promotion, owners_ever, owners_ended, live_owners}
 use Rattle.arc_owners.specs.history.Histories.{is_counted, LivesAlone, MayFollow, IsLegal}
 use Rattle.arc_owners.specs.history.Laws.{PromotedOnce, LosersAfterWinner, NothingAfterLast}
-use Rattle.arc_owners.specs.history.Laws.{ReleasedByLast, AloneIsExact}
+use Rattle.arc_owners.specs.history.Laws.{ReleasedByLast, AloneIsExact, OneIsLast}
 use Rattle.arc_owners.specs.history.Agreement.{Tells, Agrees}
 use Rattle.arc_owners.specs.history.Machine.{Machine, opening, may_happen, without_number, step}
 use Rattle.arc_owners.specs.history.Machine.{run, after_events}
@@ -244,6 +244,43 @@ released_by_last most began h legal before after entry split none =
     released most began before entry
     (legal-owned most began before (legal-front most began h before (entry ∷ after) legal split))
     (legal-at most began h before entry after legal split) none
+
+-- nobody lives after the Down of who lived alone
+alone-ended : (h : List Entry) (owner : ℕ) → LivesAlone owner h
+    → live_owners (h ++ Down owner ∷ []) ≡ []
+alone-ended h owner alone =
+    live-ended h owner
+    ∙ (ap (without_number owner) alone ∙ rw (eq-eqb owner owner refl) refl)
+
+one-lives : length (live_owners []) ≡ 1
+unfolding live_owners owners_ever owners_ended
+one-lives = refl
+
+-- a list's last element, behind the others
+last-of : (e : Entry) (h : List Entry)
+    → (before : List Entry) × (last : Entry) × (e ∷ h ≡ before ++ last ∷ [])
+last-of e [] = ([], e, refl)
+last-of e (next ∷ h) = let rest = last-of next h in
+    (e ∷ rest.0, rest.1, ap (λ l. e ∷ l) rest.2)
+
+-- of owners that have all ended one was the last
+pub one_is_last : (most : ℕ) (began : Beginning) (h : List Entry) → IsLegal most began h
+    → live_owners h ≡ [] → OneIsLast h
+one_is_last most began [] legal none =
+    absurd (omega (arith, one-lives, ap length none))
+one_is_last most began (e ∷ h) legal none =
+    let split = last-of e h in
+    let told = released_by_last most began (e ∷ h) legal split.0 [] split.1 split.2
+    (sym (ap live_owners split.2) ∙ none) in record {
+      before = split.0;
+      owner = told.0;
+      ends = split.2 ∙ ap (λ last. split.0 ++ last ∷ []) told.1;
+      alone = told.2;
+      only = λ earlier later other is alone.
+          nothing_after_last most began (e ∷ h) legal (earlier ++ Down other ∷ []) later
+          (is ∙ sym (append_assoc earlier (Down other ∷ []) later))
+          (alone-ended earlier other alone);
+    }
 
 -- where nobody lives no event may happen
 may_not : (most : ℕ) (m : Machine) (event : Event) → m.live ≡ [] → may_happen most m event ≡ false

@@ -25,6 +25,16 @@ ReleasedByLast history =
     → live_owners (before ++ entry ∷ []) ≡ []
     → (owner : ℕ) × (entry ≡ Down owner) × IsAlone owner before
 
+-- of owners that have all ended one was the last: he lived alone, and his Down is the history's last
+-- entry; of no other entry is that so
+pub record OneIsLast (history : List Entry) : Type 0 where
+  pub before : List Entry
+  pub owner : ℕ
+  pub ends : history ≡ before ++ Down owner ∷ []
+  pub alone : IsAlone owner before
+  pub only : (earlier later : List Entry) (other : ℕ) → history ≡ earlier ++ Down other ∷ later
+      → IsAlone other earlier → later ≡ []
+
 -- uniqueness is found exactly where no other owner lives
 abbrev pub AloneIsExact : List Entry → Type 0
 AloneIsExact history = (before after : List Entry) (by : ℕ) (found : Bool)

@@ -7,7 +7,7 @@ ghost use Rattle.arc_owners.specs.history.Histories.{Beginning, Counted, live_ow
 ghost use Rattle.arc_owners.specs.history.Machine.{after_events, run};
 ghost use Rattle.arc_owners.specs.history.Agreement.{RunAgrees, ended_by};
 ghost use Rattle.arc_owners.specs.history.Laws.{PromotedOnce, LosersAfterWinner, NothingAfterLast};
-ghost use Rattle.arc_owners.specs.history.Laws.{ReleasedByLast, AloneIsExact};
+ghost use Rattle.arc_owners.specs.history.Laws.{ReleasedByLast, AloneIsExact, OneIsLast};
 
 use super::entry::Entry;
 use super::event::Event;
@@ -62,4 +62,13 @@ pub fn keeps<const MAX: u64>(events: &[Event])
 pub fn is_run<const MAX: u64>(history: &[Entry])
     requires { IsLegal MAX Counted history.now }
     ensures { (events : List AnyEvent) × RunAgrees MAX Counted events history.now }
+{}
+
+/// Of a block's owners that have all ended exactly one was the last. So where each of them ends by a
+/// call that gives the last one what the block kept, one of them gets it. There is nothing to run,
+/// and no memory to take.
+pub fn one_is_last<const MAX: u64>(history: &[Entry])
+    requires legal { (began : Beginning) × IsLegal MAX began history.now }
+    requires ended { live_owners history.now ≡ [] }
+    ensures { OneIsLast history.now }
 {}
