@@ -139,8 +139,12 @@ module _ {early : ℕ} {replies : List (Option ByteReply)} {text : List ℕ}
   -- so many replies there are
   pub stand_many : early ≤ length replies
   stand_many =
-      omega (arith, s.many, ap (λ (xs : List (Option ByteReply)). length xs) s.parts,
-      length-append s.first s.others)
+      omega (
+        arith,
+        s.many,
+        ap (λ (xs : List (Option ByteReply)). length xs) s.parts,
+        length-append s.first s.others,
+      )
 
 -- all stand where all are written
 stand_all : (replies : List (Option ByteReply)) (text : List ℕ) (early : ℕ)

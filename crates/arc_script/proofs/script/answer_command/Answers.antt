@@ -15,8 +15,7 @@ returns g c =
     let reply = line_reply vec_items c.step_here-reply.result in
     let does : CarriesOutSaid g.L.NamedLayout.named table (Some (line_command c.args.command))
     (Some reply)
-    c.step_here-reply.new.self =
-    (
+    c.step_here-reply.new.self = (
       subst (λ s. CarriesOut s table (line_command c.args.command) reply
           c.step_here-reply.new.self) g.met.L.NamedLayout.run_so c.step_here-reply.ensures,
       may_need (line_command c.args.command) reply c.requires,
