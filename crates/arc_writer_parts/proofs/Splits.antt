@@ -118,8 +118,8 @@ module _ {T M H : Type 0} (real : BlockId → ℕ → List Line → Type 0) (one
       }
 
   -- without a block both parts stand on nothing
-  idle-at : (front_stays : Bool) (p : Pass H) → SplitsWriterAt H real front_stays false one_pass 0
-      (as_shared idle_writer) (as_shared idle_writer) (as_shared idle_writer) p p
+  idle-at : (front_stays : Bool) (p : Pass H) → SplitsWriterAt {T = T} {M = M} H real front_stays
+      false one_pass 0 (as_shared idle_writer) (as_shared idle_writer) (as_shared idle_writer) p p
   idle-at true p = record {
     whole = as_shared idle_writer;
     between = p;
