@@ -270,9 +270,9 @@ fn in_turn(rt: &impl Wait, alloc: Global, heap: Heap<'_>, values: &Values, row: 
 
 /// Which of these rows don't go as they are to go, by their numbers.
 fn missed(rt: &impl Wait, alloc: Global, heap: Heap<'_>, rows: &[Row]) -> Option<Vec<usize>> {
-    let values = values(alloc)?;
     let mut missed = Vec::new(alloc);
     for i in 0..rows.len() {
+        let values = values(alloc)?;
         if !in_turn(rt, alloc, heap, &values, rows[i]) {
             missed.push(i).ok()?;
         }
