@@ -3,8 +3,9 @@
 use super::{Heap, Reader, Writer, of_vector_items};
 use crate::living::{Values, living};
 use crate::shelf::{Shelf, filled};
-use arc_block::layout::{AnyBufferLayout, DefaultLayout, DefaultLayoutMut, Layout};
-use arc_block::layout::{RawLayout, VecLayout};
+use arc_block::layout::{
+    AnyBufferLayout, DefaultLayout, DefaultLayoutMut, Layout, RawLayout, VecLayout,
+};
 use arc_buffer::buffer::{AsMutBuffer, BufferMut};
 use arc_buffer::kinds::Owned;
 use arc_owners::error::TryReserveError;
@@ -140,7 +141,9 @@ fn writer<'a>(alloc: Global, heap: Heap<'a>, values: &Values) -> Option<Writer<'
 
 /// A writer that was frozen.
 fn frozen<'a>(alloc: Global, heap: Heap<'a>, values: &Values) -> Option<Reader<'a>> {
-    writer(alloc, heap, values)?.try_freeze::<DefaultLayout>().ok()
+    writer(alloc, heap, values)?
+        .try_freeze::<DefaultLayout>()
+        .ok()
 }
 
 /// One that went to another layout and back.
@@ -151,12 +154,7 @@ fn moved<'a>(alloc: Global, heap: Heap<'a>, values: &Values) -> Option<Reader<'a
 }
 
 /// One that was frozen and writes again, which is refused while a clone lives.
-fn again<'a>(
-    rt: &impl Wait,
-    alloc: Global,
-    heap: Heap<'a>,
-    values: &Values,
-) -> Option<Writer<'a>> {
+fn again<'a>(rt: &impl Wait, alloc: Global, heap: Heap<'a>, values: &Values) -> Option<Writer<'a>> {
     let window = frozen(alloc, heap, values)?;
     let clone = window.try_clone(rt).ok()?;
     let window = window.try_into_mut::<DefaultLayoutMut>().err()?;
