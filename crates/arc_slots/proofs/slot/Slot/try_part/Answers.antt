@@ -47,8 +47,8 @@ returns-then-is_end-clause-itself g c =
     let at = (goal.at.returns-then-is_end-clause-itself g c).After-give_back in
     itself_split (reads g at) c.split_window-made.new.pass
     c.give_back.new.self.of_blocks.items c.give_back.ensures g.L.Layout.STATIC
-    c.split_window-made.new.window c.in-Ok.handed c.part_block-self-inside.result c.len-then-is_end.result
-    c.len-then-is_end.ensures c.part_block-self-inside.ensures c.args.part c.in-Ok.ensures.made
+    c.split_window-made.new.window c.in-Ok.handed c.part_block-self-inside.result
+    c.len-then-is_end.result c.len-then-is_end.ensures c.part_block-self-inside.ensures c.args.part c.in-Ok.ensures.made
 
 pub returns-then-is_end-clause-beside : goal.returns-then-is_end-clause-beside
 returns-then-is_end-clause-beside g c =
