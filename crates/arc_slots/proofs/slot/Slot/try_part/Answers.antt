@@ -48,7 +48,8 @@ returns-then-is_end-clause-itself g c =
     itself_split (reads g at) c.split_window-made.new.pass
     c.give_back.new.self.of_blocks.items c.give_back.ensures g.L.Layout.STATIC
     c.split_window-made.new.window c.in-Ok.handed c.part_block-self-inside.result
-    c.len-then-is_end.result c.len-then-is_end.ensures c.part_block-self-inside.ensures c.args.part c.in-Ok.ensures.made
+    c.len-then-is_end.result c.len-then-is_end.ensures c.part_block-self-inside.ensures
+    c.args.part c.in-Ok.ensures.made
 
 pub returns-then-is_end-clause-beside : goal.returns-then-is_end-clause-beside
 returns-then-is_end-clause-beside g c =
@@ -75,7 +76,8 @@ invariant_of-self-then-is_end g c =
     itself_fits (reads g at) c.split_window-made.new.pass c.give_back.new.self.of_blocks.items
     c.give_back.ensures g.L.Layout.STATIC c.split_window-made.new.window c.in-Ok.handed
     c.part_block-self-inside.result c.len-then-is_end.result c.len-then-is_end.ensures
-    c.part_block-self-inside.ensures c.args.part c.in-Ok.ensures.made
+    c.part_block-self-inside.ensures
+    c.args.part c.in-Ok.ensures.made
     (ends g at ∙ c.if-is_end.true) in
     (fits.0, refl, refl)
 
@@ -86,7 +88,8 @@ invariant_of-result g c =
     itself_fits (reads g at) c.split_window-made.new.pass c.give_back.new.self.of_blocks.items
     c.give_back.ensures g.L.Layout.STATIC c.split_window-made.new.window c.in-Ok.handed
     c.part_block-self-inside.result c.len-then-is_end.result c.len-then-is_end.ensures
-    c.part_block-self-inside.ensures c.args.part c.in-Ok.ensures.made
+    c.part_block-self-inside.ensures
+    c.args.part c.in-Ok.ensures.made
     (ends g at ∙ c.if-is_end.true) in
     (fits.1, refl, refl)
 
