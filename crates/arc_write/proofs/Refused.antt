@@ -1,5 +1,5 @@
 -- Room that a writer of either role is refused leaves all as it was.
-use Rattle.std.proofs.Common.{◌≡◌, ℕ, Bool, true, false, refl, sym, ap, ◌∙◌}
+use Rattle.std.proofs.Common.{◌≡◌, ℕ, Bool, true, false, sym, ap, ◌∙◌}
 use Rattle.std.specs.Prelude.{Result, Ok, Err, is_ok, IfErr, OnErr}
 use Rattle.std.proofs.lemmas.Bool.{false≢true}
 use Rattle.arc_owners.specs.declared.count.tokens.Pass.{Pass}
@@ -9,7 +9,6 @@ use Rattle.arc_parts.specs.declared.room.Room.TheVariants.{Spare, Behind, Front,
 use Rattle.arc_parts.specs.declared.room.Room.TheVariants.{Growth, Own, Refused}
 use Rattle.arc_parts.specs.Shared.{MakesRoomAlone, MakesRoomIf, MakesSharedRoom}
 use Rattle.arc_parts.specs.Shared.{as_shared, as_unique, asks_alone}
-use Rattle.arc_block.specs.Table.{one_writer_of_several}
 use Rattle.arc_parts.specs.Window.{PartsView}
 use Rattle.arc_parts.specs.Writers.{room_for, MakesRoom}
 use Rattle.arc_writer_parts.specs.Roles.{AsksRoom, HasWritersRole}
