@@ -92,6 +92,12 @@ pub trait WriterParts<
         ensures place { StandsAsWriter several (seen self.now).place }
         ensures role { HasWritersRole several (seen self.now).role };
 
+    /// On no block there are no items and no places. Does nothing: its contract is the law.
+    fn known_idle(&self)
+        ensures items { (¬ IsOnBlock (seen self.now).place) → (seen self.now).items ≡ [] }
+        ensures places { (¬ IsOnBlock (seen self.now).place)
+            → capacity_of (seen self.now).role ≡ 0 };
+
     /// How many items there are.
     fn len(&self) -> usize
         ensures { result ≡ length (seen self.now).items };

@@ -43,6 +43,13 @@ impl<S: Slice, B: BufferMut<S::Item> + Drop, M: Drop, A: Allocator + Copy, H: Ma
         }
     }
 
+    fn known_idle(&self) {
+        match &self.on {
+            SharedStorage::Several(_) => (),
+            SharedStorage::Alone(parts) => parts.known_idle(),
+        }
+    }
+
     #[inline(always)]
     fn len(&self) -> usize {
         match &self.on {

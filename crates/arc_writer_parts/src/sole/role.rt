@@ -43,6 +43,11 @@ impl<S: Slice, B: BufferMut<S::Item> + Drop, M: Drop, A: Allocator + Copy, H: Ma
         }
     }
 
+    #[tactic(auto, using(crate::proofs::Idle::no_items, crate::proofs::Idle::no_places))]
+    fn known_idle(&self) {
+        let _ = self.is_on_block();
+    }
+
     #[inline(always)]
     fn len(&self) -> usize {
         match &self.on {
