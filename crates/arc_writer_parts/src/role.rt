@@ -5,6 +5,7 @@ ghost use Rattle.std.specs.Borrow.{Array, Lends, sem};
 ghost use Rattle.std.specs.Mem.{type_size};
 ghost use Rattle.std.specs.Vec.{vec_capacity};
 ghost use Rattle.arc_owners.specs.count.Calls.{IsNewPass, IsPassOfNone, Learns};
+ghost use Rattle.arc_block.specs.Block.{IsLimited};
 ghost use Rattle.arc_block.specs.LayoutFacts.{layout_facts};
 ghost use Rattle.arc_block.specs.Metadata.{IsMetadataAt, IsOnCallers};
 ghost use Rattle.arc_block.specs.Moves.{IsRefused, layout_move};
@@ -354,6 +355,13 @@ pub trait WriterParts<
         requires other { IsPassAt (seen self.now).place other.now }
         ensures { at_owner (seen self.now).place (pass.new ≡ pass.old) (λ o.
             Learns o.block pass.old other.now pass.new) };
+
+    /// `MAX_OWNERS`: how many owners the block may have at once. The contract says too that the
+    /// block is under the mark `H`.
+    fn max_owners(&self) -> u64
+        ensures answer { result ≡ 9223372036854775807 }
+        ensures block { at_owner (seen self.now).place (Unit {0}) (λ o.
+            IsLimited 9223372036854775807 H.whole o) };
 
     /// A new pass of the block. It has seen at least how this owner became one, and nothing was
     /// made with it. On no block it is a pass of none. It adds no entry.

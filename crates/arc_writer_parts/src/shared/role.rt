@@ -299,6 +299,13 @@ impl<S: Slice, B: BufferMut<S::Item> + Drop, M: Drop, A: Allocator + Copy, H: Ma
         drop(self)
     }
 
+    fn max_owners(&self) -> u64 {
+        match &self.on {
+            SharedStorage::Several(writer) => writer.max_owners(),
+            SharedStorage::Alone(parts) => parts.max_owners(),
+        }
+    }
+
     fn learn(&self, pass: &mut Pass<H>, other: &Pass<H>) {
         match &self.on {
             SharedStorage::Several(writer) => writer.learn(pass, other),

@@ -283,6 +283,14 @@ impl<S: Slice, B: BufferMut<S::Item> + Drop, M: Drop, A: Allocator + Copy, H: Ma
         drop(self)
     }
 
+    fn max_owners(&self) -> u64 {
+        match &self.on {
+            SoleStorage::Other(SoleOther::Buffer(parts)) => parts.max_owners(),
+            SoleStorage::Native(parts) => parts.max_owners(),
+            SoleStorage::Other(SoleOther::Vector(parts)) => parts.max_owners(),
+        }
+    }
+
     fn learn(&self, pass: &mut Pass<H>, other: &Pass<H>) {
         match &self.on {
             SoleStorage::Native(parts) => parts.learn(pass, other),
