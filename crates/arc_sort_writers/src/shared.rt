@@ -22,7 +22,7 @@ ghost use Rattle.arc_memory.specs.SharedWriters.{writer_range, writer_items};
 ghost use Rattle.arc_memory.specs.WriterParts.{SplitsOwner};
 ghost use Rattle.arc_owners.specs.memory.Boxes.{owner_in, value_of, place_in};
 
-use arc_block::block::{MAX_OWNERS, NativeBlock, NativeCount};
+use arc_block::block::{MAX_OWNERS, NativeBlock, NativeCount, max_owners};
 use arc_buffer::kinds::Slice;
 use arc_memory::{Base, HeadSize, Kept, LifetimeToken, SharedWriter, WriterMemory, WriterPart};
 use arc_owners::error::{AllocError, CountFull};
@@ -191,6 +191,16 @@ impl<T: Drop, A: Allocator + Copy, H: Mark> SharedNative<T, A, H> {
                 None
             }
         }
+    }
+
+    /// `MAX_OWNERS`: how many owners the block may have at once. The contract says too that the
+    /// block is under the mark `H`.
+    pub fn max_owners(&self) -> u64
+        ensures answer { result ≡ 9223372036854775807 }
+        ensures block { IsLimited 9223372036854775807 H.whole self.now.owner }
+    {
+        let _ = &self.writer;
+        max_owners()
     }
 
     /// How many items there are.

@@ -1,9 +1,10 @@
 //! `WriteWindow`, a window that is written, and `ArcSliceMut`, its name by the writer's role.
-ghost use Rattle.std.specs.Prelude.{◌≡◌, false};
+ghost use Rattle.std.specs.Prelude.{◌≡◌, [], false};
 ghost use Rattle.arc_block.specs.LayoutFacts.{layout_facts};
+ghost use Rattle.arc_block.specs.Place.{IsOnBlock};
 ghost use Rattle.arc_parts.specs.Steps.{EndsShownAt};
 ghost use Rattle.arc_parts.specs.Window.{IsBlockHeld};
-ghost use Rattle.arc_parts.specs.Writers.{idle_writer};
+ghost use Rattle.arc_parts.specs.Writers.{capacity_of, idle_writer};
 ghost use Rattle.arc_writer_parts.specs.Roles.{HasWritersRole, StandsAsWriter};
 
 use arc_block::layout::{DefaultLayoutMut, LayoutMut};
@@ -164,6 +165,14 @@ impl<
         ensures role { HasWritersRole R.Parts.several self.now.role }
     {
         self.parts.known_place();
+    }
+
+    /// On no block the window has no items and no places. Does nothing: its contract is the law.
+    pub fn known_idle(&self)
+        ensures items { (¬ IsOnBlock self.now.place) → self.now.items ≡ [] }
+        ensures places { (¬ IsOnBlock self.now.place) → capacity_of self.now.role ≡ 0 }
+    {
+        self.parts.known_idle();
     }
 }
 

@@ -5,6 +5,7 @@ ghost use Rattle.std.specs.Borrow.{Array, Lends, sem};
 ghost use Rattle.std.specs.Mem.{type_size};
 ghost use Rattle.std.specs.Vec.{vec_capacity};
 ghost use Rattle.arc_owners.specs.count.Calls.{IsNewPass, IsPassOfNone, Learns};
+ghost use Rattle.arc_block.specs.Block.{IsLimited};
 ghost use Rattle.arc_block.specs.LayoutFacts.{layout_facts};
 ghost use Rattle.arc_block.specs.Metadata.{IsMetadataAt, IsOnCallers};
 ghost use Rattle.arc_block.specs.Moves.{IsRefused, layout_move};
@@ -91,6 +92,12 @@ pub trait WriterParts<
     fn known_place(&self)
         ensures place { StandsAsWriter several (seen self.now).place }
         ensures role { HasWritersRole several (seen self.now).role };
+
+    /// On no block there are no items and no places. Does nothing: its contract is the law.
+    fn known_idle(&self)
+        ensures items { (¬ IsOnBlock (seen self.now).place) → (seen self.now).items ≡ [] }
+        ensures places { (¬ IsOnBlock (seen self.now).place)
+            → capacity_of (seen self.now).role ≡ 0 };
 
     /// How many items there are.
     fn len(&self) -> usize
@@ -348,6 +355,13 @@ pub trait WriterParts<
         requires other { IsPassAt (seen self.now).place other.now }
         ensures { at_owner (seen self.now).place (pass.new ≡ pass.old) (λ o.
             Learns o.block pass.old other.now pass.new) };
+
+    /// `MAX_OWNERS`: how many owners the block may have at once. The contract says too that the
+    /// block is under the mark `H`.
+    fn max_owners(&self) -> u64
+        ensures answer { result ≡ 9223372036854775807 }
+        ensures block { at_owner (seen self.now).place (Unit {0}) (λ o.
+            IsLimited 9223372036854775807 H.whole o) };
 
     /// A new pass of the block. It has seen at least how this owner became one, and nothing was
     /// made with it. On no block it is a pass of none. It adds no entry.

@@ -59,7 +59,6 @@ where
             (size_at self.new.place) reply) }
         ensures same { OnErr result (self.new ≡ self.old) }
     {
-        self.known_place();
         match self.try_extend_from_str(text) {
             Ok(()) => Ok(()),
             Err(_) => Err(fmt::Error),
@@ -109,7 +108,6 @@ where
             (size_at self.new.place) reply) }
         ensures same { OnErr result (self.new ≡ self.old) }
     {
-        self.known_place();
         match self.try_extend_from_slice(text.as_bytes()) {
             Ok(()) => Ok(()),
             Err(_) => Err(fmt::Error),
@@ -159,7 +157,6 @@ where
             (size_at self.new.place) reply) }
         ensures same { OnErr result (self.new ≡ self.old) }
     {
-        self.known_place();
         match self.try_extend_from_slice(text.as_bytes()) {
             Ok(()) => Ok(()),
             Err(_) => Err(fmt::Error),

@@ -1,6 +1,7 @@
 //! Owners of a write window's block, and ends of the window.
 ghost use Rattle.std.specs.Prelude.{◌≡◌, false, true};
 ghost use Rattle.arc_owners.specs.count.Calls.{IsNewPass, IsPassOfNone, Learns, SeesAlone};
+ghost use Rattle.arc_block.specs.Block.{IsLimited};
 ghost use Rattle.arc_block.specs.Place.{at_owner};
 ghost use Rattle.arc_parts.specs.Steps.{EndsAt, IsPassAt};
 ghost use Rattle.arc_writer_parts.specs.Roles.{ReleasesAt, ReleasesHintedAt};
@@ -90,6 +91,16 @@ impl<
         ensures ended { H.whole ≡ false → EndsAt self.place result }
     {
         self.into_parts().let_go()
+    }
+
+    /// `MAX_OWNERS`: how many owners the window's block may have at once. The contract says too
+    /// that the block is under the mark `H`.
+    pub fn max_owners(&self) -> u64
+        ensures answer { result ≡ 9223372036854775807 }
+        ensures block { at_owner self.now.place (Unit {0}) (λ o.
+            IsLimited 9223372036854775807 H.whole o) }
+    {
+        self.parts.max_owners()
     }
 
     /// A new pass of the window's block. It has seen at least how the window became an owner, and

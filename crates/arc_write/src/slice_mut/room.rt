@@ -1,5 +1,5 @@
 //! Room for items more, of a sole writer and of one of several.
-ghost use Rattle.std.specs.Prelude.{◌+◌, ◌≡◌, ◌≤◌, false, is_ok, length, OnOk};
+ghost use Rattle.std.specs.Prelude.{◌+◌, ◌≡◌, ◌≤◌, false, is_ok, length, OnErr, OnOk};
 ghost use Rattle.std.specs.Mem.{type_size};
 ghost use Rattle.arc_block.specs.Place.{size_at};
 ghost use Rattle.arc_parts.specs.Shared.{asks_alone, ReclaimsShared};
@@ -70,7 +70,9 @@ impl<
             result) }
         ensures within { StaysWithin R.Parts.several additional
             self.old self.new (is_ok result) }
+        ensures same { OnErr result (self.new ≡ self.old) }
     {
+        self.known_place();
         self.parts.try_reserve_as(additional, pass)
     }
 
@@ -113,6 +115,7 @@ impl<
             result) }
         ensures within { StaysWithin R.Parts.several additional
             self.old self.new (is_ok result) }
+        ensures same { OnErr result (self.new ≡ self.old) }
     {
         let mut pass = self.pass();
         let made = self.try_reserve_as(additional, &mut pass);

@@ -69,7 +69,9 @@ impl<
             result) }
         ensures within { StaysWithin R.Parts.several (length text.now)
             self.old self.new (is_ok result) }
+        ensures same { OnErr result (self.new ≡ self.old) }
     {
+        self.known_place();
         self.parts.try_extend_from_slice_as(text.as_bytes(), pass)
     }
 
@@ -104,6 +106,7 @@ impl<
             result) }
         ensures within { StaysWithin R.Parts.several (length text.now)
             self.old self.new (is_ok result) }
+        ensures same { OnErr result (self.new ≡ self.old) }
     {
         let mut pass = self.pass();
         let extended = self.try_extend_from_str_as(text, &mut pass);

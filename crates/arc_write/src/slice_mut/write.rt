@@ -80,7 +80,9 @@ impl<
             AsksForRoom B.list B.places B.grows B.refuses self.old k (size_at self.new.place)
             (without_item result)) }
         ensures within { StaysWithin R.Parts.several 1 self.old self.new (is_ok result) }
+        ensures same { OnErr result (self.new ≡ self.old) }
     {
+        self.known_place();
         self.parts.try_push_as(item, pass)
     }
 
@@ -116,6 +118,7 @@ impl<
             AsksForRoom B.list B.places B.grows B.refuses self.old k (size_at self.new.place)
             (without_item result)) }
         ensures within { StaysWithin R.Parts.several 1 self.old self.new (is_ok result) }
+        ensures same { OnErr result (self.new ≡ self.old) }
     {
         let mut pass = self.pass();
         let pushed = self.try_push_as(item, &mut pass);
@@ -160,7 +163,9 @@ impl<
             (size_at self.new.place) result) }
         ensures within { StaysWithin R.Parts.several (length items.now)
             self.old self.new (is_ok result) }
+        ensures same { OnErr result (self.new ≡ self.old) }
     {
+        self.known_place();
         self.parts.try_extend_from_slice_as(items, pass)
     }
 
@@ -198,6 +203,7 @@ impl<
             (size_at self.new.place) result) }
         ensures within { StaysWithin R.Parts.several (length items.now)
             self.old self.new (is_ok result) }
+        ensures same { OnErr result (self.new ≡ self.old) }
     {
         let mut pass = self.pass();
         let extended = self.try_extend_from_slice_as(items, &mut pass);
