@@ -3,6 +3,7 @@ pub mod Writers
 pub mod Lent
 pub mod SoleNatives
 pub mod CutNatives
+pub mod CutKeeps
 pub mod SoleBuffers
 pub mod Growth
 pub mod Soles

@@ -8,12 +8,12 @@ use Rattle.std.proofs.lemmas.Bool.{eq-eqb, eqb-true, ne_eqb, lt-ltb}
 use Rattle.std.proofs.lemmas.List.{drop-take, take-take, take_all, drop-append-le, length-append}
 use Rattle.arc_owners.specs.count.Calls.{Owner}
 use Rattle.arc_buffer.specs.Slice.{sub}
-use Rattle.arc_buffer.proofs.Sub.{length-sub, sub-whole}
+use Rattle.arc_buffer.proofs.Sub.{length-sub}
 use Rattle.arc_block.specs.Block.{Sort, BlockInfo, full_places, memory_info}
 use Rattle.arc_block.specs.Place.{on_block}
 use Rattle.arc_block.specs.Table.{sole_writer}
 use Rattle.arc_parts.specs.Window.{PartsView}
-use Rattle.arc_parts.specs.Writers.{writer_capacity, with_more, after_truncate, writer_over}
+use Rattle.arc_parts.specs.Writers.{writer_capacity, with_more, after_truncate}
 use Rattle.arc_sort_writers.specs.SortParts.{memory_part}
 
 -- a slice from start to end is what is there between these

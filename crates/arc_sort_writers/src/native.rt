@@ -178,7 +178,7 @@ fn grown<S: Slice, A: Allocator>(
 
 impl<S: Slice, M: Drop, A: Allocator + Copy, H: Mark> SoleNative<S, M, A, H> {
     /// No items and no places, on nothing.
-    #[tactic(auto, using(crate::proofs::CutNatives::keeps_both))]
+    #[tactic(auto, using(crate::proofs::CutKeeps::keeps_both))]
     pub fn on_nothing(alloc: A) -> Self
         ensures { result ≡ record { items = []; place = nowhere; role = sole_writer 0 } }
     {
@@ -403,7 +403,7 @@ impl<S: Slice, M: Drop, A: Allocator + Copy, H: Mark> SoleNative<S, M, A, H> {
     }
 
     /// All items of this memory, which becomes a new block's. The pass becomes that block's.
-    #[tactic(auto, using(crate::proofs::CutNatives::keeps_both))]
+    #[tactic(auto, using(crate::proofs::CutKeeps::keeps_both))]
     fn on_new(alloc: A, memory: WriterMemory<S::Item, A>, pass: &mut Pass<H>) -> Self
         requires start { memory.places.under.start ≡ 0 }
         requires block { IsPiece memory.source }

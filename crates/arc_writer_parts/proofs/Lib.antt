@@ -2,4 +2,3 @@ pub mod Splits
 pub mod Rooms
 pub mod Takes
 pub mod Frozen
-pub mod Lasts

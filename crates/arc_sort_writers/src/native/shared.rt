@@ -73,7 +73,7 @@ impl<S: Slice, M: Drop, A: Allocator + Copy, H: Mark> SoleNative<S, M, A, H> {
 
     /// All items of a block's memory, whose only owner this is, with the first `capacity` of the
     /// memory's places.
-    #[tactic(auto, using(crate::proofs::CutNatives::keeps_own))]
+    #[tactic(auto, using(crate::proofs::CutKeeps::keeps_own))]
     pub fn of_several(
         alloc: A,
         count: NativeCount<MAX_OWNERS, H>,

@@ -1,5 +1,5 @@
 -- What lies before and behind the part is forgotten.
-use Rattle.arc_sort_writers.proofs.CutNatives.{part_forgotten}
+use Rattle.arc_sort_writers.proofs.CutKeeps.{part_forgotten}
 use Rattle.arc_sort_writers.proofs.native.forgotten_part.Goals as goal
 
 pub returns : goal.returns

@@ -1,6 +1,6 @@
 -- Where items are dropped one by one, the writer's places go up to the end once there are more.
 use Rattle.std.proofs.Common.{sym, ◌∙◌}
-use Rattle.arc_sort_writers.proofs.CutNatives.{keeps_grown}
+use Rattle.arc_sort_writers.proofs.CutKeeps.{keeps_grown}
 use Rattle.arc_sort_writers.proofs.native.grown.Goals as goal
 
 pub returns-then-DROPS-clause-kept : goal.returns-then-DROPS-clause-kept

@@ -1,6 +1,6 @@
 -- What lies before and behind the part stays there.
 use Rattle.std.proofs.Common.{arith}
-use Rattle.arc_sort_writers.proofs.CutNatives.{part_kept, part_kept_short}
+use Rattle.arc_sort_writers.proofs.CutKeeps.{part_kept, part_kept_short}
 use Rattle.arc_sort_writers.proofs.native.kept_part.Goals as goal
 
 pub returns : goal.returns

@@ -4,8 +4,9 @@ use Rattle.std.specs.Option.{option_map}
 use Rattle.arc_owners.specs.memory.SoleCounts.{count_owner}
 use Rattle.std.proofs.lemmas.Bool.{false≢true}
 use Rattle.std.proofs.lemmas.List.{length-drop}
-use Rattle.arc_sort_writers.proofs.CutNatives.{advanced_cut, within_at, keeps_all, keeps_own}
-use Rattle.arc_sort_writers.proofs.CutNatives.{last_front}
+use Rattle.arc_sort_writers.proofs.CutNatives.{advanced_cut}
+use Rattle.arc_sort_writers.proofs.CutKeeps.{within_at, keeps_all, keeps_own}
+use Rattle.arc_sort_writers.proofs.CutKeeps.{last_front}
 use Rattle.arc_sort_writers.proofs.native.SoleNative.advance.Goals as goal
 
 pub returns-then-DROPS : goal.returns-then-DROPS

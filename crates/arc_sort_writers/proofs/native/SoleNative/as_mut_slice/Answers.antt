@@ -2,7 +2,8 @@
 use Rattle.std.proofs.Common.{refl, ap, ◌∙◌}
 use Rattle.std.specs.Option.{option_map}
 use Rattle.arc_owners.specs.memory.SoleCounts.{count_owner}
-use Rattle.arc_sort_writers.proofs.CutNatives.{lent_cut, within_lent}
+use Rattle.arc_sort_writers.proofs.CutNatives.{lent_cut}
+use Rattle.arc_sort_writers.proofs.CutKeeps.{within_lent}
 use Rattle.arc_sort_writers.proofs.native.SoleNative.as_mut_slice.Goals as goal
 
 pub returns : goal.returns

@@ -3,7 +3,8 @@ use Rattle.std.proofs.Common.{◌+◌, sym, ap, ◌∙◌, subst}
 use Rattle.std.specs.Option.{option_map}
 use Rattle.arc_owners.specs.memory.SoleCounts.{count_owner}
 use Rattle.arc_sort_writers.specs.CutParts.{cut_native, IsCutNative}
-use Rattle.arc_sort_writers.proofs.CutNatives.{frozen_cut, among_cut}
+use Rattle.arc_sort_writers.proofs.CutNatives.{frozen_cut}
+use Rattle.arc_sort_writers.proofs.CutKeeps.{among_cut}
 use Rattle.arc_sort_writers.proofs.native.SoleNative.freeze.Goals as goal
 
 pub returns-in-Some : goal.returns-in-Some

@@ -2,7 +2,8 @@
 use Rattle.std.proofs.Common.{◌∷◌, [], arith}
 use Rattle.std.specs.Option.{option_map}
 use Rattle.arc_owners.specs.memory.SoleCounts.{count_owner}
-use Rattle.arc_sort_writers.proofs.CutNatives.{push_cut, within_more, fits_cut}
+use Rattle.arc_sort_writers.proofs.CutNatives.{push_cut, fits_cut}
+use Rattle.arc_sort_writers.proofs.CutKeeps.{within_more}
 use Rattle.arc_sort_writers.proofs.native.SoleNative.push_reserved.Goals as goal
 
 pub returns : goal.returns

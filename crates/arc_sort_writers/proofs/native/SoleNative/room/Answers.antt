@@ -3,7 +3,7 @@ use Rattle.std.proofs.Common.{◌+◌, length, ap, arith}
 use Rattle.arc_owners.specs.memory.SoleCounts.{count_owner}
 use Rattle.std.specs.Mem.{type_size}
 use Rattle.arc_parts.specs.Writers.{capacity_of}
-use Rattle.arc_sort_writers.proofs.CutNatives.{behind_room, growth_room}
+use Rattle.arc_sort_writers.proofs.CutKeeps.{behind_room, growth_room}
 use Rattle.arc_sort_writers.proofs.native.SoleNative.room.Goals as goal
 
 pub returns-clause-behind : goal.returns-clause-behind

@@ -3,8 +3,9 @@ use Rattle.std.proofs.Common.{◌+◌, ◌-◌, ◌<◌, length, sym, ap, ◌∙
 use Rattle.std.specs.Option.{option_map}
 use Rattle.arc_owners.specs.memory.SoleCounts.{count_owner}
 use Rattle.std.proofs.lemmas.List.{length-take-le}
-use Rattle.arc_sort_writers.proofs.CutNatives.{forgotten_cut, kept_cut, within_at, within_short}
-use Rattle.arc_sort_writers.proofs.CutNatives.{keeps_all, last_back}
+use Rattle.arc_sort_writers.proofs.CutNatives.{forgotten_cut, kept_cut}
+use Rattle.arc_sort_writers.proofs.CutKeeps.{within_at, within_short}
+use Rattle.arc_sort_writers.proofs.CutKeeps.{keeps_all, last_back}
 use Rattle.arc_sort_writers.proofs.native.SoleNative.truncate.Goals as goal
 
 pub returns-then-DROPS : goal.returns-then-DROPS
