@@ -1,10 +1,9 @@
 -- What is kept of a window that reads tells where it stands.
-use Rattle.std.proofs.Common.{◌≡◌, ℕ, ◌+◌, ◌-◌, ◌≤◌, List, [], ◌∷◌, length, drop, Option, Some, None}
-use Rattle.std.proofs.Common.{refl, ap, ◌∙◌, sym, subst, arith}
+use Rattle.std.proofs.Common.{◌≡◌, ℕ, ◌+◌, ◌-◌, ◌≤◌, List, [], ◌∷◌, length, drop}
+use Rattle.std.proofs.Common.{Option, Some, None, refl, ap, ◌∙◌, sym, subst, arith}
 use Rattle.std.proofs.lemmas.List.{length-drop}
 use base.Stored.{Gv, gnil, gnum, gcons}
 use Rattle.arc_owners.specs.count.Calls.{Owner}
-use Rattle.arc_block.specs.Block.{BlockInfo}
 use Rattle.arc_block.specs.Place.{Place, nowhere, static_data, on_block, moved, at_owner}
 use Rattle.arc_read.specs.Ends.{end_place}
 use Rattle.arc_read.specs.Kept.{numbers, Standing, standing, standing_coded, kept_read}
@@ -95,8 +94,8 @@ module _ {T M : Type 0} where
       (kept : kept_read new after ≡ kept_read old before) where
     standing_told : standing new ≡ standing old
     standing_told = standing_coded.inj (standing new) (standing old)
-        (numbers_told (standing_coded.code (standing new)) (standing_coded.code (standing old)) [] []
-        (ap (λ (all : List (List ℕ × ℕ)). (first {X = List ℕ × ℕ} ([], 0) all).0) kept)).0
+        (numbers_told (standing_coded.code (standing new)) (standing_coded.code (standing old)) []
+        [] (ap (λ (all : List (List ℕ × ℕ)). (first {X = List ℕ × ℕ} ([], 0) all).0) kept)).0
 
     end_told : end_place new after ≡ end_place old before
     end_told = ap (λ (all : List (List ℕ × ℕ)). (first {X = List ℕ × ℕ} ([], 0) all).1) kept

@@ -1,11 +1,12 @@
 -- What a read by `Buf` leaves of a window, written as numbers, since the trait's `kept` has nothing
 -- else.
-use Rattle.std.specs.Prelude.{◌≡◌, ℕ, zero, suc, List, [], ◌∷◌, Option, Some, None, true, false, refl}
+use Rattle.std.specs.Prelude.{◌≡◌, ℕ, zero, suc, true, false, List, [], ◌∷◌, Option, Some, None}
+use Rattle.std.specs.Prelude.{refl}
 use Rattle.std.specs.Coded.{Coded, code_by, coded×, coded_list, coded_option, coded_ℕ}
 use base.Stored.{Gv, gnil, gnum, gcons}
 use Rattle.arc_owners.specs.count.Calls.{Owner}
 use Rattle.arc_owners.specs.count.Invariant.{BlockId, Line, block_id_coded, line_coded}
-use Rattle.arc_block.specs.Block.{Sort, native, vector, buffer, raw, BlockInfo}
+use Rattle.arc_block.specs.Block.{Sort, native, vector, buffer, raw}
 use Rattle.arc_block.specs.Place.{Place, nowhere, static_data, on_block}
 use Rattle.arc_read.specs.Ends.{end_place}
 
@@ -62,8 +63,8 @@ abbrev pub standing_coded : Coded Standing
 standing_coded = coded_option (coded_option
     (coded× (coded_option owner_coded) (coded× sort_coded (coded× coded_ℕ (coded_option coded_ℕ)))))
 
--- what a read leaves of a window that reads: its block as the same owner, with the sort, the size and
--- the full places, and where its items end
+-- what a read leaves of a window that reads: its block, as the same owner, with the sort, the size
+-- and the full places, and where its items end
 abbrev pub kept_read : {T M : Type 0} → Place (Option Owner) M → List T → List (List ℕ × ℕ)
 kept_read place items =
     (numbers (standing_coded.code (standing place)) [], end_place place items) ∷ []
