@@ -11,7 +11,7 @@ use Rattle.arc_block.specs.Block.{Sort, native, vector, buffer, raw}
 use Rattle.arc_block.specs.Layouts.{LayoutFacts}
 use Rattle.arc_block.specs.Place.{Place, nowhere, static_data, on_block}
 use Rattle.arc_parts.specs.Shared.{CanSplit, StandsToSplit, StandsToSplitAt}
-use Rattle.arc_parts.specs.Shared.{SplitsWriterAt, joined_row, part_at}
+use Rattle.arc_parts.specs.Shared.{SplitsWriterAt, SplitsWriterOff, SplitsWriterTo, joined_row, part_at}
 use Rattle.arc_parts.specs.Steps.{Shares}
 use Rattle.arc_parts.specs.Window.{PartsView, IsBlockHeld}
 use Rattle.arc_parts.specs.Writers.{after_advance, capacity_of}
@@ -116,6 +116,33 @@ module _ {T M H : Type 0} (real : BlockId → ℕ → List Line → Type 0) (one
           subst (λ xs. ∥ legal xs ∥₁) (sym split.items)
               (part-legal (not front_stays) split.whole whole),
         )
+
+module _ {T M H : Type 0} (real : BlockId → ℕ → List Line → Type 0) (one_pass : Bool) (at : ℕ)
+    (w stays made : PartsView T M) (before after : Pass H) where
+  -- a split by which the front stays, and one by which the back does
+  pub front_stays : SplitsWriterAt H real true false one_pass at w stays made before after
+      → SplitsWriterOff H real false one_pass at w stays made before after
+  front_stays split = record {
+    whole = split.whole;
+    between = split.between;
+    stands = split.stands;
+    stays = split.stays;
+    items = split.items;
+    role = split.role;
+    shares = split.shares;
+  }
+
+  pub back_stays : SplitsWriterAt H real false false one_pass at w stays made before after
+      → SplitsWriterTo H real false one_pass at w made stays before after
+  back_stays split = record {
+    whole = split.whole;
+    between = split.between;
+    stands = split.stands;
+    stays = split.stays;
+    items = split.items;
+    role = split.role;
+    shares = split.shares;
+  }
 
 module _ {T M : Type 0} (legal : List T → Type 0) where
   -- two neighbours have legal lists, one behind the other

@@ -8,14 +8,13 @@ use Rattle.arc_owners.specs.count.Invariant.{BlockId, Line}
 use Rattle.arc_owners.specs.count.Calls.{Owner, IsOfBlock, Leaves}
 use Rattle.arc_owners.specs.count.Calls.{pass_block, pass_number, history_of}
 use Rattle.arc_memory.specs.WriterParts.{SplitsOwner}
-use Rattle.arc_block.specs.Block.{Sort, native, vector, buffer, raw, memory_info}
+use Rattle.arc_block.specs.Block.{Sort, native, vector, buffer, raw}
 use Rattle.arc_sort_writers.specs.NativeWriters.{NativeWriter, native_row, front_writer}
 use Rattle.arc_sort_writers.specs.NativeWriters.{back_writer, IsAlonePlace}
 use Rattle.arc_block.specs.Place.{Place, nowhere, static_data, on_block, IsOnBlock, at_owner}
 use Rattle.arc_parts.specs.Shared.{StandsToSplit, StandsToSplitAt, SplitsWriterAt, MovesToNative}
 use Rattle.arc_parts.specs.Shared.{as_shared, LeavesShown, RefusesSplit, RefusesSplitAt}
 use Rattle.arc_parts.specs.Shared.{is_vector, is_vector_at, IsSharedPlace}
-use Rattle.arc_block.specs.Table.{one_writer_of_several}
 use Rattle.arc_parts.specs.Window.{PartsView}
 use Rattle.arc_parts.specs.Writers.{idle_writer}
 
@@ -118,8 +117,8 @@ module _ {T M H : Type 0} (real : BlockId → ℕ → List Line → Type 0) (one
       }
 
   -- without a block both parts stand on nothing
-  idle-at : (front_stays : Bool) (p : Pass H) → SplitsWriterAt H real front_stays false one_pass 0
-      (as_shared idle_writer) (as_shared idle_writer) (as_shared idle_writer) p p
+  idle-at : (front_stays : Bool) (p : Pass H) → SplitsWriterAt {T = T} {M = M} H real front_stays
+      false one_pass 0 (as_shared idle_writer) (as_shared idle_writer) (as_shared idle_writer) p p
   idle-at true p = record {
     whole = as_shared idle_writer;
     between = p;

@@ -180,8 +180,9 @@ impl<
 
     /// Ends the window, where its block is a vector, by one subtraction from the count. The last
     /// owner gets the vector, with the window's items moved to its front, and every other one
-    /// `None`. So of owners that all end by this call exactly one gets it. Items that are dropped
-    /// one by one have to be all of the vector.
+    /// `None`. So of owners that all end by this call exactly one gets it, by the law
+    /// `one_is_last` of `arc_owners`. Items that are dropped one by one have to be all of the
+    /// vector.
     ///
     /// # Errors
     ///

@@ -1,5 +1,5 @@
 //! The program's word for a storm of clones: how many threads it asks for, and what is written.
-ghost use Rattle.std.specs.Prelude.{◌≡◌, ◌++◌, ◌∷◌, [], ℕ, ◌<◌, ◌≤◌, MatchOption, String};
+ghost use Rattle.std.specs.Prelude.{◌≡◌, ◌++◌, ◌∷◌, [], ℕ, ◌<◌, MatchOption, String};
 ghost use Rattle.std.specs.declared.alloc.Global.{Global};
 ghost use Rattle.arc_forms.specs.Text.{hex, line_feed};
 ghost use Rattle.arc_script.specs.Traffic.{Takes};
@@ -61,9 +61,9 @@ fn item_line(item: u8) -> [u8; 3]
     [digit_of(item / 16), digit_of(item % 16), b'\n']
 }
 
-/// Lets so many threads, from 1 to 64, clone one window, writes the vector that comes back, and
-/// answers the program's status; a fault is told in one line. The threads pass the gate as `storm`
-/// says; the program's holds nobody up.
+/// Lets `workers` threads clone one window, writes the vector that comes back, and answers the
+/// program's status. A refusal or a write that fails is told in one line. The threads pass the gate
+/// as `storm` says.
 ///
 /// # Allocates
 ///
@@ -75,8 +75,6 @@ pub fn run_storm<R: Threads + Wait + Sync + AllocGlobal, G: Gate + Sync, W: Sink
     writer: &mut W,
     faults: &mut F,
 ) -> u8
-    requires some { 1 ≤ workers }
-    requires most { workers ≤ 64 }
     ensures ran { IsStorm (W.traffic writer.old) (W.traffic writer.new)
         (F.traffic faults.old) (F.traffic faults.new) result }
     ensures taken { Takes (W.traffic writer.old) (W.traffic writer.new)

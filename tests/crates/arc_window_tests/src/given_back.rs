@@ -1,8 +1,11 @@
 //! Items that are dropped one by one, callers' buffers and metadata, over a heap that counts:
 //! whichever request for memory is refused, each is dropped once or comes back, and all memory is
 //! given back.
+mod buffers;
+
+use self::buffers::{ENDS, End, MADE, Made};
 use crate::living::{Values, all_five, first_three, living, values};
-use crate::shelf::{Shelf, filled};
+use crate::shelf::Shelf;
 use arc_block::layout::{DefaultLayout, DefaultLayoutMut};
 use arc_buffer::buffer::AsMutBuffer;
 use arc_buffer::kinds::Owned;
@@ -46,19 +49,11 @@ enum Row {
     LastVector,
     /// A part of a vector, which isn't given for it.
     Part,
-    /// A buffer with metadata beside a clone.
-    Metadata,
-    /// A buffer that is taken back.
-    Buffer,
-    /// The second of two windows that end gets the buffer.
-    LastBuffer,
-    /// A writer over a buffer, which is cut short.
-    BufferCut,
-    /// A writer over a buffer, which is frozen and split.
-    BufferFrozen,
+    /// A caller's buffer.
+    Buffer(Made, End),
 }
 
-/// All rows.
+/// All rows but those of buffers.
 const ROWS: &[Row] = &[
     Row::CutShort,
     Row::Grown,
@@ -68,11 +63,6 @@ const ROWS: &[Row] = &[
     Row::Vector,
     Row::LastVector,
     Row::Part,
-    Row::Metadata,
-    Row::Buffer,
-    Row::LastBuffer,
-    Row::BufferCut,
-    Row::BufferFrozen,
 ];
 
 /// How many owners there are of values of which the first three are somewhere else too.
@@ -184,14 +174,18 @@ fn array(heap: Heap<'_>, values: &Values) -> Option<bool> {
     Some((with, living(values)) == (THREE, [1; 5]))
 }
 
+/// A vector of the first three values, which is made anew where memory is refused.
+fn of_vector_items<'a>(heap: Heap<'a>, values: &Values) -> Option<Vec<Arc<u8>, Heap<'a>>> {
+    match Vec::from_array(heap, first_three(values)?) {
+        Ok(items) => Some(items),
+        Err(_) => Vec::from_array(heap, first_three(values)?).ok(),
+    }
+}
+
 /// A window of a vector of the first three values. Where memory is refused it comes back, and goes
 /// in again.
 fn of_vector<'a>(heap: Heap<'a>, values: &Values) -> Option<Reader<'a>> {
-    let items = match Vec::from_array(heap, first_three(values)?) {
-        Ok(items) => items,
-        Err(_) => Vec::from_array(heap, first_three(values)?).ok()?,
-    };
-    match Reader::try_from_vec(heap, items) {
+    match Reader::try_from_vec(heap, of_vector_items(heap, values)?) {
         Ok(window) => Some(window),
         Err(back) => {
             if living(values) != THREE {
@@ -243,94 +237,6 @@ fn part(rt: &impl Wait, heap: Heap<'_>, values: &Values) -> Option<bool> {
     Some((with, living(values)) == (THREE, [1; 5]))
 }
 
-/// A window of a buffer with metadata, in either role. Where memory is refused both come back, and
-/// go in again.
-macro_rules! over_filled {
-    ($role:ident, $alloc:ident, $heap:ident, $values:ident) => {{
-        let (buffer, metadata) = filled($alloc, $values)?;
-        match $role::try_from_buffer_with_metadata($heap, buffer, metadata) {
-            Ok(window) => Some(window),
-            Err((buffer, metadata)) => {
-                if living($values) != [2; 5] {
-                    return None;
-                }
-                $role::try_from_buffer_with_metadata($heap, buffer, metadata).ok()
-            }
-        }
-    }};
-}
-
-/// One that is read.
-fn of_buffer<'a>(alloc: Global, heap: Heap<'a>, values: &Values) -> Option<Reader<'a>> {
-    over_filled!(Reader, alloc, heap, values)
-}
-
-/// Whether both windows over a buffer have its metadata, and that and the buffer are dropped with
-/// the second one.
-fn metadata(rt: &impl Wait, alloc: Global, heap: Heap<'_>, values: &Values) -> Option<bool> {
-    let window = of_buffer(alloc, heap, values)?;
-    let clone = window.try_clone(rt).ok()?;
-    let have = [window.metadata().is_some(), clone.metadata().is_some()];
-    drop(window);
-    let beside = living(values);
-    drop(clone);
-    Some((have, beside, living(values)) == ([true; 2], [2; 5], [1; 5]))
-}
-
-/// Whether a buffer comes back whole, and its metadata is dropped.
-fn buffer(alloc: Global, heap: Heap<'_>, values: &Values) -> Option<bool> {
-    let buffer = of_buffer(alloc, heap, values)?.try_into_buffer().ok()?;
-    let with = living(values);
-    drop(buffer);
-    Some((with, living(values)) == ([2, 2, 2, 2, 1], [1; 5]))
-}
-
-/// The same of a buffer, whose metadata is dropped then.
-fn last_buffer(rt: &impl Wait, alloc: Global, heap: Heap<'_>, values: &Values) -> Option<bool> {
-    let window = of_buffer(alloc, heap, values)?;
-    let clone = window.try_clone(rt).ok()?;
-    if window.into_buffer_if_last().ok()?.is_some() {
-        return None;
-    }
-    let beside = living(values);
-    let buffer = clone.into_buffer_if_last().ok()??;
-    let with = living(values);
-    drop(buffer);
-    Some([beside, with, living(values)] == [[2; 5], [2, 2, 2, 2, 1], [1; 5]])
-}
-
-/// One that is written.
-fn over_buffer<'a>(alloc: Global, heap: Heap<'a>, values: &Values) -> Option<Writer<'a>> {
-    over_filled!(Writer, alloc, heap, values)
-}
-
-/// Whether all items stay in a buffer whose writer is cut to one, and go with it.
-fn buffer_cut(alloc: Global, heap: Heap<'_>, values: &Values) -> Option<bool> {
-    let mut window = over_buffer(alloc, heap, values)?;
-    window.truncate(1);
-    let with = living(values);
-    drop(window);
-    Some((with, living(values)) == ([2; 5], [1; 5]))
-}
-
-/// Whether a buffer whose writer was frozen goes with the last part of it.
-fn split(rt: &impl Wait, window: Reader<'_>, values: &Values) -> Option<bool> {
-    let mut window = window;
-    if window.check_at(1).is_err() {
-        return None;
-    }
-    let back = window.try_split_off(rt, 1).ok()?;
-    drop(window);
-    let beside = living(values);
-    drop(back);
-    Some((beside, living(values)) == ([2; 5], [1; 5]))
-}
-
-fn buffer_frozen(rt: &impl Wait, alloc: Global, heap: Heap<'_>, values: &Values) -> Option<bool> {
-    let window = over_buffer(alloc, heap, values)?;
-    split(rt, window.try_freeze::<DefaultLayout>().ok()?, values)
-}
-
 /// Whether all went as it is to go.
 fn run(rt: &impl Wait, alloc: Global, heap: Heap<'_>, values: &Values, row: Row) -> Option<bool> {
     match row {
@@ -342,11 +248,7 @@ fn run(rt: &impl Wait, alloc: Global, heap: Heap<'_>, values: &Values, row: Row)
         Row::Vector => vector(rt, heap, values),
         Row::LastVector => last_vector(rt, heap, values),
         Row::Part => part(rt, heap, values),
-        Row::Metadata => metadata(rt, alloc, heap, values),
-        Row::Buffer => buffer(alloc, heap, values),
-        Row::LastBuffer => last_buffer(rt, alloc, heap, values),
-        Row::BufferCut => buffer_cut(alloc, heap, values),
-        Row::BufferFrozen => buffer_frozen(rt, alloc, heap, values),
+        Row::Buffer(made, end) => buffers::run(rt, alloc, heap, values, made, end),
     }
 }
 
@@ -366,21 +268,48 @@ fn in_turn(rt: &impl Wait, alloc: Global, heap: Heap<'_>, values: &Values, row: 
     false
 }
 
-/// How many rows go as they are to go.
-fn passed(rt: &impl Wait, alloc: Global, heap: Heap<'_>) -> Option<usize> {
-    let values = values(alloc)?;
-    let mut count = 0usize;
-    for row in ROWS {
-        if in_turn(rt, alloc, heap, &values, *row) {
-            count = count.saturating_add(1);
+/// Which of these rows don't go as they are to go, by their numbers.
+fn missed(rt: &impl Wait, alloc: Global, heap: Heap<'_>, rows: &[Row]) -> Option<Vec<usize>> {
+    let mut missed = Vec::new(alloc);
+    for i in 0..rows.len() {
+        let values = values(alloc)?;
+        if !in_turn(rt, alloc, heap, &values, rows[i]) {
+            missed.push(i).ok()?;
         }
     }
-    Some(count)
+    Some(missed)
+}
+
+/// The rows of buffers, by how a window is made, and then by how it ends.
+fn of_buffers(alloc: Global) -> Option<Vec<Row>> {
+    let mut rows = Vec::new(alloc);
+    for made in MADE {
+        for end in ENDS {
+            rows.push(Row::Buffer(*made, *end)).ok()?;
+        }
+    }
+    Some(rows)
 }
 
 #[test]
 fn given_back(rt: HostRuntime) -> Result<(), Fail> {
     let heap = CountingHeap::new(rt.alloc());
-    assert!(rt; passed(&rt, rt.alloc(), &heap) == Some(ROWS.len()));
+    let Some(missed) = missed(&rt, rt.alloc(), &heap, ROWS) else {
+        return Err("no memory".into());
+    };
+    assert!(rt; missed.is_empty(), "rows {missed:?}");
+    Ok(())
+}
+
+#[test]
+fn buffers_given_back(rt: HostRuntime) -> Result<(), Fail> {
+    let heap = CountingHeap::new(rt.alloc());
+    let Some(rows) = of_buffers(rt.alloc()) else {
+        return Err("no memory".into());
+    };
+    let Some(missed) = missed(&rt, rt.alloc(), &heap, rows.as_slice()) else {
+        return Err("no memory".into());
+    };
+    assert!(rt; missed.is_empty(), "rows {missed:?}");
     Ok(())
 }

@@ -1,7 +1,10 @@
 use Rattle.std.proofs.Common.{false, sym, subst}
+use Rattle.std.specs.Prelude.{IfOk}
 use Rattle.arc_block.specs.LayoutFacts.{layout_facts}
+use Rattle.arc_parts.specs.Shared.{SplitsWriterTo}
+use Rattle.arc_parts.specs.Window.{PartsView}
 use Rattle.arc_write.proofs.Parts.{HoldsLegal}
-use Rattle.arc_write.proofs.Splits.{split_holds}
+use Rattle.arc_write.proofs.Splits.{split_holds, back_stays}
 use Rattle.arc_write.proofs.slice_mut.splits.ArcSliceMut+S+L+0+B+M+A+H.try_split_to_as.Goals.{in-Ok, in-Err}
 use Rattle.arc_write.proofs.slice_mut.splits.ArcSliceMut+S+L+0+B+M+A+H.try_split_to_as.Goals as goal
 
@@ -28,4 +31,17 @@ invariant_of-self g c =
           (sym c.self.view_is) c.requires.at false w.in-Ok.ensures.made c.self.invariant).0
       | in-Err w ↦ subst (HoldsLegal (layout_facts g.L.Layout) g.S.Slice.is_legal)
           (sym w.in-Err.ensures.refused.0) c.self.invariant
+    ]
+
+pub returns-clause-made : goal.returns-clause-made
+returns-clause-made g c =
+    let made-of : (old made : PartsView g.row.S-Item.Denot g.row.M.Denot) → Type 0 = λ old made.
+    SplitsWriterTo g.row.H.Denot g.H.Mark.real false g.H.Mark.whole c.args.at old made c.try_split_as.new.self
+    c.args.pass.now c.try_split_as.new.pass in
+    elim c.match-try_split_as.branch [
+      | in-Ok w ↦ subst (λ r. IfOk r (made-of c.args.self.now)) (sym w.result-is)
+          (subst (made-of c.args.self.now) (sym w.from_parts.ensures)
+          (subst (λ old. made-of old w.in-Ok.front) c.self.view_is
+          (back_stays g.H.Mark.real g.H.Mark.whole c.args.at _ _ _ _ _ w.in-Ok.ensures.made)))
+      | in-Err w ↦ subst (λ r. IfOk r (made-of c.args.self.now)) (sym w.result-is) tt
     ]
