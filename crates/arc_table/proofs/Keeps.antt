@@ -1,30 +1,30 @@
 -- What a command on a row does to the things of the row's block, by each command: they stay, or
 -- more come in, or they are handed out.
-use Rattle.std.proofs.Common.{inl, inr, ◌≡◌, ◌⊎◌, ℕ, ◌+◌, ◌-◌, ◌≤◌, ◌==◌, ◌&&◌, Bool, true, false}
-use Rattle.std.proofs.Common.{if◌then◌else◌, not, List, [], ◌∷◌, ◌++◌, length, take}
+use Rattle.std.proofs.Common.{◌≡◌, ℕ, ◌+◌, ◌-◌, ◌≤◌, ◌==◌, ◌&&◌, Bool, true, false}
+use Rattle.std.proofs.Common.{if◌then◌else◌, List, [], ◌∷◌, ◌++◌, length}
 use Rattle.std.proofs.Common.{Option, Some, None, Result, Ok, Err, refl, sym, ap, ◌∙◌, subst, arith}
-use Rattle.std.specs.Prelude.{◌||◌, is_some, max, nat_lt}
+use Rattle.std.specs.Prelude.{◌||◌, is_some, nat_lt}
 use Rattle.std.specs.Option.{option_map, option_map_or}
-use Rattle.std.proofs.lemmas.Bool.{and_parts, eqb-true, false≢true, ltb-true}
+use Rattle.std.proofs.lemmas.Bool.{and_parts, eqb-true, false≢true}
 use Rattle.std.proofs.lemmas.Option.{none-some, same_Some}
 use Rattle.arc_owners.specs.declared.error.RangeError.{RangeError}
 use Rattle.arc_owners.specs.declared.error.OwnerError.TheVariants.{AllocError, CountFull}
 use Rattle.arc_owners.specs.declared.error.TryReserveError.TheVariants as reserve
 use Rattle.arc_buffer.specs.Slice.{edge_answer, range_answer, sub}
-use Rattle.arc_block.specs.Block.{BlockInfo, Sort, full_places, native_facts}
+use Rattle.arc_block.specs.Block.{BlockInfo, Sort, full_places}
 use Rattle.arc_block.specs.Moves.{counted_move, layout_move}
 use Rattle.arc_block.specs.Layouts.{LayoutFacts}
 use Rattle.arc_block.specs.Block.{native, vector, buffer, raw}
 use Rattle.arc_block.specs.declared.layout.Move.{Move}
 use Rattle.arc_block.specs.declared.layout.Move.TheVariants as to
-use Rattle.arc_block.specs.Place.{Place, nowhere, static_data, on_block, metadata_at, offset_at}
+use Rattle.arc_block.specs.Place.{Place, nowhere, static_data, on_block, metadata_at}
 use Rattle.arc_block.specs.Place.{moved}
 use Rattle.arc_block.specs.Table.{Role, Row, block_of}
 use Rattle.arc_block.specs.Table.{reader, sole_writer, one_writer_of_several, inline, forgotten}
 use Rattle.arc_parts.specs.Shared.{as_shared, as_unique, extended, front_of, is_on_block}
 use Rattle.arc_parts.specs.Shared.{is_vector, is_vector_at, on_native, split_answer}
 use Rattle.arc_parts.specs.Writers.{after_advance, as_reader, as_sole, capacity_of, new_writer}
-use Rattle.arc_parts.specs.Writers.{with_capacity, with_more, with_room}
+use Rattle.arc_parts.specs.Writers.{with_more, with_room}
 use Rattle.arc_parts.specs.declared.room.Room.{Room as RoomFrom}
 use Rattle.arc_parts.specs.declared.room.Room.TheVariants as from
 use Rattle.arc_commands.specs.Blocks.{is_several, is_small, is_sole, is_writer}
@@ -40,9 +40,8 @@ use Rattle.arc_commands.specs.Commands.{ListCmd, ListReply}
 use Rattle.arc_commands.specs.Fits.{HasPlaces, LieWithin, RowFits, counts_full, full_end}
 use Rattle.arc_table.specs.Once.{HandsOutSort, brought, given, put_in}
 use Rattle.arc_commands.specs.Several.{can_share, filled_alone, filled_shared, is_beside}
-use Rattle.arc_commands.specs.Several.{moved_parts, parts_change, parts_there, reclaimed_shared}
-use Rattle.arc_commands.specs.Several.{shared_change, split_off_change, split_to_change}
-use Rattle.arc_commands.specs.Several.{unique_change}
+use Rattle.arc_commands.specs.Several.{moved_parts, parts_change, reclaimed_shared}
+use Rattle.arc_commands.specs.Several.{split_off_change, split_to_change}
 use Rattle.arc_commands.specs.Step.{answer_any, answer_row, is_allowed, is_for, written}
 use Rattle.arc_commands.specs.declared.command.Cmd.TheVariants.{Clone, Sub, Uniq, Show, Len}
 use Rattle.arc_commands.specs.declared.command.Cmd.TheVariants.{Off, To, Adv, Trunc, Drop}
@@ -52,7 +51,7 @@ use Rattle.arc_commands.specs.declared.command.Cmd.TheVariants.{TakeBuf, Meta, T
 use Rattle.arc_commands.specs.declared.command.Cmd.TheVariants.{Unique}
 use Rattle.arc_commands.specs.declared.command.Reply.TheVariants as reply
 use Rattle.arc_commands.proofs.Fits.{counted-owned, in-edge, in-range}
-use Rattle.arc_table.proofs.Lie.{Lies, lies-all}
+use Rattle.arc_table.proofs.Lie.{lies-all}
 use Rattle.arc_commands.proofs.Lists.{none-of}
 use Rattle.arc_commands.proofs.Parts.{stays-moved, stays-part}
 use Rattle.arc_commands.proofs.Roles.{writes-sole}
@@ -142,8 +141,11 @@ module _ {M : Type 0} where
         let size : info.size ≡ len = eqb-true info.size len ends.1 in
         let end : full_end info ≡ len = omega (arith, within.1, within.2, front, size) in (
           is-vector info.sort both.0,
-          λ owned. (front, full-end info.full info.size len (within.0
-              ∙ ap (λ d. counts_full d info.sort) owned ∙ counted-owned info.sort) end),
+          λ owned. (
+            front,
+            full-end info.full info.size len (within.0
+                ∙ ap (λ d. counts_full d info.sort) owned ∙ counted-owned info.sort) end,
+          ),
         )
 
     buffer-whole : (place : Place (Option ℕ) M) → is_buffer_whole place len ≡ true
@@ -532,70 +534,70 @@ module _ {T M : Type 0} (setting : Setting T) (short : Shortage) (around : Aroun
       reclaimed-good from.Front is = has-room from.Front is tt
 
       module _ (items : List T) (enough : length items ≤ k) (brings : brought setting c ≡ items)
-          where
-        more : (room : RoomFrom)
-            → (setting.drops ≡ true → FineAt room row.place (length row.items) k)
-            → Good c (is_now reply.Ok (with_more items (with_room room row)))
-        more room fit_in =
-            now reply.Ok (with_more items (with_room room row)) refl
-            (subst (λ put. Comes setting.drops row put (with_more items (with_room room row)))
-            (sym brings) (record {
-              stays = as-trans row.place (with_room room row).place
-                  (with_more items (with_room room row)).place (as-room room row)
-                  (as-full (length (with_room room row).items) (length items)
-                  (with_room room row).place);
-              lies = λ owned all l.
-                  on-room-more room row all items k enough (fit_in owned) l;
-            }))
+        where
+          more : (room : RoomFrom)
+              → (setting.drops ≡ true → FineAt room row.place (length row.items) k)
+              → Good c (is_now reply.Ok (with_more items (with_room room row)))
+          more room fit_in =
+              now reply.Ok (with_more items (with_room room row)) refl
+              (subst (λ put. Comes setting.drops row put (with_more items (with_room room row)))
+              (sym brings) (record {
+                stays = as-trans row.place (with_room room row).place
+                    (with_more items (with_room room row)).place (as-room room row)
+                    (as-full (length (with_room room row).items) (length items)
+                    (with_room room row).place);
+                lies = λ owned all l.
+                    on-room-more room row all items k enough (fit_in owned) l;
+              }))
 
-        roomy : (room : RoomFrom) → room ≡ room_of setting row k → IsRoomy room
-            → Good c (is_now reply.Ok (with_more items (with_room room row)))
-        roomy room is good = more room (λ owned. fine owned room is good)
+          roomy : (room : RoomFrom) → room ≡ room_of setting row k → IsRoomy room
+              → Good c (is_now reply.Ok (with_more items (with_room room row)))
+          roomy room is good = more room (λ owned. fine owned room is good)
 
-        by-itself : (j : ℕ) → from.Own j ≡ room_of setting row k → (s : Shortage)
-            → Good c (room_made s around row items j)
-        by-itself j is of_blocks = same (reply.Reserve reserve.AllocError) refl refl
-        by-itself j is (of_growth e) = same (reply.Reserve e) refl refl
-        by-itself j is no_shortage =
-            more (from.Growth _) (λ owned. fine owned (from.Own j) is tt)
-        by-itself j is of_table = more (from.Growth _) (λ owned. fine owned (from.Own j) is tt)
-        by-itself j is of_clones = more (from.Growth _) (λ owned. fine owned (from.Own j) is tt)
-        by-itself j is of_buffer = more (from.Growth _) (λ owned. fine owned (from.Own j) is tt)
+          by-itself : (j : ℕ) → from.Own j ≡ room_of setting row k → (s : Shortage)
+              → Good c (room_made s around row items j)
+          by-itself j is of_blocks = same (reply.Reserve reserve.AllocError) refl refl
+          by-itself j is (of_growth e) = same (reply.Reserve e) refl refl
+          by-itself j is no_shortage =
+              more (from.Growth _) (λ owned. fine owned (from.Own j) is tt)
+          by-itself j is of_table = more (from.Growth _) (λ owned. fine owned (from.Own j) is tt)
+          by-itself j is of_clones = more (from.Growth _) (λ owned. fine owned (from.Own j) is tt)
+          by-itself j is of_buffer = more (from.Growth _) (λ owned. fine owned (from.Own j) is tt)
 
-        -- a first block, with these items
-        first : (places : ℕ) → setting.drops ≡ true
-            → let new : Row T M =
-            with_more items (new_writer setting.drops (Some around.blocks) [] places) in
-            LiesOn items new.items new.place
-        first places owned =
-            let many : 0 + (length items - (0 - 0)) ≡ length items = omega arith in (
-              ap (λ d. option_map (λ f. f + (length items - (f - 0))) (full_places d 0)) owned
-                  ∙ ap Some many,
-              lies-all items,
-            )
+          -- a first block, with these items
+          first : (places : ℕ) → setting.drops ≡ true
+              → let new : Row T M =
+              with_more items (new_writer setting.drops (Some around.blocks) [] places) in
+              LiesOn items new.items new.place
+          first places owned =
+              let many : 0 + (length items - (0 - 0)) ≡ length items = omega arith in (
+                ap (λ d. option_map (λ f. f + (length items - (f - 0))) (full_places d 0)) owned
+                    ∙ ap Some many,
+                lies-all items,
+              )
 
-        filled-good : (room : RoomFrom) → room ≡ room_of setting row k
-            → Good c (filled setting short around row items room)
-        filled-good (from.Refused e) is = same (reply.Reserve e) refl refl
-        filled-good (from.Own additional) is = by-itself additional is short
-        filled-good (from.Fresh places) is =
-            let new : Row T M =
-            with_more items (new_writer setting.drops (Some around.blocks) [] places) in
-            asks-block short (reply.Reserve reserve.AllocError) refl refl _ (record {
-              keeps = record {
-                stands = refl;
-                lies = λ owned. subst (λ put. LiesOn put new.items new.place) (sym brings)
-                    (first places owned);
-              };
-              makes = tt;
-              hands = λ given out. absurd (none-some given out);
-            })
-        filled-good from.Spare is = roomy from.Spare is tt
-        filled-good from.Behind is = roomy from.Behind is tt
-        filled-good from.Front is = roomy from.Front is tt
-        filled-good (from.Growth places) is =
-            asks-block short (reply.Reserve reserve.AllocError) refl refl _
-            (roomy (from.Growth places) is tt)
+          filled-good : (room : RoomFrom) → room ≡ room_of setting row k
+              → Good c (filled setting short around row items room)
+          filled-good (from.Refused e) is = same (reply.Reserve e) refl refl
+          filled-good (from.Own additional) is = by-itself additional is short
+          filled-good (from.Fresh places) is =
+              let new : Row T M =
+              with_more items (new_writer setting.drops (Some around.blocks) [] places) in
+              asks-block short (reply.Reserve reserve.AllocError) refl refl _ (record {
+                keeps = record {
+                  stands = refl;
+                  lies = λ owned. subst (λ put. LiesOn put new.items new.place) (sym brings)
+                      (first places owned);
+                };
+                makes = tt;
+                hands = λ given out. absurd (none-some given out);
+              })
+          filled-good from.Spare is = roomy from.Spare is tt
+          filled-good from.Behind is = roomy from.Behind is tt
+          filled-good from.Front is = roomy from.Front is tt
+          filled-good (from.Growth places) is =
+              asks-block short (reply.Reserve reserve.AllocError) refl refl _
+              (roomy (from.Growth places) is tt)
 
     -- what a writer writes
     written-good : is_writer row.role ≡ true → (items : List T) (k : ℕ) → length items ≤ k

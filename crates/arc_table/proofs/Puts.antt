@@ -1,14 +1,14 @@
 -- Of each answer to a command: where each row comes from, and what is handed out.
-use Rattle.std.proofs.Common.{inl, inr, ◌≡◌, ◌⊎◌, ℕ, ◌+◌, ◌-◌, ◌≤◌, ◌==◌, ◌&&◌, Bool, true, false}
+use Rattle.std.proofs.Common.{inl, inr, ◌≡◌, ◌⊎◌, ℕ, ◌≤◌, ◌==◌, ◌&&◌, Bool, true, false}
 use Rattle.std.proofs.Common.{if◌then◌else◌, not, List, [], ◌∷◌, ◌++◌, length, Option, Some, None}
 use Rattle.std.proofs.Common.{slice_get, slice_set, refl, sym, ap, ◌∙◌, subst, arith}
 use Rattle.std.specs.Prelude.{◌||◌, is_some, nat_lt, replicate}
 use Rattle.std.specs.Option.{option_flatten, option_map, option_map_or}
-use Rattle.std.proofs.lemmas.Bool.{and_parts, cases_Bool, eq-eqb, eqb-true, false≢true}
+use Rattle.std.proofs.lemmas.Bool.{and_parts, eq-eqb, false≢true}
 use Rattle.std.proofs.lemmas.Option.{none-some, same_Some}
 use Rattle.arc_block.proofs.Lists.{get-set, get-set_other, push-cases, set-cases}
 use Rattle.arc_block.specs.Block.{BlockInfo, buffer_info, full_places, memory_info, native_facts}
-use Rattle.arc_block.specs.Block.{partly_full, raw_info, vector}
+use Rattle.arc_block.specs.Block.{partly_full, vector}
 use Rattle.arc_block.specs.Inline.{inline_limit}
 use Rattle.arc_block.specs.Place.{Place, nowhere, static_data, on_block}
 use Rattle.arc_block.specs.Table.{Role, Row, StandsOn, Table, block_of, is_alone, row_at}
@@ -17,15 +17,15 @@ use Rattle.arc_parts.specs.Shared.{can_join, ends_at, joined_row}
 use Rattle.arc_parts.specs.Writers.{capacity_of}
 use Rattle.arc_commands.proofs.FitsStep.{not-apart}
 use Rattle.arc_commands.specs.Blocks.{is_several, is_sole, is_writer}
-use Rattle.arc_commands.specs.Changes.{Change, Setting, Shortage, buffer_row, is_free, is_now}
+use Rattle.arc_commands.specs.Changes.{Change, Setting, Shortage, is_free, is_now}
 use Rattle.arc_commands.specs.Changes.{made_row, no_shortage, of_blocks, of_buffer, of_clones}
-use Rattle.arc_commands.specs.Changes.{of_growth, of_table, raw_row, small_row, static_row}
-use Rattle.arc_commands.specs.Changes.{vector_row, writer_row, written_buffer_row}
+use Rattle.arc_commands.specs.Changes.{of_growth, of_table, raw_row, static_row}
+use Rattle.arc_commands.specs.Changes.{writer_row}
 use Rattle.arc_commands.specs.Commands.{ListCmd, ListReply}
-use Rattle.arc_commands.specs.Fits.{HasSharedPlaces, RowFits, RowsFit}
+use Rattle.arc_commands.specs.Fits.{HasSharedPlaces, RowsFit}
 use Rattle.arc_table.specs.Once.{brought, given, put_in}
 use Rattle.arc_commands.specs.Several.{are_apart, join_answer}
-use Rattle.arc_commands.specs.Step.{answer, answer_any, answer_by, answer_row, answer_two}
+use Rattle.arc_commands.specs.Step.{answer, answer_any, answer_by, answer_row}
 use Rattle.arc_commands.specs.Step.{around_of, changed, founded, has_call, is_allowed, is_for}
 use Rattle.arc_commands.specs.Step.{is_for_both, joined, other_of, row_by, window_of}
 use Rattle.arc_commands.specs.Step.{with_block, with_row}
@@ -37,8 +37,7 @@ use Rattle.arc_table.proofs.Keeps.{Begins, Comes, Each, Good, IsWholeAt, any-goo
 use Rattle.arc_table.proofs.Keeps.{writer-for}
 use Rattle.arc_table.proofs.Lie.{lies-all}
 use Rattle.arc_commands.proofs.Lists.{there}
-use Rattle.arc_commands.proofs.Roles.{writes-sole}
-use Rattle.arc_table.proofs.Stays.{LiesOn, as-same, at-if, on-if}
+use Rattle.arc_table.proofs.Stays.{as-same, at-if, on-if}
 
 -- ---- what a command puts in
 

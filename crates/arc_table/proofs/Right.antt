@@ -1,5 +1,5 @@
 -- The books of a table stay right by each step, and so by each run.
-use Rattle.std.proofs.Common.{inl, inr, ◌≡◌, ◌⊎◌, ◌↔◌, ℕ, suc, zero, ◌+◌, ◌<◌, ◌≤◌, ◌==◌, Bool}
+use Rattle.std.proofs.Common.{inl, inr, ◌≡◌, ◌⊎◌, ℕ, suc, ◌<◌, ◌==◌, Bool}
 use Rattle.std.proofs.Common.{true, false, if◌then◌else◌, not, List, [], ◌∷◌, ◌++◌, length, filter}
 use Rattle.std.proofs.Common.{Option, Some, None, slice_get, refl, sym, ap, ◌∙◌, subst, arith}
 use Rattle.std.specs.Prelude.{◌||◌, is_some, nat_lt}
@@ -14,18 +14,18 @@ use Rattle.arc_block.specs.Place.{Place, nowhere, static_data, on_block}
 use Rattle.arc_block.specs.Table.{Row, StandsOn, Table, block_of, empty_table, is_alone, owners}
 use Rattle.arc_block.specs.Table.{row_at, stands_on}
 use Rattle.arc_commands.specs.Apart.{IsLawful}
-use Rattle.arc_commands.specs.Blocks.{SaysOf, is_several, is_small, is_sole, is_writer}
+use Rattle.arc_commands.specs.Blocks.{SaysOf, is_several, is_small, is_sole}
 use Rattle.arc_commands.specs.Changes.{Setting, is_free}
 use Rattle.arc_commands.specs.Commands.{ListCmd, ListReply}
 use Rattle.arc_commands.specs.Fits.{LieWithin, full_end}
-use Rattle.arc_table.specs.Once.{AreRight, Booked, Books, EachOnce, HandsOut, Holding, IsLastOn}
+use Rattle.arc_table.specs.Once.{AreRight, Booked, Books, EachOnce, HandsOut, Holding}
 use Rattle.arc_table.specs.Once.{ShowsOf, StayRight, WasHandedOut, Whereabouts, books_after}
 use Rattle.arc_table.specs.Once.{dropped, given, handed_out, has_window, in_block, is_under}
 use Rattle.arc_table.specs.Once.{nothing_yet, put_in, where_then}
 use Rattle.arc_commands.specs.RunOf.{RunOf}
 use Rattle.arc_commands.specs.Step.{Run, Step, other_of, shortage, window_of}
 use Rattle.arc_commands.proofs.Apart.{step_lawful}
-use Rattle.arc_table.proofs.Keeps.{Begins, Comes, IsWholeAt}
+use Rattle.arc_table.proofs.Keeps.{Comes, IsWholeAt}
 use Rattle.arc_table.proofs.Lie.{Lies, lies-sub, lies-whole, sub-lies}
 use Rattle.arc_commands.proofs.Lists.{there}
 use Rattle.arc_commands.proofs.Others.{step-stays}
@@ -305,9 +305,10 @@ module _ {T M : Type 0} (setting : Setting T) (t : Table T M) (books : Books T)
         let p = place-of was.place n on in
         let all = (books n).items in
         let before : LiesOn all was.items was.place =
-        subst (LiesOn all was.items) (sym p.2)
-        ((right.shows owned w n p.0 p.1 was at p.2).full,
-        lie-before w n p.0 p.1 was at p.2) in
+        subst (LiesOn all was.items) (sym p.2) (
+          (right.shows owned w n p.0 p.1 was at p.2).full,
+          lie-before w n p.0 p.1 was at p.2,
+        ) in
         let l = subst (LiesOn (all ++ Put) row.items) is (comes.lies owned all before) in
         let below = lawful.agree.numbered n old.0 old.1 in
         subst (ShowsOf row offset info)
@@ -394,56 +395,56 @@ module _ {T M : Type 0} (setting : Setting T) (t : Table T M) (books : Books T)
     module _ (n offset : ℕ) (info : BlockInfo M)
         (is : h.row.place ≡ on_block (Some n) offset info)
         (whole : setting.drops ≡ true → (offset ≡ 0) × (info.full ≡ Some (length h.row.items)))
-        where
-      abbrev here : StandsOn t h.window n
-      here = record { row = h.row; alive = h.alive; stands = ap block_of is }
+      where
+        abbrev here : StandsOn t h.window n
+        here = record { row = h.row; alive = h.alive; stands = ap block_of is }
 
-      lone : (k : ℕ) → StandsOn t k n → k ≡ h.window
-      lone k s = elim (either-true (is_sole h.row.role)
-          (is_free (is_alone t h.row.place) h.row.place) h.only) [
-        | inl sole ↦ lawful.agree.alone h.window k n here sole s
-        | inr free ↦
-            one-only (stands_on n) t.rows h.window k (Some h.row) (Some s.row)
-            (eqb-true (owners t n) 1
-            (subst (λ p. is_free (is_alone t p) p ≡ true) is free))
-            (there (slice_get t.rows h.window) h.row h.alive)
-            (on-is n (block_of h.row.place) (ap block_of is))
-            (there (slice_get t.rows k) s.row s.alive)
-            (on-is n (block_of s.row.place) s.stands)
-      ]
+        lone : (k : ℕ) → StandsOn t k n → k ≡ h.window
+        lone k s = elim (either-true (is_sole h.row.role)
+            (is_free (is_alone t h.row.place) h.row.place) h.only) [
+              | inl sole ↦ lawful.agree.alone h.window k n here sole s
+              | inr free ↦
+                  one-only (stands_on n) t.rows h.window k (Some h.row) (Some s.row)
+                  (eqb-true (owners t n) 1
+                  (subst (λ p. is_free (is_alone t p) p ≡ true) is free))
+                  (there (slice_get t.rows h.window) h.row h.alive)
+                  (on-is n (block_of h.row.place) (ap block_of is))
+                  (there (slice_get t.rows k) s.row s.alive)
+                  (on-is n (block_of s.row.place) s.stands)
+            ]
 
-      none-left : has_window new n ≡ false
-      none-left = elim (cases_Bool (has_window new n)) [
-        | inl some ↦
-            (let s = stands-of new n some in
-            let old = h.rest s.0 s.1.row s.1.alive in
-            absurd (old.0 (sym (lone s.0 (record {
-              row = s.1.row;
-              alive = old.1;
-              stands = s.1.stands;
-            })))))
-        | inr none ↦ none
-      ]
+        none-left : has_window new n ≡ false
+        none-left = elim (cases_Bool (has_window new n)) [
+          | inl some ↦
+              (let s = stands-of new n some in
+              let old = h.rest s.0 s.1.row s.1.alive in
+              absurd (old.0 (sym (lone s.0 (record {
+                row = s.1.row;
+                alive = old.1;
+                stands = s.1.stands;
+              })))))
+          | inr none ↦ none
+        ]
 
-      was-out : WasHandedOut setting.drops books After n items
-      was-out =
-          let below = lawful.agree.numbered n info (h.window, h.row, offset, h.alive, is) in
-          let was = (right.inside n below).1 (h.window, here) in record {
-            was = was;
-            now = ap (λ x. where_then (is_some x) (has_window new n)
-                (if nat_lt n t.blocks then books n else nothing_yet).are) out
-                ∙ ap (λ b. where_then true b
-                (if nat_lt n t.blocks then books n else nothing_yet).are) none-left
-                ∙ ap (λ b. where_then true false (if b then books n else nothing_yet).are)
-                (lt-ltb n t.blocks below) ∙ ap (where_then true false) was;
-            all = λ owned.
-                let shows = right.shows owned h.window n offset info h.row h.alive is in
-                let w = whole owned in
-                lies-whole (books n).items h.row.items offset w.0
-                (same_Some (length (books n).items) (length h.row.items)
-                (sym shows.full ∙ w.1)) (lie-before owned h.window n offset info h.row h.alive is)
-                ∙ h.all;
-          }
+        was-out : WasHandedOut setting.drops books After n items
+        was-out =
+            let below = lawful.agree.numbered n info (h.window, h.row, offset, h.alive, is) in
+            let was = (right.inside n below).1 (h.window, here) in record {
+              was = was;
+              now = ap (λ x. where_then (is_some x) (has_window new n)
+                  (if nat_lt n t.blocks then books n else nothing_yet).are) out
+                  ∙ ap (λ b. where_then true b
+                  (if nat_lt n t.blocks then books n else nothing_yet).are) none-left
+                  ∙ ap (λ b. where_then true false (if b then books n else nothing_yet).are)
+                  (lt-ltb n t.blocks below) ∙ ap (where_then true false) was;
+              all = λ owned.
+                  let shows = right.shows owned h.window n offset info h.row h.alive is in
+                  let w = whole owned in
+                  lies-whole (books n).items h.row.items offset w.0
+                  (same_Some (length (books n).items) (length h.row.items)
+                  (sym shows.full ∙ w.1)) (lie-before owned h.window n offset info h.row h.alive is)
+                  ∙ h.all;
+            }
 
     hand-at : (place : Place (Option ℕ) M) → h.row.place ≡ place
         → IsWholeAt setting.drops r place (length h.row.items)

@@ -8,11 +8,9 @@ use Rattle.arc_buffer.specs.Slice.{sub}
 use Rattle.arc_block.specs.Block.{Sort, BlockInfo, vector, raw}
 use Rattle.arc_block.specs.Place.{on_block}
 use Rattle.arc_block.specs.Table.{Row, Table, StandsOn, block_of, owners, row_at}
-use Rattle.arc_commands.specs.Apart.{IsLawful}
 use Rattle.arc_commands.specs.Blocks.{SaysOf}
 use Rattle.arc_commands.specs.Changes.{Setting, is_buffer}
 use Rattle.arc_commands.specs.Commands.{ListCmd, ListReply}
-use Rattle.arc_commands.specs.RunOf.{RunOf}
 use Rattle.arc_commands.specs.Step.{Step, window_of}
 use Rattle.arc_commands.specs.declared.command.Cmd.TheVariants.{Slice, Small, Vec, Raw, Buf, MBuf}
 use Rattle.arc_commands.specs.declared.command.Cmd.TheVariants.{Zero, MSlice, Push, Ext}
