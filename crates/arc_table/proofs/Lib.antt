@@ -2,3 +2,8 @@ pub mod Places
 mod States
 mod Done
 mod Stepped
+mod Lie
+mod Stays
+mod Keeps
+mod Puts
+mod Right

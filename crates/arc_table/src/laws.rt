@@ -11,6 +11,7 @@ ghost use Rattle.arc_commands.specs.State.{CarriesOut, State};
 ghost use Rattle.arc_commands.specs.Changes.{Setting};
 ghost use Rattle.arc_commands.specs.Step.{Run, Step};
 ghost use Rattle.arc_commands.specs.Commands.{ListCmd, ListReply};
+ghost use Rattle.arc_table.specs.Once.{AreRight, Booked, Books, EachOnce, StayRight, books_after};
 
 /// Rows on one block agree about it, in every table that comes of the empty one. In that no row
 /// stands on a block, and each step keeps the agreement. So does each run, also a run of commands
@@ -90,4 +91,42 @@ pub fn parts_apart<T, M>()
     ensures joined { (row other : Row T M) → is_several row.role ≡ true
         → is_several other.role ≡ true → can_join row other ≡ true
         → IsParted (joined_row row other) row other }
+{}
+
+/// Items once. The books of a run have, for each block, the items that were put into it, each at
+/// the place at which it was put in, and say that these are in the block, handed out or dropped
+/// (`Books`). Commands and replies determine them, and where windows stand. The block's vector or
+/// buffer is where its items are, and its metadata is in the block as long as they are.
+///
+/// Right books (`AreRight`) stay right by each step, and each run has books (`booked`). Things leave
+/// a block by a command on the last window there, and what was handed out or dropped stays so. What
+/// a reply hands out was in a block until then, and where items are dropped one by one it is all of
+/// them (`EachOnce`). Books of the empty table are right.
+///
+/// A list that a command brings and that comes into no block isn't in the books. Nor are items that
+/// need no drop held to them, nor an `Arc` that is a block by itself. Does nothing: its contract is
+/// the law, for items and metadata of any type.
+pub fn items_once<T, M>()
+    ensures empty { (drops : Bool) (books : Books T) → AreRight {M = M} drops empty_table books }
+    ensures step { (setting : Setting T) (old : Table T M) (command : ListCmd T M)
+        (reply : ListReply T M) (new : Table T M) (books : Books T)
+        → Step setting old command reply new → IsLawful setting.drops old
+        → AreRight setting.drops old books
+        → let after = books_after setting old command reply new books in
+        AreRight setting.drops new after
+        × EachOnce setting old command reply new books after }
+    ensures booked { (setting : Setting T) (old : Table T M) (commands : List (ListCmd T M))
+        (replies : List (ListReply T M)) (new : Table T M) (books : Books T)
+        → Run setting old commands replies new
+        → (after : Books T) × RunOf (Booked setting) (old, books) commands replies (new, after) }
+    ensures carried_out { (setting : Setting T) (old : State T M)
+        (commands : List (ListCmd T M)) (replies : List (ListReply T M))
+        (new : State T M) (books : Books T) → RunOf (CarriesOut setting) old commands replies new
+        → (after : Books T) × RunOf (Booked setting) (old.table, books) commands replies
+        (new.table, after) }
+    ensures run { (setting : Setting T) (old : Table T M × Books T)
+        (commands : List (ListCmd T M)) (replies : List (ListReply T M))
+        (new : Table T M × Books T) → RunOf (Booked setting) old commands replies new
+        → IsLawful setting.drops old.0 → AreRight setting.drops old.0 old.1
+        → StayRight setting.drops old new }
 {}
