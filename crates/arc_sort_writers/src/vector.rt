@@ -250,7 +250,7 @@ impl<S: Slice, B: Buffer<S::Item> + Drop, M: Drop, A: Allocator + Copy, H: Mark>
     ///   bytes.
     /// - `AllocError` where memory is refused for a larger block.
     ///
-    /// Nothing is changed then.
+    /// The writer is unchanged.
     ///
     /// # Allocates
     ///

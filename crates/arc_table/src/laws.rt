@@ -13,7 +13,7 @@ ghost use Rattle.arc_commands.specs.Step.{Run, Step};
 ghost use Rattle.arc_commands.specs.Commands.{ListCmd, ListReply};
 ghost use Rattle.arc_table.specs.Once.{AreRight, Booked, Books, EachOnce, StayRight, books_after};
 
-/// Rows on one block agree about it, in every table that comes of the empty one. In that no row
+/// Rows on one block agree about it, in every table that comes of the empty one. There no row
 /// stands on a block, and each step keeps the agreement. So does each run, also a run of commands
 /// that a `Table` carries out.
 ///
@@ -103,8 +103,8 @@ pub fn parts_apart<T, M>()
 /// a reply hands out was in a block until then, and where items are dropped one by one it is all of
 /// them (`EachOnce`). Books of the empty table are right.
 ///
-/// A list that a command brings and that comes into no block isn't in the books. Nor are items that
-/// need no drop held to them, nor an `Arc` that is a block by itself. Does nothing: its contract is
+/// A list that a command brings and that comes into no block isn't in the books. It binds neither
+/// items that need no drop nor an `Arc` that is a block by itself. Does nothing: its contract is
 /// the law, for items and metadata of any type.
 pub fn items_once<T, M>()
     ensures empty { (drops : Bool) (books : Books T) → AreRight {M = M} drops empty_table books }

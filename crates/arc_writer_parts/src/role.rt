@@ -139,7 +139,7 @@ pub trait WriterParts<
     /// - `CapacityOverflow` where a block would have to grow to more than 2^63 - 1 places or bytes.
     /// - `AllocError` where memory is refused for a larger block, or for a first one of any size.
     ///
-    /// Nothing is changed then.
+    /// The parts are unchanged.
     ///
     /// # Allocates
     ///
@@ -390,7 +390,7 @@ where
     ///
     /// # Errors
     ///
-    /// Those of `try_reserve_as` for as many items. Nothing is changed then.
+    /// Those of `try_reserve_as` for as many items. The parts are unchanged.
     ///
     /// # Allocates
     ///

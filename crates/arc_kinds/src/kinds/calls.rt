@@ -140,7 +140,7 @@ pub trait CallsOf<S: Subsliceable> {
     /// Where the window has too few places, in this order: `Unsupported` where items that are
     /// dropped one by one end before the block's full places, the refusal of a caller's buffer,
     /// `CapacityOverflow` where the block would have to grow to more than 2^63 - 1 places or bytes,
-    /// and `AllocError` where memory is refused. Nothing is changed then.
+    /// and `AllocError` where memory is refused. The window is unchanged.
     ///
     /// # Allocates
     ///
@@ -171,7 +171,7 @@ pub trait CallsOf<S: Subsliceable> {
     /// Where the window has too few places, in this order: `Unsupported` where items that are
     /// dropped one by one end before the block's full places, the refusal of a caller's buffer,
     /// `CapacityOverflow` where the block would have to grow to more than 2^63 - 1 places or bytes,
-    /// and `AllocError` where memory is refused. Nothing is changed then.
+    /// and `AllocError` where memory is refused. The window is unchanged.
     ///
     /// # Allocates
     ///
@@ -215,7 +215,7 @@ pub trait CallsOf<S: Subsliceable> {
     ///
     /// # Errors
     ///
-    /// `AllocError` where memory for the native block is refused. Nothing is changed then.
+    /// `AllocError` where memory for the native block is refused. The window is unchanged.
     ///
     /// # Allocates
     ///
@@ -249,7 +249,7 @@ pub trait CallsOf<S: Subsliceable> {
     /// # Errors
     ///
     /// On a native block `CountFull`, exactly where `MAX_OWNERS` owners live, and on a vector
-    /// `AllocError`, where memory for the native block is refused. Nothing is changed then.
+    /// `AllocError`, where memory for the native block is refused. The window is unchanged.
     ///
     /// # Allocates
     ///
@@ -283,7 +283,7 @@ pub trait CallsOf<S: Subsliceable> {
     /// # Errors
     ///
     /// On a native block `CountFull`, exactly where `MAX_OWNERS` owners live, and on a vector
-    /// `AllocError`, where memory for the native block is refused. Nothing is changed then.
+    /// `AllocError`, where memory for the native block is refused. The window is unchanged.
     ///
     /// # Allocates
     ///
@@ -342,7 +342,7 @@ pub trait CallsOf<S: Subsliceable> {
     ///
     /// Where the window has too few places, in this order: `NotUnique` where another owner of the
     /// block lives, `CapacityOverflow` where the block would have to grow to more than 2^63 - 1
-    /// places or bytes, and `AllocError` where memory is refused. Nothing is changed then.
+    /// places or bytes, and `AllocError` where memory is refused. The window is unchanged.
     ///
     /// # Allocates
     ///
@@ -376,7 +376,7 @@ pub trait CallsOf<S: Subsliceable> {
     ///
     /// Where the window has too few places, in this order: `NotUnique` where another owner of the
     /// block lives, `CapacityOverflow` where the block would have to grow to more than 2^63 - 1
-    /// places or bytes, and `AllocError` where memory is refused. Nothing is changed then.
+    /// places or bytes, and `AllocError` where memory is refused. The window is unchanged.
     ///
     /// # Allocates
     ///

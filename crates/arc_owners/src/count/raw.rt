@@ -16,7 +16,7 @@ use crate::leave::RaiseLeave;
 use crate::mark::Mark;
 
 impl<const MAX: u64, H: Mark> Owners<MAX, H> {
-    /// One attempt of `up_as` on the place of the word: `None` where another thread's step came
+    /// One attempt of `up_as`, by the word's address: `None` where another thread's step came
     /// between, and then no entry is added. The caller tries again.
     ///
     /// # Safety
@@ -45,7 +45,7 @@ impl<const MAX: u64, H: Mark> Owners<MAX, H> {
         try_up(word, leave, MAX, by, pass)
     }
 
-    /// `alone_as` on the place of the word.
+    /// `alone_as`, by the word's address.
     ///
     /// # Safety
     ///
@@ -66,7 +66,7 @@ impl<const MAX: u64, H: Mark> Owners<MAX, H> {
         word.load(&by.right, &mut pass.trace) == 1
     }
 
-    /// `down_as` on the place of the word, which may be gone before the call returns.
+    /// `down_as`, by the word's address, which may be gone before the call returns.
     ///
     /// # Safety
     ///
@@ -93,7 +93,7 @@ impl<const MAX: u64, H: Mark> Owners<MAX, H> {
         released(found, last)
     }
 
-    /// `claim_as` on the place of the word.
+    /// `claim_as`, by the word's address.
     ///
     /// # Safety
     ///

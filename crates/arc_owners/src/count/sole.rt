@@ -125,7 +125,7 @@ impl<H: Mark> Sole<H> {
         }
     }
 
-    /// As `lend`, for a lifetime that the owner has whole. All owners of the block have a note of
+    /// Lends the block for a lifetime that the owner has whole. All owners of the block have a note of
     /// what else is lent for it. It adds no entry and takes no memory.
     pub fn lend_for(self, lifetime: LifetimeToken) -> Share<H>
         ghost note: { LentNote }

@@ -26,8 +26,8 @@ impl<
     A: Allocator + Copy,
     H: Mark,
 > ArcSlice<S, L, B, M, A, H> {
-    /// One attempt of `try_clone_as`. It answers `None`, and adds no entry, where another thread's
-    /// step came between: only a window on a block meets that.
+    /// One attempt of `try_clone_as`. It answers `None` where another thread's step came
+    /// between: only a window on a block meets that.
     #[tactic(auto, using(arc_parts::proofs::Held::shared_held))]
     #[inline(always)]
     pub(super) fn try_clone_once_as(

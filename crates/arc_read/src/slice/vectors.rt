@@ -95,7 +95,7 @@ impl<
     ///
     /// # Allocates
     ///
-    /// Once, where a block is needed, and once more for that move.
+    /// Once, where a block is needed, and once more for spare places.
     pub fn try_from_boxed_as(
         alloc: A,
         items: S::Boxed,
@@ -273,11 +273,11 @@ impl<
     ///
     /// # Errors
     ///
-    /// A box of the same items comes back where memory for the count or for that move is refused.
+    /// A box of the same items comes back where memory for the count or a move is refused.
     ///
     /// # Allocates
     ///
-    /// Once, where a block is needed, and once more for that move.
+    /// Once, where a block is needed, and once more for spare places.
     pub fn try_from_boxed(alloc: A, items: S::Boxed) -> Result<Self, S::Boxed>
     where
         L: AnyBufferLayout,

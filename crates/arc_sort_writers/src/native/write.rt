@@ -131,7 +131,7 @@ where
     ///
     /// # Errors
     ///
-    /// Those of `try_reserve_as` for as many items. Nothing is changed then.
+    /// Those of `try_reserve_as` for as many items. The writer is unchanged.
     ///
     /// # Allocates
     ///

@@ -35,7 +35,7 @@ impl<
 > WriteWindow<S, L, R, B, M, A, H> {
     /// The same items at the same place, as a window under the layout `K` that is read. A window on
     /// nothing becomes the one that no items make under that layout: on nothing, or on a new native
-    /// block of no places, of which the pass becomes one.
+    /// block of no places, and the pass becomes that block's.
     ///
     /// # Errors
     ///

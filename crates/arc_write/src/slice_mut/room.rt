@@ -41,7 +41,7 @@ impl<
     /// - `CapacityOverflow` where a block would have to grow to more than 2^63 - 1 places or bytes.
     /// - `AllocError` where memory is refused for a larger block, or for a first one of any size.
     ///
-    /// Nothing is changed then.
+    /// The window is unchanged.
     ///
     /// # Allocates
     ///
@@ -89,7 +89,7 @@ impl<
     /// - `CapacityOverflow` where a block would have to grow to more than 2^63 - 1 places or bytes.
     /// - `AllocError` where memory is refused for a larger block, or for a first one of any size.
     ///
-    /// Nothing is changed then.
+    /// The window is unchanged.
     ///
     /// # Allocates
     ///

@@ -27,14 +27,14 @@ impl<
 > ArcSliceMut<S, L, 0, B, M, A, H> {
     /// Keeps the first `at` places, and hands out those behind them with the items that lie there:
     /// another owner of the same block. The places of a vector are moved to a native block first,
-    /// of which the pass becomes one. Of a window on nothing both parts stand on nothing.
+    /// and the pass becomes that block's. Of a window on nothing both parts stand on nothing.
     ///
     /// # Errors
     ///
     /// - `CountFull` on a native block, exactly where `MAX_OWNERS` owners live.
     /// - `AllocError` on a vector, where memory for the native block is refused.
     ///
-    /// Nothing is changed then.
+    /// The window is unchanged.
     ///
     /// # Allocates
     ///
@@ -75,7 +75,7 @@ impl<
     /// - `CountFull` on a native block, exactly where `MAX_OWNERS` owners live.
     /// - `AllocError` on a vector, where memory for the native block is refused.
     ///
-    /// Nothing is changed then.
+    /// The window is unchanged.
     ///
     /// # Allocates
     ///
@@ -114,7 +114,7 @@ impl<
     /// - `CountFull` on a native block, exactly where `MAX_OWNERS` owners live.
     /// - `AllocError` on a vector, where memory for the native block is refused.
     ///
-    /// Nothing is changed then.
+    /// The window is unchanged.
     ///
     /// # Allocates
     ///
@@ -155,7 +155,7 @@ impl<
     /// - `CountFull` on a native block, exactly where `MAX_OWNERS` owners live.
     /// - `AllocError` on a vector, where memory for the native block is refused.
     ///
-    /// Nothing is changed then.
+    /// The window is unchanged.
     ///
     /// # Allocates
     ///
@@ -219,7 +219,7 @@ impl<
     ///
     /// # Errors
     ///
-    /// The other window comes back exactly where it isn't so. Nothing is changed then.
+    /// The other window comes back exactly where `can_join` says no. Nothing is changed then.
     ///
     /// # History
     ///
@@ -247,7 +247,7 @@ impl<
     ///
     /// # Errors
     ///
-    /// The other window comes back exactly where it isn't so. Nothing is changed then.
+    /// The other window comes back exactly where `can_join` says no. Nothing is changed then.
     ///
     /// # History
     ///

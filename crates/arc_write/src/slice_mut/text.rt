@@ -41,7 +41,7 @@ impl<
     ///
     /// # Errors
     ///
-    /// Those of `try_reserve_as` for as many bytes. Nothing is changed then.
+    /// Those of `try_reserve_as` for as many bytes. The window is unchanged.
     ///
     /// # Allocates
     ///
@@ -79,7 +79,7 @@ impl<
     ///
     /// # Errors
     ///
-    /// Those of `try_reserve` for as many bytes. Nothing is changed then.
+    /// Those of `try_reserve` for as many bytes. The window is unchanged.
     ///
     /// # Allocates
     ///

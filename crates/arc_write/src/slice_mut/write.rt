@@ -130,7 +130,7 @@ impl<
     ///
     /// # Errors
     ///
-    /// Those of `try_reserve_as` for as many items. Nothing is changed then.
+    /// Those of `try_reserve_as` for as many items. The window is unchanged.
     ///
     /// # Allocates
     ///
@@ -173,7 +173,7 @@ impl<
     ///
     /// # Errors
     ///
-    /// Those of `try_reserve` for as many items. Nothing is changed then.
+    /// Those of `try_reserve` for as many items. The window is unchanged.
     ///
     /// # Allocates
     ///

@@ -55,7 +55,7 @@ where
     /// - `CountFull` on a native block, exactly where `MAX_OWNERS` owners live.
     /// - `AllocError` on a vector, where memory for the native block is refused.
     ///
-    /// Nothing is changed then.
+    /// The parts are unchanged.
     ///
     /// # Allocates
     ///
