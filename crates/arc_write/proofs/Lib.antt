@@ -1,3 +1,4 @@
+mod Apart
 mod Extend
 pub mod Legal
 pub mod Held

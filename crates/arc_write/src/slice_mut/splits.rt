@@ -1,8 +1,8 @@
 //! Splits and joins of one of several writers.
-ghost use Rattle.std.specs.Prelude.{◌≡◌, false, IfErr, IfOk, OnErr, OnOk, true};
-ghost use Rattle.arc_parts.specs.Shared.{can_join, CanSplit, is_vector_at, IsOneBlock, joined_row};
+ghost use Rattle.std.specs.Prelude.{◌-◌, ◌≡◌, drop, false, IfErr, IfOk, OnErr, OnOk, take, true};
+ghost use Rattle.arc_parts.specs.Shared.{can_join, CanSplit, ends_at, is_vector_at, IsOneBlock};
 ghost use Rattle.arc_parts.specs.Shared.{LeavesAt, LeavesVector, RefusesSplitAt, SplitsWriterOff};
-ghost use Rattle.arc_parts.specs.Shared.{SplitsWriterTo};
+ghost use Rattle.arc_parts.specs.Shared.{joined_row, SplitsWriterTo};
 ghost use Rattle.arc_parts.specs.Steps.{IsPassAt};
 ghost use Rattle.arc_parts.specs.Writers.{capacity_of};
 ghost use Rattle.arc_read.specs.Steps.{WithNewPass};
@@ -59,9 +59,15 @@ impl<
         ensures made { IfOk result (λ back. SplitsWriterOff H H.real false H.whole at
             self.old self.new back pass.old pass.new) }
         ensures block { IfOk result (λ back. IsOneBlock self.new.place back.place) }
+        ensures lists { IfOk result (λ back. (self.new.items ≡ take at self.old.items)
+            × (back.items ≡ drop at self.old.items)) }
+        ensures places { IfOk result (λ back. (capacity_of self.new.role ≡ at)
+            × (capacity_of back.role ≡ capacity_of self.old.role - at)) }
+        ensures apart { IfOk result (λ back. ends_at at self.new.place back.place ≡ true) }
         ensures refused { IfErr result (λ e. (self.new ≡ self.old)
             × RefusesSplitAt self.old.place pass.old pass.new e) }
     {
+        self.known_place();
         match self.parts.try_split_as::<true>(rt, at, pass) {
             Ok(back) => Ok(Self::from_parts(back)),
             Err(e) => Err(e),
@@ -95,6 +101,11 @@ impl<
         ensures made { IfOk result (λ back. WithNewPass {H = H} H.real self.old.place (λ first last.
             SplitsWriterOff H H.real false H.whole at self.old self.new back first last)) }
         ensures block { IfOk result (λ back. IsOneBlock self.new.place back.place) }
+        ensures lists { IfOk result (λ back. (self.new.items ≡ take at self.old.items)
+            × (back.items ≡ drop at self.old.items)) }
+        ensures places { IfOk result (λ back. (capacity_of self.new.role ≡ at)
+            × (capacity_of back.role ≡ capacity_of self.old.role - at)) }
+        ensures apart { IfOk result (λ back. ends_at at self.new.place back.place ≡ true) }
         ensures refused { IfErr result (λ e. (self.new ≡ self.old)
             × WithNewPass {H = H} H.real self.old.place (λ first last.
             RefusesSplitAt self.old.place first last e)) }
@@ -139,9 +150,15 @@ impl<
         ensures made { IfOk result (λ front. SplitsWriterTo H H.real false H.whole at
             self.old front self.new pass.old pass.new) }
         ensures block { IfOk result (λ front. IsOneBlock front.place self.new.place) }
+        ensures lists { IfOk result (λ front. (front.items ≡ take at self.old.items)
+            × (self.new.items ≡ drop at self.old.items)) }
+        ensures places { IfOk result (λ front. (capacity_of front.role ≡ at)
+            × (capacity_of self.new.role ≡ capacity_of self.old.role - at)) }
+        ensures apart { IfOk result (λ front. ends_at at front.place self.new.place ≡ true) }
         ensures refused { IfErr result (λ e. (self.new ≡ self.old)
             × RefusesSplitAt self.old.place pass.old pass.new e) }
     {
+        self.known_place();
         match self.parts.try_split_as::<false>(rt, at, pass) {
             Ok(front) => Ok(Self::from_parts(front)),
             Err(e) => Err(e),
@@ -176,6 +193,11 @@ impl<
             (λ first last.
             SplitsWriterTo H H.real false H.whole at self.old front self.new first last)) }
         ensures block { IfOk result (λ front. IsOneBlock front.place self.new.place) }
+        ensures lists { IfOk result (λ front. (front.items ≡ take at self.old.items)
+            × (self.new.items ≡ drop at self.old.items)) }
+        ensures places { IfOk result (λ front. (capacity_of front.role ≡ at)
+            × (capacity_of self.new.role ≡ capacity_of self.old.role - at)) }
+        ensures apart { IfOk result (λ front. ends_at at front.place self.new.place ≡ true) }
         ensures refused { IfErr result (λ e. (self.new ≡ self.old)
             × WithNewPass {H = H} H.real self.old.place (λ first last.
             RefusesSplitAt self.old.place first last e)) }

@@ -1,8 +1,11 @@
-use Rattle.std.proofs.Common.{true, false, sym, subst}
+use Rattle.std.proofs.Common.{◌≡◌, ◌-◌, true, false, take, drop, sym, subst}
 use Rattle.std.specs.Prelude.{IfOk}
 use Rattle.arc_block.specs.LayoutFacts.{layout_facts}
-use Rattle.arc_parts.specs.Shared.{SplitsWriterOff}
+use Rattle.arc_parts.specs.Shared.{SplitsWriterOff, IsSharedPlace, ends_at}
 use Rattle.arc_parts.specs.Window.{PartsView}
+use Rattle.arc_parts.specs.Writers.{capacity_of}
+use Rattle.arc_writer_parts.specs.Roles.{HasWritersRole}
+use Rattle.arc_write.proofs.Apart.{back_apart, back_lists, back_places}
 use Rattle.arc_write.proofs.Parts.{HoldsLegal}
 use Rattle.arc_write.proofs.Splits.{split_holds, front_stays}
 use Rattle.arc_write.proofs.slice_mut.splits.ArcSliceMut+S+L+0+B+M+A+H.try_split_off_as.Goals.{in-Ok, in-Err}
@@ -44,4 +47,45 @@ returns-clause-made g c =
           (subst (λ old. made-of old w.in-Ok.back) c.self.view_is
           (front_stays g.H.Mark.real g.H.Mark.whole c.args.at _ _ _ _ _ w.in-Ok.ensures.made)))
       | in-Err w ↦ subst (λ r. IfOk r (made-of c.args.self.now)) (sym w.result-is) tt
+    ]
+
+pub returns-clause-apart : goal.returns-clause-apart
+returns-clause-apart g c =
+    let are-apart : PartsView g.row.S-Item.Denot g.row.M.Denot → Type 0 = λ made.
+    ends_at c.args.at c.try_split_as.new.self.place made.place ≡ true in
+    elim c.match-try_split_as.branch [
+      | in-Ok w ↦ subst (λ r. IfOk r are-apart) (sym w.result-is)
+          (subst are-apart (sym w.from_parts.ensures)
+          (back_apart g.H.Mark.real g.H.Mark.whole c.args.at _ _ _ _ _ w.in-Ok.ensures.made
+          (subst (λ (u : PartsView g.row.S-Item.Denot g.row.M.Denot). IsSharedPlace u.place)
+          (sym c.self.view_is) c.known_place.ensures.place)))
+      | in-Err w ↦ subst (λ r. IfOk r are-apart) (sym w.result-is) tt
+    ]
+
+pub returns-clause-lists : goal.returns-clause-lists
+returns-clause-lists g c =
+    let lists : (old made : PartsView g.row.S-Item.Denot g.row.M.Denot) → Type 0 = λ old made.
+    (c.try_split_as.new.self.items ≡ take c.args.at old.items)
+    × (made.items ≡ drop c.args.at old.items) in
+    elim c.match-try_split_as.branch [
+      | in-Ok w ↦ subst (λ r. IfOk r (lists c.args.self.now)) (sym w.result-is)
+          (subst (lists c.args.self.now) (sym w.from_parts.ensures)
+          (subst (λ old. lists old w.in-Ok.back) c.self.view_is
+          (back_lists g.H.Mark.real g.H.Mark.whole c.args.at _ _ _ _ _ w.in-Ok.ensures.made)))
+      | in-Err w ↦ subst (λ r. IfOk r (lists c.args.self.now)) (sym w.result-is) tt
+    ]
+
+pub returns-clause-places : goal.returns-clause-places
+returns-clause-places g c =
+    let places : (old made : PartsView g.row.S-Item.Denot g.row.M.Denot) → Type 0 = λ old made.
+    (capacity_of c.try_split_as.new.self.role ≡ c.args.at)
+    × (capacity_of made.role ≡ capacity_of old.role - c.args.at) in
+    elim c.match-try_split_as.branch [
+      | in-Ok w ↦ subst (λ r. IfOk r (places c.args.self.now)) (sym w.result-is)
+          (subst (places c.args.self.now) (sym w.from_parts.ensures)
+          (subst (λ old. places old w.in-Ok.back) c.self.view_is
+          (back_places g.H.Mark.real g.H.Mark.whole c.args.at _ _ _ _ _ w.in-Ok.ensures.made
+          (subst (λ (u : PartsView g.row.S-Item.Denot g.row.M.Denot). HasWritersRole true u.role)
+          (sym c.self.view_is) c.known_place.ensures.role))))
+      | in-Err w ↦ subst (λ r. IfOk r (places c.args.self.now)) (sym w.result-is) tt
     ]
