@@ -2,6 +2,7 @@ mod Apart
 mod Extend
 pub mod Legal
 pub mod Held
+pub mod Kept
 mod More
 pub mod Parts
 pub mod ReadParts

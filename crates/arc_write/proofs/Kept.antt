@@ -1,0 +1,53 @@
+-- What is kept of a window that writes tells where it stands, and how many places are spare.
+use Rattle.std.proofs.Common.{◌≡◌, ℕ, ◌≤◌, List, [], ◌∷◌, ◌++◌, length, take, drop, refl, ap, ◌∙◌}
+use Rattle.arc_owners.specs.count.Calls.{Owner}
+use Rattle.arc_block.specs.Place.{Place, at_owner, moved}
+use Rattle.arc_parts.specs.Shared.{IsOneBlock}
+use Rattle.arc_parts.specs.Window.{PartsView}
+use Rattle.arc_parts.specs.Writers.{after_advance}
+use Rattle.arc_read.specs.Kept.{kept_read, without_metadata}
+use Rattle.arc_read.proofs.Kept.{kept_advanced, owner_after_read, owner_before_read, place_after_read}
+use Rattle.arc_write.specs.Kept.{kept_written}
+use Rattle.arc_write.specs.Within.{spare_places}
+use Rattle.arc_write.proofs.ReadParts.{spare_advanced}
+use Rattle.bytes.specs.Adapters.{kept_spare}
+
+abbrev second : List (List ℕ × ℕ) → ℕ
+second (x ∷ (y ∷ xs)) = y.1
+second (x ∷ []) = 0
+second [] = 0
+
+module _ {T M : Type 0} where
+  -- further in, as much is kept
+  pub written_advanced : (n : ℕ) (old new : PartsView T M) → n ≤ length old.items
+      → new ≡ after_advance n old → kept_written new ≡ kept_written old
+  written_advanced n old new within further =
+      let read : kept_read new.place new.items ≡ kept_read old.place old.items =
+      kept_advanced n old.place new.place old.items new.items within
+      (ap (λ (w : PartsView T M). w.place) further) (ap (λ (w : PartsView T M). w.items) further) in
+      let spare : spare_places new ≡ spare_places old =
+      ap (λ (w : PartsView T M). spare_places w) further ∙ spare_advanced n old within in
+      (λ i. read i ++ kept_spare (spare i))
+
+  module _ (old new : PartsView T M) (kept : kept_written new ≡ kept_written old) where
+    read_kept : kept_read new.place new.items ≡ kept_read old.place old.items
+    read_kept = ap (λ (all : List (List ℕ × ℕ)). take 1 all) kept
+
+    pub spare_kept : spare_places new ≡ spare_places old
+    spare_kept = ap second kept
+
+    pub place_kept : (n : ℕ) → n ≤ length old.items → new.items ≡ drop n old.items
+        → without_metadata new.place ≡ moved n (without_metadata old.place)
+    place_kept n within rest =
+        place_after_read n old.place new.place old.items new.items read_kept within rest
+
+    -- what holds of the owner at the one place holds of it at the other
+    pub owner_after : (none : Type 0) (some : Owner → Type 0) → at_owner old.place none some
+        → at_owner new.place none some
+    owner_after none some = owner_after_read old.place new.place old.items new.items read_kept
+        none some
+
+    pub owner_before : (none : Type 0) (some : Owner → Type 0) → at_owner new.place none some
+        → at_owner old.place none some
+    owner_before none some = owner_before_read old.place new.place old.items new.items read_kept
+        none some
