@@ -1,11 +1,14 @@
 //! Calls of one of several writers with a pass of the window's block.
-ghost use Rattle.std.specs.Prelude.{◌≡◌, ◌++◌, ◌∷◌, [], IfOk, IfErr, IfSome, OnOk, Err};
+ghost use Rattle.std.specs.Prelude.{◌≡◌, ◌≤◌, ◌++◌, ◌∷◌, [], length, take, drop};
+ghost use Rattle.std.specs.Prelude.{IfOk, IfErr, IfSome, OnOk, Err};
+ghost use Rattle.std.specs.Int.{w16, from_be_bytes};
 ghost use Rattle.std.specs.Box.{boxed_slice_items};
 ghost use Rattle.arc_parts.specs.Shared.{IsOneBlock};
 
 use arc_slice::error::{OwnerError, TryReserveError};
 use arc_slice::layout::{DefaultLayout, VecLayout};
 use arc_slice::{ArcBytes, ArcBytesMut, ArcBytesShared, ArcStrShared, Open, Pass};
+use bytes::Buf;
 use std::boxed::BoxedSlice;
 use std::sync::Wait;
 
@@ -26,6 +29,23 @@ pub fn split_and_joined(rt: &impl Wait, window: &mut ArcBytesShared) -> Option<b
         Ok(back) => Some(window.try_unsplit_as(back, &mut pass).is_ok()),
         Err(_) => None,
     }
+}
+
+/// The number that the window begins with. Then the window behind it is joined to it: after the read
+/// it is still known that both stand on one block.
+pub fn number_and_joined(
+    window: &mut ArcBytesShared,
+    behind: ArcBytesShared,
+) -> (u16, Result<(), ArcBytesShared>)
+    requires long { 2 ≤ length window.old.items }
+    requires block { IsOneBlock window.old.place behind.place }
+    ensures number { result.0 ≡ from_be_bytes w16 (take 2 window.old.items) }
+    ensures joined { OnOk result.1 (window.new.items ≡ drop 2 window.old.items ++ behind.items) }
+{
+    let number = window.get_u16();
+    window.known_after_reads();
+    let mut pass = window.pass();
+    (number, window.try_unsplit_as(behind, &mut pass))
 }
 
 /// Hands out the first half of the places.

@@ -4,6 +4,7 @@ ghost use Rattle.std.specs.Prelude.{◌≡◌, ◌≤◌, ◌+◌, ◌++◌, ◌
 ghost use Rattle.std.specs.Prelude.{IfOk, IfErr, IfSome, OnOk, Err};
 ghost use Rattle.std.specs.Box.{boxed_slice_items};
 ghost use Rattle.arc_block.specs.Block.{native};
+ghost use Rattle.arc_block.specs.Place.{IsOnBlock};
 ghost use Rattle.arc_parts.specs.Shared.{IsOneBlock, IsSharedPlace};
 ghost use Rattle.arc_parts.specs.Window.{IsOfSort};
 ghost use Rattle.arc_parts.specs.Writers.{capacity_of};
@@ -46,11 +47,20 @@ pub fn sole_if_last(window: ArcBytesShared) -> Result<Option<ArcBytesMut>, ArcBy
 /// Where one of several writers stands: on nothing, or on a native block or a vector that counts
 /// its owners. The calls do nothing: their contracts are the laws.
 pub fn known(window: &ArcBytesShared)
-    ensures { IsSharedPlace window.now.place }
+    ensures place { IsSharedPlace window.now.place }
+    ensures idle { (¬ IsOnBlock window.now.place) → window.now.items ≡ [] }
 {
     window.known_place();
     window.known_kind();
     window.known_uncounted();
+    window.known_idle();
+}
+
+/// How many owners the window's block may have.
+pub fn most_owners(window: &ArcBytesShared) -> u64
+    ensures { result ≡ 9223372036854775807 }
+{
+    window.max_owners()
 }
 
 /// Hands out the first half of the places, for another writer.

@@ -1,7 +1,10 @@
 //! Short lists of bytes in a value of their own, and windows that are either such a list or a
 //! window that is read.
-ghost use Rattle.std.specs.Prelude.{◌≡◌, [], drop, take, slice_range};
+ghost use Rattle.std.specs.Prelude.{◌≡◌, ◌≤◌, [], drop, length, take, slice_range};
 ghost use Rattle.std.specs.Prelude.{IfOk, IfErr, IfSome, OnOk};
+ghost use Rattle.std.specs.Int.{w16, from_be_bytes};
+ghost use Rattle.arc_block.specs.Place.{moved};
+ghost use Rattle.arc_read.specs.Kept.{without_metadata};
 
 use arc_slice::error::{AllocError, OwnerError, RangeError};
 use arc_slice::inlined::{
@@ -9,6 +12,7 @@ use arc_slice::inlined::{
 };
 use arc_slice::layout::VecLayout;
 use arc_slice::{ArcBytes, Pass};
+use bytes::Buf;
 use either::{Left, Right};
 use std::alloc::Global;
 use std::boxed::BoxedSlice;
@@ -178,6 +182,20 @@ pub fn narrowed(text: &mut SmallArcStr, start: usize) -> Result<(), RangeError>
     }
     text.advance(start);
     Ok(())
+}
+
+/// The number that the window begins with. After the read it stands where it stood, two places
+/// further in.
+pub fn number(window: &mut SmallArcBytes) -> u16
+    requires { 2 ≤ length window.old.items }
+    ensures value { result ≡ from_be_bytes w16 (take 2 window.old.items) }
+    ensures rest { window.new.items ≡ drop 2 window.old.items }
+    ensures place { without_metadata window.new.place
+        ≡ moved 2 (without_metadata window.old.place) }
+{
+    let number = window.get_u16();
+    window.known_after_reads();
+    number
 }
 
 /// How many bytes a window has in itself, if it has them there.

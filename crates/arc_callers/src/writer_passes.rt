@@ -1,10 +1,13 @@
 //! Calls of sole writers with a pass of the window's block.
-ghost use Rattle.std.specs.Prelude.{◌≡◌, ◌++◌, IfOk, IfErr, OnOk};
+ghost use Rattle.std.specs.Prelude.{◌≡◌, ◌≤◌, ◌++◌, length, take, IfOk, IfErr, OnOk};
+ghost use Rattle.std.specs.Int.{w16, from_be_bytes};
+ghost use Rattle.arc_parts.specs.Steps.{IsPassAt};
 ghost use Rattle.std.specs.Box.{boxed_slice_items};
 
 use arc_slice::error::{AllocError, TryReserveError};
 use arc_slice::layout::{DefaultLayout, DefaultLayoutMut, VecLayout};
 use arc_slice::{ArcBytes, ArcBytesMut, ArcStrMut, Open, Pass, Whole};
+use bytes::Buf;
 use std::alloc::Global;
 use std::boxed::BoxedSlice;
 
@@ -21,6 +24,19 @@ pub fn alone(window: &ArcBytesMut) -> Pass<Open> {
     let other = window.pass();
     window.learn(&mut pass, &other);
     pass
+}
+
+/// The number that a window begins with, after which the window ends: after the read the pass is
+/// still one of its block.
+pub fn number_and_end(mut window: WholeBytesMut, pass: &mut Pass<Whole>) -> u16
+    requires long { 2 ≤ length window.items }
+    requires pass { IsPassAt window.place pass.old }
+    ensures { result ≡ from_be_bytes w16 (take 2 window.items) }
+{
+    let number = window.get_u16();
+    window.known_after_reads();
+    window.release_as(pass);
+    number
 }
 
 /// A window with so many places, one over so many zeros, and one over a copy, each with a pass of

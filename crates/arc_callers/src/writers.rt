@@ -2,6 +2,7 @@
 //! and ended. `encoder` pushes and extends, `editor` cuts back and freezes.
 ghost use Rattle.std.specs.Prelude.{◌≡◌, ◌<◌, ◌≤◌, ◌+◌, ◌++◌, ◌↔◌, [], length, drop, true};
 ghost use Rattle.std.specs.Prelude.{IsOk, IfOk, IfErr, OnOk, slice_set};
+ghost use Rattle.arc_block.specs.Place.{IsOnBlock};
 ghost use Rattle.arc_parts.specs.Writers.{capacity_of, IsWriterPlace};
 
 use arc_slice::buffer::{ByteText, Owned, Plain};
@@ -93,11 +94,20 @@ pub fn seen<'a>(window: &'a ArcBytesMut, text: &'a ArcStrMut) -> (&'a [u8], bool
 }
 
 /// Where a writer stands: on nothing, or on a block that counts its owners and may be written. The
-/// call does nothing: its contract is the law.
+/// calls do nothing: their contracts are the laws.
 pub fn known(window: &ArcBytesMut)
-    ensures { IsWriterPlace window.now.place }
+    ensures place { IsWriterPlace window.now.place }
+    ensures idle { (¬ IsOnBlock window.now.place) → window.now.items ≡ [] }
 {
     window.known_place();
+    window.known_idle();
+}
+
+/// How many owners the window's block may have.
+pub fn most_owners(window: &ArcBytesMut) -> u64
+    ensures { result ≡ 9223372036854775807 }
+{
+    window.max_owners()
 }
 
 /// How many places there are behind the bytes, and whether the window may be split at `at`.
