@@ -222,7 +222,7 @@ fn word<G: Arguments>(given: &G, alloc: Global, i: usize) -> Result<Option<Strin
 }
 
 /// The words behind the program's name, in their order. An empty word stands for one that isn't
-/// text, or that is longer than each word that the program knows.
+/// UTF-8, or for which 64 bytes aren't enough.
 ///
 /// # Errors
 ///

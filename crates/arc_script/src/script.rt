@@ -35,8 +35,8 @@ use std::alloc::Allocator;
 use std::sync::Wait;
 use thiserror::Error;
 
-/// How many bytes are read at most by one call. As soon as as many bytes of replies are held, these
-/// are written.
+/// The most bytes that one call reads. Replies that are held are written once they have so many
+/// bytes.
 const PIECE: usize = 65536;
 
 /// Why a script isn't run to its end.
