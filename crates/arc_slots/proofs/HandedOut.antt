@@ -13,7 +13,8 @@ use Rattle.arc_block.specs.Owned.{Stand}
 use Rattle.arc_block.specs.Table.{Row, Role, reader, sole_writer, one_writer_of_several, inline}
 use Rattle.arc_block.specs.Table.{forgotten, block_of}
 use Rattle.arc_parts.specs.Shared.{is_vector_at}
-use Rattle.arc_commands.specs.Additions.{Enters, Joins, RowAdds, Splits, refused}
+use Rattle.arc_commands.specs.Additions.{Effect, Enters, GivesItself, GivesOther, RowAdds, Splits}
+use Rattle.arc_commands.specs.Additions.{refused}
 use Rattle.arc_commands.specs.Changes.{Change, Setting, Shortage, in_range, is_now}
 use Rattle.arc_commands.specs.Changes.{no_shortage, of_table, part_of, parted, split}
 use Rattle.arc_commands.specs.Changes.{with_made}
@@ -37,6 +38,11 @@ use Rattle.arc_slots.proofs.Roles.{writer_each}
 use Rattle.arc_slots.proofs.Told.{full-beside, many-beside, many-refused, room-beside, row-block}
 use Rattle.arc_slots.proofs.Told.{why-refused-at}
 
+-- a window itself is handed out, or another one
+abbrev GivesBy : (itself : Bool) → Effect Whole
+GivesBy false = GivesOther
+GivesBy true = GivesItself
+
 module _ {T M : Type 0} (setting : Setting T) (windows : ℕ) (s : SlotView T M)
     (passes : List (Pass Whole)) where
   open before_of setting windows s passes use {here, row, around, Said}
@@ -51,13 +57,13 @@ module _ {T M : Type 0} (setting : Setting T) (windows : ℕ) (s : SlotView T M)
     pub change : (short : Shortage) → answer_any setting short around c row
         ≡ parted setting short around row part (if itself then part else rest)
         (if itself then row else part)
-    pub joins : (number : ℕ) (there : Stand) (made : Option Stand) (passes' : List (Pass Whole))
-        → Joins here there made passes passes' itself
-        → RowAdds here there made passes passes' setting row c (reply.New number)
+    pub gives : (number : ℕ) (there : Stand) (made : Option Stand) (passes' : List (Pass Whole))
+        → GivesBy itself here there made passes passes'
+        → RowAdds setting row c (reply.New number) here there made passes passes'
     pub enters : (e : OwnerError) (passes' : List (Pass Whole))
-        → Enters here here None passes passes' (refused e)
-        → RowAdds here here None passes passes' setting row c (reply.Owner e)
-    pub nothing : RowAdds here here None passes passes setting row c reply.Alloc
+        → Enters (refused e) here here None passes passes'
+        → RowAdds setting row c (reply.Owner e) here here None passes passes'
+    pub nothing : RowAdds setting row c reply.Alloc here here None passes passes
 
   -- ---- clones and ranges
 
@@ -93,7 +99,7 @@ module _ {T M : Type 0} (setting : Setting T) (windows : ℕ) (s : SlotView T M)
       change =
           λ short. for-role setting windows s passes short (command.Clone i)
           (unwritten-for (command.Clone i) refl refl s.role known other);
-      joins = λ number there made passes' joins. joins;
+      gives = λ number there made passes' gives. gives;
       enters = λ e passes' enters. enters;
       nothing = (refl, refl, refl);
     }
@@ -115,7 +121,7 @@ module _ {T M : Type 0} (setting : Setting T) (windows : ℕ) (s : SlotView T M)
         change =
             λ short. range-is short
             ∙ ap (λ a. in_range a row (parted setting short around row range row range)) ok;
-        joins = λ number there made passes' joins. joins;
+        gives = λ number there made passes' gives. gives;
         enters = λ e passes' enters. enters;
         nothing = (refl, refl, refl);
       }
@@ -199,12 +205,17 @@ module _ {T M : Type 0} (setting : Setting T) (windows : ℕ) (s : SlotView T M)
         (split-is (Front at) no_shortage
         ∙ ap (λ a. in_range a row (split_so no_shortage (Front at))) is) (refl, refl, refl)
 
-    split-joins : (there : Stand) (made : Option Stand) (passes' : List (Pass Whole)) (out : Bool)
-        → Joins here there made passes passes' out
-        → Splits here there made passes passes' (is_several row.role) (is_vector_at row.place) out
-    split-joins there made passes' out joins =
-        subst (λ b. Splits here there made passes passes' b (is_vector_at row.place) out) (sym one)
-        joins
+    split-gives : (there : Stand) (made : Option Stand) (passes' : List (Pass Whole)) (out : Bool)
+        → GivesBy out here there made passes passes'
+        → Splits (is_several row.role) (is_vector_at row.place) out here there made passes passes'
+    split-gives there made passes' out gives =
+        subst (λ b. Splits b (is_vector_at row.place) out here there made passes passes') (sym one)
+        (by out gives)
+      where
+        by : (b : Bool) → GivesBy b here there made passes passes'
+            → Splits false (is_vector_at row.place) b here there made passes passes'
+        by false gives = gives
+        by true gives = gives
 
     pub splits : (part : Part)
         → edge_answer setting.boundary s.window.items (split_at part) ≡ Ok tt
@@ -214,7 +225,7 @@ module _ {T M : Type 0} (setting : Setting T) (windows : ℕ) (s : SlotView T M)
       change =
           λ short. split-is (Back at) short
           ∙ ap (λ a. in_range a row (split_so short (Back at))) ok;
-      joins = λ number there made passes' joins. split-joins there made passes' (at == 0) joins;
+      gives = λ number there made passes' gives. split-gives there made passes' (at == 0) gives;
       enters = λ e passes' enters. enters;
       nothing = (refl, refl, refl);
     }
@@ -222,9 +233,9 @@ module _ {T M : Type 0} (setting : Setting T) (windows : ℕ) (s : SlotView T M)
       change =
           λ short. split-is (Front at) short
           ∙ ap (λ a. in_range a row (split_so short (Front at))) ok;
-      joins =
-          λ number there made passes' joins.
-          split-joins there made passes' (at == length row.items) joins;
+      gives =
+          λ number there made passes' gives.
+          split-gives there made passes' (at == length row.items) gives;
       enters = λ e passes' enters. enters;
       nothing = (refl, refl, refl);
     }
@@ -299,9 +310,9 @@ module _ {T M : Type 0} (setting : Setting T) (windows : ℕ) (s : SlotView T M)
         -- it was made: the window's owner has the one part, and that one the other
         hand-made : (kept made other : SlotView T M) → row_of kept ≡ kept_row → row_of made ≡ made_row
             → row_of other ≡ part → Beside here passes passes' (stand_of (Some other))
-            → Joins here (stand_of (Some kept)) (Some (stand_of (Some made))) passes passes' itself
+            → GivesBy itself here (stand_of (Some kept)) (Some (stand_of (Some made))) passes passes'
             → Said c (reply.New windows) (Some kept) (Some made) passes'
-        hand-made kept made other kept-is made-is other-is beside joins =
+        hand-made kept made other kept-is made-is other-is beside gives =
             let room =
             ap (λ x. around.full && is_some x)
             (ap (λ (r : Row T M). block_of r.place) (sym other-is) ∙ row-block other)
@@ -315,8 +326,8 @@ module _ {T M : Type 0} (setting : Setting T) (windows : ℕ) (s : SlotView T M)
                   ∙ ap (with_made around (row_of kept)) (sym made-is);
               blocks = many-beside passes passes' here (stand_of (Some other)) beside;
               adds =
-                  h.joins windows (stand_of (Some kept)) (Some (stand_of (Some made))) passes'
-                  joins;
+                  h.gives windows (stand_of (Some kept)) (Some (stand_of (Some made))) passes'
+                  gives;
             }
 
         pub hand-itself : (handed kept : SlotView T M) → itself ≡ true
@@ -325,13 +336,12 @@ module _ {T M : Type 0} (setting : Setting T) (windows : ℕ) (s : SlotView T M)
         hand-itself handed kept is p =
             hand-made kept handed kept
             (p.made_is ∙ ap (λ b. if b then part else rest) (sym is))
-            (p.same_is ∙ ap (λ b. if b then row else part) (sym is)) p.made_is p.added (
-              stand_of (Some kept),
-              raises-beside passes passes' here (stand_of (Some kept)) p.added,
-              ap (λ b. if b then stand_of (Some kept) else here) (sym is),
-              ap Some p.owner
-                  ∙ ap (λ b. Some (if b then here else stand_of (Some kept))) (sym is),
-            )
+            (p.same_is ∙ ap (λ b. if b then row else part) (sym is)) p.made_is p.added
+            (subst (λ b. GivesBy b here (stand_of (Some kept)) (Some (stand_of (Some handed))) passes
+            passes') (sym is) (record {
+              raises = raises-beside passes passes' here (stand_of (Some kept)) p.added;
+              handed_out = ap Some p.owner;
+            }))
 
         pub hand-beside : (handed kept : SlotView T M) → itself ≡ false
             → IsSplit s kept handed rest part passes passes'
@@ -339,9 +349,11 @@ module _ {T M : Type 0} (setting : Setting T) (windows : ℕ) (s : SlotView T M)
         hand-beside handed kept is p =
             hand-made kept handed handed
             (p.same_is ∙ ap (λ b. if b then part else rest) (sym is))
-            (p.made_is ∙ ap (λ b. if b then row else part) (sym is)) p.made_is p.added (
-              stand_of (Some handed),
-              raises-beside passes passes' here (stand_of (Some handed)) p.added,
-              p.owner ∙ ap (λ b. if b then stand_of (Some handed) else here) (sym is),
-              ap (λ b. Some (if b then here else stand_of (Some handed))) (sym is),
-            )
+            (p.made_is ∙ ap (λ b. if b then row else part) (sym is)) p.made_is p.added
+            (subst (λ b. GivesBy b here (stand_of (Some kept)) (Some (stand_of (Some handed))) passes
+            passes') (sym is) (record {
+              other = stand_of (Some handed);
+              raises = raises-beside passes passes' here (stand_of (Some handed)) p.added;
+              stays = p.owner;
+              handed_out = refl;
+            }))

@@ -224,13 +224,13 @@ module _ {T M : Type 0} (setting : Setting T) (slots : List (Option (SlotView T 
         (adds-are c r (state_of slots' passes') (Some i) on one (subst (λ x. MatchOption x
         ((state_of slots' passes').standing ≡ old.standing) (λ row.
         (there : Stand) × (made : Option Stand)
-        × RowAdds (stand_in old.standing i) there made passes passes' setting row c r
+        × RowAdds setting row c r (stand_in old.standing i) there made passes passes'
         × (stands_of slots' ≡ with_stand (slice_set (stands_of slots) i there) made)))
         (sym row-there) (
           stand_of new,
           option_map (λ s. stand_of (Some s)) made,
-          subst (λ st. RowAdds st (stand_of new) (option_map (λ s. stand_of (Some s)) made) passes
-              passes' setting (row_of s) c r) (sym stand-is) said.adds,
+          subst (λ st. RowAdds setting (row_of s) c r st (stand_of new)
+              (option_map (λ s. stand_of (Some s)) made) passes passes') (sym stand-is) said.adds,
           stands,
         )))
 
@@ -255,7 +255,7 @@ module _ {T M : Type 0} (setting : Setting T) (slots : List (Option (SlotView T 
       (adds-are c reply.NoWindow old (Some i) on one (subst (λ x. MatchOption x (old.standing
       ≡ old.standing) (λ row.
       (there : Stand) × (made : Option Stand)
-      × RowAdds (stand_in old.standing i) there made passes passes setting row c reply.NoWindow
+      × RowAdds setting row c reply.NoWindow (stand_in old.standing i) there made passes passes
       × (stands_of slots ≡ with_stand (slice_set (stands_of slots) i there) made)))
       (sym row) refl))
 
