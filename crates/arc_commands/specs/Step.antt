@@ -37,7 +37,7 @@ use Rattle.arc_commands.specs.declared.command.Cmd.TheVariants.{Vec, Raw, Buf, M
 use Rattle.arc_commands.specs.declared.command.Cmd.TheVariants.{Take, TakeBox, TakeBuf, TakeRaw}
 use Rattle.arc_commands.specs.declared.command.Reply.TheVariants as reply
 
--- where it was refused, and what a buffer said, as the reply to a command tells
+-- what the reply to a command tells was refused, or what a buffer said
 abbrev pub shortage : {T M : Type 0} → ListReply T M → ListCmd T M → Shortage
 shortage reply.Alloc command = of_table
 shortage (reply.Owner AllocError) command = of_clones
@@ -387,14 +387,17 @@ abbrev pub answer : {T M : Type 0} → Setting T → Shortage → (places : ℕ)
 answer setting short places t c =
     answer_on setting short places t c (window_of c) (other_of c)
 
--- From old, the table may give this reply to the command and go on to new: it is the answer, where
--- memory was refused as the reply tells, and a vector or a buffer that the command brings, or a
--- buffer that makes room for what it writes, has so many places. What is refused changes nothing.
+-- From old, the table may give this reply to the command and go on to new: these are the answer,
+-- where something was refused so, which the reply tells, and a vector or a buffer that the command
+-- brings, or a buffer that makes room for what it writes, has so many places. What is refused
+-- changes nothing.
 pub record Step {T M : Type 0} (setting : Setting T) (old : Table T M) (c : ListCmd T M)
     (reply : ListReply T M) (new : Table T M) : Type 0 where
+  pub short : Shortage
+  pub told : short ≡ shortage reply c
   pub places : ℕ
   pub enough : count_brought c ≤ places
-  pub answered : answer setting (shortage reply c) places old c ≡ (reply, new)
+  pub answered : answer setting short places old c ≡ (reply, new)
 
 -- the table may give these replies to these commands, one after another
 abbrev pub Run : {T M : Type 0} → Setting T → Table T M → List (ListCmd T M)
