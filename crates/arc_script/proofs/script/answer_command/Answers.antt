@@ -16,7 +16,7 @@ returns g c =
     (Some reply)
     c.step_here-reply.new.self =
     subst (λ s. CarriesOut s table (line_command c.args.command) reply c.step_here-reply.new.self)
-    g.met.L.NamedLayout.run_so c.step_here-reply.ensures in
+    g.met.L.NamedLayout.run_so c.step_here-reply.ensures.carried in
     let push = c.push_answer in
     record {
       ok = on_ok_then push.result push.ensures.ok (λ wrote.

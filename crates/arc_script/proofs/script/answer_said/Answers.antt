@@ -34,7 +34,7 @@ returns-in-Some g c =
     c.step-reply.new.self =
     rw c.in-Some.is (subst (λ s. CarriesOut s table (line_command c.in-Some.command) reply
     c.step-reply.new.self)
-    g.met.L.NamedLayout.run_so c.step-reply.ensures) in
+    g.met.L.NamedLayout.run_so c.step-reply.ensures.carried) in
     let push = c.push_answer-in-Some in
     record {
       ok = on_ok_then push.result push.ensures.ok (λ wrote.
