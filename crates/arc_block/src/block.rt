@@ -1,5 +1,5 @@
-//! Blocks of a caller's making: a vector, a buffer or an `Arc` of one. It stays where it is while a
-//! window stands on it.
+//! Blocks of a caller's making: a vector, a buffer or an `Arc` of one. Each stays where it is while
+//! a window stands on it.
 ghost use Rattle.std.specs.Prelude.{◌≡◌, ◌≤◌, ◌↔◌, length, true, false, Bool, IsTrue};
 ghost use Rattle.std.specs.Prelude.{IfOk, IfErr, OnErr, IfSome, IfNone, is_some};
 ghost use Rattle.std.specs.Vec.{vec_capacity};
@@ -45,7 +45,7 @@ use std::sync::Arc;
 /// How many owners a window's block may have at once: 9,223,372,036,854,775,807.
 pub const MAX_OWNERS: u64 = 9223372036854775807;
 
-/// `MAX_OWNERS` as a number.
+/// Answers `MAX_OWNERS`. The contract says which number that is.
 pub fn max_owners() -> u64
     ensures { result ≡ 9223372036854775807 }
 {
@@ -126,7 +126,7 @@ impl<
 ///
 /// # Allocates
 ///
-/// Once, where there are more places than items.
+/// Once, where there are items, and more places than items.
 pub fn exact<T: Drop, A: Allocator + Copy>(
     alloc: A,
     items: Vec<T, A>,
@@ -367,7 +367,8 @@ impl<
         }
     }
 
-    /// Whether the block is a vector. One that may be written and isn't is a caller's buffer.
+    /// Whether the block is a vector. The contract says too that any other block which may be
+    /// written is a caller's buffer.
     pub fn is_vector(&self) -> bool
         ensures answer { IsTrue result ↔ (self.now.facts.sort ≡ vector) }
         ensures other { result ≡ false → IsWritable self.now.facts.sort
@@ -457,8 +458,8 @@ impl<
         self.piece.is_unique_as(pass)
     }
 
-    /// Whether no other owner has a part of the block. The count is read, and of a caller's buffer
-    /// the buffer is asked too. Of an `Arc` no count is read, and the answer is no.
+    /// Whether no other owner has a part of the block. The count is read; where that says yes, a
+    /// caller's buffer is asked too. Of an `Arc` no count is read, and the answer is no.
     ///
     /// # History
     ///
@@ -555,6 +556,10 @@ impl<
     /// What a drop does. Under `Open` this owner ends with a new pass, which is the answer, and the
     /// last one gives the block back. Under `Whole` it is a forgotten owner: no step is made, and
     /// the answer is a pass of no block. It takes no memory.
+    ///
+    /// # History
+    ///
+    /// Under `Open`: Down. Under `Whole`: nothing.
     #[inline(always)]
     pub fn let_go(self) -> Pass<H>
         ensures forgotten { H.whole ≡ true → IsPassOfNone result }

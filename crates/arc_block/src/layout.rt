@@ -87,15 +87,15 @@ pub trait TruncateNoAllocLayout: Layout {}
 
 impl<L: Layout> TruncateNoAllocLayout for L {}
 
-/// Layouts to which windows of another one may go: all. A window whose block the new layout doesn't
-/// hold is handed back.
+/// Layouts to which windows of another one may go: all. A window whose block or static data the new
+/// layout doesn't hold is handed back.
 pub trait FromLayout<L: Layout>: Layout {}
 
 impl<L: Layout, M: Layout> FromLayout<L> for M {}
 
 /// The default layout: a window stands on a block that counts its owners. `ANY` says whether that
-/// may be a vector or a caller's buffer, `STATIC` whether windows may stand on nothing, or on
-/// static data.
+/// may be a vector, a caller's buffer, or an `Arc` of one. `STATIC` says whether windows may stand
+/// on nothing, or on static data.
 #[derive(Clone, Copy, Debug, PartialEq, Eq)]
 pub struct ArcLayout<const ANY: bool, const STATIC: bool>;
 

@@ -67,7 +67,7 @@ impl<T> StaticShare<T> {
         (none.as_ptr(), StaticShare { mark: PhantomData })
     }
 
-    /// A copy of it, for the same items or value.
+    /// A copy of it, for the same items.
     #[inline(always)]
     pub fn again(&self) -> StaticShare<T>
         ensures { result ≡ self.now }
@@ -97,8 +97,8 @@ impl<T> StaticShare<T> {
 
 /// Items that lie side by side for good, with the place where they begin. Contracts see the items.
 ///
-/// It is one word, for a value that keeps a range itself, as `Parts` do. A read of a range is one
-/// sum and one difference, and reads no memory. Only parts make and read one.
+/// It is one word, for a value that keeps a range itself, as `Parts` and `StaticSlice` do. A read
+/// of a range is one sum and one difference, and reads no memory.
 #[derive(Drop)]
 pub struct StaticItems<T> {
     base: Base<T>,
@@ -135,7 +135,7 @@ impl<T> StaticItems<T> {
         self.share.as_slice(self.base.at, start, end)
     }
 
-    /// A copy of it, for the same items or value.
+    /// A copy of it, for the same items.
     #[inline(always)]
     pub fn again(&self) -> Self
         ensures { result ≡ self.now }
@@ -278,7 +278,7 @@ impl<T> StaticSlice<T> {
         }
     }
 
-    /// A copy of it, for the same items or value.
+    /// A copy of it, for the same items.
     #[inline(always)]
     pub fn again(&self) -> Self
         ensures { result ≡ self.now }

@@ -20,7 +20,7 @@ pub fn write_byte_string<W: fmt::Write>(bytes: &[u8], f: &mut fmt::Formatter<W>)
     f.write_str("\"")
 }
 
-/// Writes two hexadecimal digits for each byte.
+/// Writes two hexadecimal digits for each byte, with letters in upper case where `upper`.
 ///
 /// # Errors
 ///

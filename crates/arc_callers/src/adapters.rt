@@ -183,8 +183,8 @@ pub fn written(writer: &mut ArcBytesMut, bytes: &[u8], text: &str) -> ([bool; 4]
     (done, writer.remaining_mut())
 }
 
-/// The same with one of several writers, who has room in his own places only, while the others
-/// live.
+/// Appends to one of several writers what `written` appends. The writer has room in its own places
+/// only, while the others live.
 pub fn written_by_one(
     several: &mut ArcBytesShared,
     bytes: &[u8],

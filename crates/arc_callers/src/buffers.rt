@@ -127,7 +127,8 @@ pub fn names_of_writer(window: &PagesMut) -> (Option<u64>, Option<u32>, bool) {
     )
 }
 
-/// The same of one of several writers, who has neither: none stands on a caller's buffer.
+/// The name and the number of a page, asked of one of several writers. It has neither: none stands
+/// on a caller's buffer.
 pub fn names_of_several(window: &PagesShared) -> (Option<u64>, Option<u32>) {
     (
         window.metadata().copied(),

@@ -47,8 +47,8 @@ fn frame_end(bytes: &[u8]) -> Option<usize>
     Some(2 + len)
 }
 
-/// Takes the payload of the first frame off a buffer, as a window on the same block. Nothing is
-/// changed where the buffer has no whole frame, and where a window is refused.
+/// Takes the payload of the first frame off a buffer, as a window on the same block. The buffer is
+/// as it was where it has no whole frame, and where a window is refused.
 pub fn take_frame(rt: &impl Wait, buffer: &mut ArcBytes) -> Result<Option<ArcBytes>, OwnerError>
     ensures taken { IfOk result (λ frame. MatchOption frame
         (HasNoFrame buffer.old.items × (buffer.new ≡ buffer.old))

@@ -46,7 +46,7 @@ where
     window.put_slice(line).is_ok() && window.put_u8(10).is_ok()
 }
 
-/// The same with a sole writer, and with one of several.
+/// Puts the line by `line_put`, with a sole writer and with one of several.
 pub fn lines_put(sole: &mut ArcBytesMut, several: &mut ArcBytesShared, line: &[u8]) -> [bool; 2] {
     [line_put(sole, line), line_put(several, line)]
 }
@@ -77,7 +77,7 @@ where
     }
 }
 
-/// The same with a sole writer, and with one of several.
+/// Appends the bytes by `counted_behind`, with a sole writer and with one of several.
 pub fn counted_twice(
     sole: &mut ArcBytesMut,
     several: &mut ArcBytesShared,

@@ -33,7 +33,7 @@ pub fn pushed<T: Drop>(
     }
 }
 
-/// The same by one of several writers, of items that are copied.
+/// Appends an item that is copied to one of several writers, once there is room for two.
 pub fn pushed_beside<T: Copy + Drop>(
     window: &mut ArcSliceMut<Plain<T>, DefaultLayoutMut, 0>,
     item: T,

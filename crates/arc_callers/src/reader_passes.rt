@@ -1,15 +1,18 @@
 //! Calls of readers with a pass of the window's block. In the pass contracts see what the calls add
 //! to the history of its owners. Each call goes on where the last one ended; a plain form takes a
 //! new pass.
-ghost use Rattle.std.specs.Prelude.{◌≡◌, ◌≤◌, ◌++◌, length, IfOk, IfErr, IfSome};
+ghost use Rattle.std.specs.Prelude.{◌≡◌, ◌≤◌, ◌++◌, Bool, length, take, IfOk, IfErr, IfSome};
+ghost use Rattle.std.specs.Int.{w16, from_be_bytes};
 ghost use Rattle.std.specs.Box.{boxed_slice_items};
-ghost use Rattle.arc_owners.specs.count.Calls.{IsPassOfNone};
+ghost use Rattle.arc_owners.specs.count.Calls.{IsPassOfNone, Leaves};
+ghost use Rattle.arc_block.specs.Place.{at_owner};
 ghost use Rattle.arc_parts.specs.Steps.{IsPassAt};
 
 use arc_slice::buffer::Plain;
 use arc_slice::error::{AllocError, OwnerError};
 use arc_slice::layout::{DefaultLayout, DefaultLayoutMut, VecLayout};
 use arc_slice::{ArcBytes, ArcBytesMut, ArcSlice, ArcStr, IntoMut, Open, Pass, Whole};
+use bytes::Buf;
 use std::alloc::Global;
 use std::boxed::BoxedSlice;
 use std::sync::{Arc, Wait};
@@ -112,7 +115,7 @@ pub fn buffer(alloc: Global, bytes: Vec<u8>) -> Result<Vec<u8>, ArcBytes>
     }
 }
 
-/// The same with a name beside it.
+/// A window over a vector as a caller's buffer, with a name beside it.
 pub fn named(alloc: Global, bytes: Vec<u8>, name: u64) -> Result<Named, (Vec<u8>, u64)>
     ensures { IfErr result (λ back. back.1 ≡ name) }
 {
@@ -157,7 +160,7 @@ pub fn boxed_if_last(alloc: Global, bytes: BoxedSlice<u8>) -> Option<BoxedSlice<
     }
 }
 
-/// The same of a caller's buffer.
+/// A caller's buffer, moved in and out: its only owner is the last one.
 pub fn buffer_if_last(alloc: Global, bytes: Vec<u8>) -> Option<Vec<u8>>
     ensures { IfSome result (λ back. back.items ≡ bytes.items) }
 {
@@ -171,7 +174,7 @@ pub fn buffer_if_last(alloc: Global, bytes: Vec<u8>) -> Option<Vec<u8>>
     }
 }
 
-/// The same of an `Arc`.
+/// A vector behind an `Arc`, moved in and out: its only owner is the last one.
 pub fn arc_if_last(alloc: Global, shared: Arc<Vec<u8>>) -> Option<Arc<Vec<u8>>> {
     let mut pass = Pass::none();
     match ArcBytes::<DefaultLayout>::try_from_raw_buffer_as(alloc, shared, &mut pass) {
@@ -222,4 +225,19 @@ pub fn writable(window: ArcBytes) -> Result<ArcBytesMut, ArcBytes>
 {
     let mut pass = window.pass();
     window.try_into_mut_as::<DefaultLayoutMut>(&mut pass)
+}
+
+/// The number that a window begins with, after which the window ends. Its owner is still known: it
+/// adds one Down.
+pub fn number_and_end(mut window: WholeBytes, pass: &mut Pass<Whole>) -> u16
+    requires long { 2 ≤ length window.items }
+    requires pass { IsPassAt window.place pass.old }
+    ensures value { result ≡ from_be_bytes w16 (take 2 window.items) }
+    ensures entry { at_owner window.place (pass.new ≡ pass.old) (λ o. (last : Bool)
+        × Leaves o pass.old pass.new last) }
+{
+    let number = window.get_u16();
+    window.known_after_reads();
+    window.release_as(pass);
+    number
 }

@@ -71,7 +71,8 @@ pub fn array(window: ArcSlice<Owned<String>>) -> Result<[String; 2], ArcSlice<Ow
     window.try_into_array::<2>()
 }
 
-/// The same of writers: a box of one that has filled all places of a vector, and an array.
+/// What two writers' windows stand on: the box of one that has filled all places of a vector, and
+/// the items of one on a native block, as an array.
 pub fn of_writers(
     over_vector: ArcBytesMut,
     on_block: ArcBytesMut,

@@ -125,7 +125,7 @@ pub fn buffer(alloc: Global, bytes: Vec<u8>) -> Result<Vec<u8>, ArcBytesMut>
     }
 }
 
-/// The same with a name beside it.
+/// A window over a caller's buffer that is written, with a name beside it.
 pub fn named(alloc: Global, bytes: Vec<u8>, name: u64) -> Result<NamedMut, (Vec<u8>, u64)>
     ensures { IfErr result (λ back. back.1 ≡ name) }
 {

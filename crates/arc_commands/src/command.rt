@@ -132,11 +132,12 @@ pub enum Cmd<C: Carried> {
         window: usize,
         additional: usize,
     },
-    /// Turns a sole writer's window into one that is read.
+    /// Turns a window that is written into one that is read.
     Freeze {
         window: usize,
     },
-    /// Turns a window that is read, and is alone, into one that is written.
+    /// Turns a window that is read into a sole writer's, if it is alone on its block, or has no
+    /// items and stands on no block.
     Mut {
         window: usize,
     },
@@ -148,8 +149,9 @@ pub enum Cmd<C: Carried> {
     Unique {
         window: usize,
     },
-    /// Puts the places of another window of the same block, which begin where those of the first
-    /// end, behind these. Then the other window is gone.
+    /// Puts the places of another window of the same block behind those of a window that has an
+    /// item at each of its own, where the other's places begin where these end. Then the other
+    /// window is gone.
     Join {
         window: usize,
         other: usize,
@@ -172,7 +174,7 @@ pub enum Cmd<C: Carried> {
     Take {
         window: usize,
     },
-    /// Takes it as a box.
+    /// Takes the vector on which a window stands, as a box, and ends the window.
     TakeBox {
         window: usize,
     },
@@ -291,7 +293,7 @@ pub trait Given {
     /// A buffer of a caller's.
     type Buffer;
 
-    /// An `Arc` of one.
+    /// An `Arc` of a caller's buffer.
     type Raw;
 
     /// A `'static` slice.
@@ -332,7 +334,8 @@ pub enum Reply<G: Given> {
     Ok,
     /// The window is the only owner of its block; or it has the room.
     Yes,
-    /// The window isn't the only owner of its block, or stands on none; or it hasn't the room.
+    /// The window isn't the only owner of its block, or stands on no block or on an `Arc`, or the
+    /// caller's buffer there says that it is shared; or the window hasn't the room.
     No,
     /// The items of the window.
     Items(G::Shown),
@@ -357,13 +360,15 @@ pub enum Reply<G: Given> {
     NoWindow,
     /// The command isn't for a window of this role, or the kind or the layout lacks it.
     Kind,
-    /// What the window stands on doesn't allow it, or memory for it is refused. Nothing is changed.
+    /// What the window stands on doesn't allow it, or memory for it is refused. The window is as it
+    /// was.
     Refused,
     /// The range isn't one of the window.
     Range(RangeError),
-    /// A new owner of the block is refused.
+    /// A new owner of the block is refused, or memory for the block to which one of several writers
+    /// would move. The window is as it was.
     Owner(OwnerError),
-    /// Room for the items is refused. Nothing is changed.
+    /// Room for the items is refused. The window is as it was.
     Reserve(TryReserveError),
     /// Memory is refused. Nothing is changed.
     Alloc,

@@ -13,9 +13,9 @@ ghost use Rattle.arc_commands.specs.Worked.{MayAnswer, alone_for_more, joined_on
 ghost use Rattle.arc_commands.specs.Worked.{joined_when_full, leaves_its_vector, not_with_itself};
 ghost use Rattle.arc_commands.specs.Worked.{only_one_again, whole_again};
 
-/// No command changes another row. What is under a number that the command isn't on, a row or that
-/// its window is gone, is there afterwards too. The same holds of a run none of whose commands is
-/// on the number.
+/// A command changes only the rows of its own windows. Any other number that was given to a window
+/// has the same row afterwards, or still none where the window has gone. The same holds of a run
+/// none of whose commands is on the number.
 ///
 /// A command that is carried out adds no entry to the history of a block on which its window
 /// doesn't stand, and leaves the other windows where they stand.

@@ -77,7 +77,7 @@ pub(crate) fn digits_in(word: &[u8]) -> Option<Hex<'_>>
     Some(Hex { digits: word })
 }
 
-/// The items, in one block of their length.
+/// The items that the digits say, in a vector of their length.
 #[inline(always)]
 pub(crate) fn decoded<A: Allocator>(alloc: A, hex: Hex) -> Result<Vec<u8, A>, AllocError>
     ensures { IfOk result (λ v. v.items ≡ pairs hex.entry.digits.now) }

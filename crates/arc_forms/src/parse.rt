@@ -239,7 +239,7 @@ fn verb_named(word: &[u8]) -> Option<Verb>
     rare_verb_named(word)
 }
 
-/// The same, of the forms that few lines have.
+/// The form whose first word this is, of those that few lines have.
 fn rare_verb_named(word: &[u8]) -> Option<Verb>
     ensures { result ≡ named word.now rare_verbs }
 {
@@ -252,7 +252,7 @@ fn rare_verb_named(word: &[u8]) -> Option<Verb>
     last_verb_named(word)
 }
 
-/// The same, of the last two groups of these.
+/// The form whose first word this is, of the last two groups.
 fn last_verb_named(word: &[u8]) -> Option<Verb>
     ensures { result ≡ named word.now last_verbs }
 {
@@ -279,7 +279,7 @@ fn usual_verb_named(word: &[u8]) -> Option<Verb>
     }
 }
 
-/// The same, of cuts and lengths.
+/// The form whose first word this is, of those of cuts and lengths.
 #[inline(always)]
 fn cut_verb_named(word: &[u8]) -> Option<Verb>
     ensures { result ≡ named word.now cut_verbs }
@@ -295,7 +295,7 @@ fn cut_verb_named(word: &[u8]) -> Option<Verb>
     }
 }
 
-/// The same, of forms that make a window.
+/// The form whose first word this is, of those that make a window.
 #[inline(always)]
 fn making_verb_named(word: &[u8]) -> Option<Verb>
     ensures { result ≡ named word.now making_verbs }
@@ -312,7 +312,7 @@ fn making_verb_named(word: &[u8]) -> Option<Verb>
     }
 }
 
-/// The same, of buffers, and of what is taken back.
+/// The form whose first word this is, of those of buffers and of what is taken back.
 #[inline(always)]
 fn buffer_verb_named(word: &[u8]) -> Option<Verb>
     ensures { result ≡ named word.now buffer_verbs }
@@ -329,7 +329,7 @@ fn buffer_verb_named(word: &[u8]) -> Option<Verb>
     }
 }
 
-/// The same, of the others.
+/// The form whose first word this is, of those in no other group.
 #[inline(always)]
 fn other_verb_named(word: &[u8]) -> Option<Verb>
     ensures { result ≡ named word.now other_verbs }
@@ -344,7 +344,7 @@ fn other_verb_named(word: &[u8]) -> Option<Verb>
     }
 }
 
-/// The same, of forms that turn or join windows.
+/// The form whose first word this is, of those that turn or join windows.
 #[inline(always)]
 fn turning_verb_named(word: &[u8]) -> Option<Verb>
     ensures { result ≡ named word.now turning_verbs }
@@ -675,7 +675,7 @@ fn command<A: Allocator>(alloc: A, line: &[u8]) -> Result<Option<Command<A>>, Al
 ///
 /// # Allocates
 ///
-/// Once for the items of a command, for their number of bytes.
+/// Once for the items that a command brings, a byte for each.
 pub fn parse<A: Allocator + Copy>(alloc: A, line: &[u8]) -> Result<Option<Command<A>>, AllocError>
     ensures ok { IfOk result (λ said.
         MatchOption said (IsBad line.now) (λ c. Says line.now (line_command c))) }
@@ -697,7 +697,7 @@ pub fn parse<A: Allocator + Copy>(alloc: A, line: &[u8]) -> Result<Option<Comman
 ///
 /// # Allocates
 ///
-/// Once for items to be appended, for their number of bytes.
+/// Once for items to be appended, a byte for each.
 #[inline(always)]
 pub fn parse_usual<A: Allocator>(alloc: A, line: &[u8]) -> Result<Option<Command<A>>, AllocError>
     ensures ok { IfOk result (λ said. IfSome said (λ c. Says line.now (line_command c))) }

@@ -616,8 +616,14 @@ where
 }
 
 /// Makes the window of a command that brings what it is made of. It answers the reply, and the
-/// window if one is made. The caller puts that under the next number. Where the table has no room
-/// for it, the reply is `Alloc`.
+/// window if one is made. The caller puts that under the number `next`.
+///
+/// # Errors
+///
+/// As a reply, without a window. What the command brought is dropped, and no history begins.
+///
+/// - `Kind` where the kind or the layout lacks the command, and for a command on a window.
+/// - `Alloc` where the table has no room for the window, or memory is refused.
 ///
 /// # Allocates
 ///

@@ -16,7 +16,7 @@ use std::alloc::Allocator;
 /// All places of one piece of memory, or none. The writer's own places are kept apart from those
 /// before and behind them. So where the items begin, how many they are, and how many places the
 /// writer has are words of their own, and no call on the items reads anything else. It is neither
-/// copied nor dropped: as `WriterMemory` it gives its memory back.
+/// copied nor dropped. To give its memory back it is made a `WriterMemory`.
 pub struct CutMemory<T: Drop, A: Allocator> {
     pub places: WriterPlaces<T>,
     pub before: Places<T>,

@@ -55,7 +55,7 @@ impl<T> FrozenPlaces<T> {
     ///
     /// # Safety
     ///
-    /// The memory's places begin here.
+    /// The memory's places begin at `base`.
     #[inline(always)]
     pub unsafe fn as_slice<'a>(
         &'a self,

@@ -50,7 +50,7 @@ impl<T, V: Drop, A: Allocator + Copy, const MAX: u64, H: Mark> FrozenReader<T, V
         Self::lend_noted(count, lifetime, range)
     }
 
-    /// The same, where this note says of the range in which memory it lies.
+    /// As `lend`, where this note says of the range in which memory it lies.
     #[inline(always)]
     fn lend_noted(
         count: SoleBox<V, A, MAX, H>,
@@ -77,7 +77,7 @@ impl<T, V: Drop, A: Allocator + Copy, const MAX: u64, H: Mark> FrozenReader<T, V
     ///
     /// # Safety
     ///
-    /// The memory's places begin here.
+    /// The memory's places begin at `base`.
     #[inline(always)]
     pub unsafe fn as_slice<'a>(&'a self, base: *const T, start: usize, end: usize) -> &'a [T]
         requires place { base ≡ self.now.range.memory.base }
@@ -90,7 +90,7 @@ impl<T, V: Drop, A: Allocator + Copy, const MAX: u64, H: Mark> FrozenReader<T, V
     }
 
     /// One attempt to make another reader of the same range: one owner more of the same block. It
-    /// answers `None`, and adds no entry, where another thread's step came between. Takes no
+    /// answers `None`, and adds no entry, where another thread's step came between. It takes no
     /// memory, and copies nothing.
     ///
     /// # Errors
@@ -128,9 +128,12 @@ impl<T, V: Drop, A: Allocator + Copy, const MAX: u64, H: Mark> FrozenReader<T, V
         }
     }
 
-    /// The only owner, where no other owner lives, reader or writer: with the value come the range
-    /// and that the lifetime has ended, for which all places come back. Else it is handed back. It
-    /// takes no memory.
+    /// The only owner, where no other owner lives, reader or writer. With it come the range, and
+    /// that the lifetime has ended, for which all places come back. It takes no memory.
+    ///
+    /// # Errors
+    ///
+    /// The reader comes back where another owner lives.
     ///
     /// # History
     ///
@@ -180,6 +183,10 @@ impl<T, V: Drop, const MAX: u64, H: Mark> FrozenReader<T, V, Lodged, MAX, H> {
     /// What a drop does. Under `Open` this reader ends with a new pass, and the last owner gets the
     /// value, the room in which it lay, and that the lifetime has ended. Under `Whole` it is a
     /// forgotten owner: no step is made, and the pass is one of no block. It takes no memory.
+    ///
+    /// # History
+    ///
+    /// Under `Open`: Down. Under `Whole`: nothing.
     #[inline(always)]
     pub fn let_go(self) -> (Option<(V, HeaderRoom<Header<V>>, EndedLifetime)>, Pass<H>)
         ensures value { IfSome result.0 (λ r. r.0 ≡ value_of self.owner) }

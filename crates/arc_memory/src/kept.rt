@@ -35,7 +35,7 @@ impl<T: Drop, A: Allocator> Kept<T, A> {
     }
 
     /// Gives the memory back, once the lifetime has ended for which it was lent, with the room in
-    /// which this lay. Items that are dropped one by one are, and others are forgotten.
+    /// which this lay. Items that need a drop are dropped, and others are forgotten.
     pub fn free(
         self,
         ended: EndedLifetime,

@@ -71,7 +71,9 @@ impl<T, A: Allocator> KeptPlaces<T, A> {
         (before, own.join(behind), piece)
     }
 
-    /// The same for who has a frozen range.
+    /// All places, once the lifetime has ended, for who has a frozen range: those before the range,
+    /// which are answered as empty, and those from its first one on, with its items. Then the right
+    /// to free them. What lies elsewhere is forgotten.
     pub fn regain_frozen(
         self,
         ended: EndedLifetime,
@@ -138,7 +140,9 @@ impl<T: Drop, A: Allocator> KeptPlaces<T, A> {
         unsafe { WriterMemory::of(before, places, source, base, start, len) }
     }
 
-    /// The same for who has a frozen range.
+    /// All places, once the lifetime has ended, for one writer, who has a frozen range: the
+    /// writer's begin where the range begins, with its items, and end where the allocation does.
+    /// What lies elsewhere is forgotten. No item is moved, and no memory read.
     ///
     /// # Safety
     ///

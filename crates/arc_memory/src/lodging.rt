@@ -31,7 +31,8 @@ impl<T> Lodging<T> {
     ///
     /// # Safety
     ///
-    /// The memory's places begin here, and these are the range of the places.
+    /// The memory's places begin at `base`. `start`, `len` and `capacity` are the number of the
+    /// first of these places, how many items they hold, and how many they are.
     pub unsafe fn house(
         places: Places<T>,
         base: *const T,

@@ -29,8 +29,8 @@ impl<T, A: Allocator> Piece<T, A> {
     ///
     /// # Errors
     ///
-    /// `AllocError` where there is no memory, or where header and places, each counted in units of
-    /// 16 bytes, pass `isize::MAX` bytes together.
+    /// `AllocError` where there is no memory, where `count` passes `isize::MAX`, or where header
+    /// and places, each counted in units of 16 bytes, pass `isize::MAX` bytes together.
     ///
     /// # Allocates
     ///

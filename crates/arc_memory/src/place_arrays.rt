@@ -9,7 +9,7 @@ impl<T> Places<T> {
     ///
     /// # Safety
     ///
-    /// The first of the places lies there.
+    /// The first of the places lies at `at`.
     pub(crate) unsafe fn with_array<const N: usize>(self, at: *mut T, items: [T; N]) -> Places<T>
         requires place { (at ≡ place_at T.row self.base self.start) × (self.count ≡ N) }
         requires empty { self.items ≡ [] }
@@ -28,7 +28,7 @@ impl<T> Places<T> {
     ///
     /// # Safety
     ///
-    /// The first of the places lies there.
+    /// The first of the places lies at `at`.
     pub(crate) unsafe fn without_array<const N: usize>(self, at: *mut T) -> ([T; N], Places<T>)
         requires place { (at ≡ place_at T.row self.base self.start) × (self.count ≡ N) }
         requires full { length self.items ≡ N }

@@ -14,7 +14,7 @@ impl<T> Places<T> {
     ///
     /// # Safety
     ///
-    /// The first of the places lies there, and so many they are.
+    /// The first of the places lies at `at`, and there are `count` of them.
     pub(crate) unsafe fn into_slots(self, at: *mut T, count: usize) -> (Slots<T>, Lodging<T>)
         requires place { (at ≡ place_at T.row self.base self.start) × (count ≡ self.count) }
         requires value { length self.items < self.count → T }

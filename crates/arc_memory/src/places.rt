@@ -33,7 +33,7 @@ impl<T> Places<T> {
     ///
     /// # Safety
     ///
-    /// The memory's places begin here.
+    /// The memory's places begin at `base`.
     #[inline(always)]
     pub unsafe fn as_slice<'a>(&'a self, base: *const T, start: usize, end: usize) -> &'a [T]
         requires place { (base ≡ self.now.base) × (self.now.start ≡ 0) }

@@ -225,9 +225,12 @@ impl<T, V: Drop, A: Allocator + Copy, const MAX: u64, H: Mark> SharedWriter<T, V
         unsafe { Self::of(part, base, start, len, capacity) }
     }
 
-    /// The only owner, where no other owner lives: with the value come the part and that the
-    /// lifetime has ended, for which all places come back. Else it is handed back. It takes no
-    /// memory.
+    /// The only owner, where no other owner lives. With it come the part, and that the lifetime has
+    /// ended, for which all places come back. It takes no memory.
+    ///
+    /// # Errors
+    ///
+    /// The writer comes back where another owner lives.
     ///
     /// # History
     ///
@@ -306,6 +309,10 @@ impl<T, V: Drop, const MAX: u64, H: Mark> SharedWriter<T, V, Lodged, MAX, H> {
     /// value, the room in which it lay, and that the lifetime has ended. Under `Whole` it is a
     /// forgotten owner: no step is made, and the pass is one of no block. What lies in its places
     /// is forgotten. It takes no memory.
+    ///
+    /// # History
+    ///
+    /// Under `Open`: Down. Under `Whole`: nothing.
     pub fn let_go(self) -> (Option<(V, HeaderRoom<Header<V>>, EndedLifetime)>, Pass<H>)
         ensures value { IfSome result.0 (λ r. r.0 ≡ writer_value self) }
         ensures room { IfSome result.0 (λ r. r.1.at ≡ writer_place self) }

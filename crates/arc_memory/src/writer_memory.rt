@@ -62,8 +62,8 @@ impl<T: Drop, A: Allocator> WriterMemory<T, A> {
     ///
     /// # Errors
     ///
-    /// `AllocError` where there is no memory, or where header and places, each counted in units of
-    /// 16 bytes, pass `isize::MAX` bytes together.
+    /// `AllocError` where there is no memory, where `count` passes `isize::MAX`, or where header
+    /// and places, each counted in units of 16 bytes, pass `isize::MAX` bytes together.
     ///
     /// # Allocates
     ///
@@ -76,7 +76,7 @@ impl<T: Drop, A: Allocator> WriterMemory<T, A> {
         Self::beginning_at(alloc, 0, count)
     }
 
-    /// The same, of which the writer's places begin at this one.
+    /// As `new`, but the writer's places begin at number `start`.
     pub(crate) fn beginning_at(alloc: A, start: usize, count: usize) -> Result<Self, AllocError>
         requires { start ≤ count }
         ensures items { IfOk result (λ m. m.places.vec.items ≡ []) }
@@ -130,7 +130,7 @@ impl<T: Drop, A: Allocator> WriterMemory<T, A> {
     ///
     /// # Errors
     ///
-    /// The array, where `new` answers `AllocError`.
+    /// The array comes back where `new` answers `AllocError`.
     ///
     /// # Allocates
     ///

@@ -50,7 +50,7 @@ impl<T, V: Drop, A: Allocator + Copy, const MAX: u64, H: Mark> WriterPart<T, V, 
         Self::lend_noted(count, lifetime, part)
     }
 
-    /// The same, where this note says of the part in which memory it lies.
+    /// As `lend`, where this note says of the part in which memory it lies.
     fn lend_noted(
         count: SoleBox<V, A, MAX, H>,
         lifetime: LifetimeToken,
@@ -197,9 +197,12 @@ impl<T, V: Drop, A: Allocator + Copy, const MAX: u64, H: Mark> WriterPart<T, V, 
         WriterPart { owner, part }
     }
 
-    /// The only owner, where no other owner lives: with the value come the part and that the
-    /// lifetime has ended, for which all places come back. Else it is handed back. It takes no
-    /// memory.
+    /// The only owner, where no other owner lives. With it come the part, and that the lifetime has
+    /// ended, for which all places come back. It takes no memory.
+    ///
+    /// # Errors
+    ///
+    /// The writer comes back where another owner lives.
     ///
     /// # History
     ///
@@ -268,6 +271,10 @@ impl<T, V: Drop, const MAX: u64, H: Mark> WriterPart<T, V, Lodged, MAX, H> {
     /// value, the room in which it lay, and that the lifetime has ended. Under `Whole` it is a
     /// forgotten owner: no step is made, and the pass is one of no block. What lies in its places
     /// is forgotten. It takes no memory.
+    ///
+    /// # History
+    ///
+    /// Under `Open`: Down. Under `Whole`: nothing.
     pub fn let_go(self) -> (Option<(V, HeaderRoom<Header<V>>, EndedLifetime)>, Pass<H>)
         ensures value { IfSome result.0 (λ r. r.0 ≡ value_of self.owner) }
         ensures room { IfSome result.0 (λ r. r.1.at ≡ place_in self.owner) }

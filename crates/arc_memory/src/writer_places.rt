@@ -35,7 +35,8 @@ impl<T> WriterPlaces<T> {
     ///
     /// # Safety
     ///
-    /// The memory's places begin here, and these are the range of the places.
+    /// The memory's places begin at `base`. `start`, `len` and `capacity` are the number of the
+    /// first of these places, how many items they hold, and how many they are.
     #[inline(always)]
     pub unsafe fn of(
         places: Places<T>,
@@ -213,8 +214,8 @@ impl<T> WriterPlaces<T> {
         )
     }
 
-    /// The same, once the items of the first places are forgotten: it is for items that need no
-    /// drop.
+    /// As `without_front`, once the items of the first places are forgotten: it is for items that
+    /// need no drop.
     #[inline(always)]
     pub(crate) fn with_front_forgotten(self, at: usize) -> (Self, Places<T>)
         requires { at ≤ length self.vec.items }
@@ -447,7 +448,7 @@ fn extended_by<T: Copy>(vec: Vec<T, Lodged>, items: &[T]) -> (Vec<T, Lodged>, ()
 ///
 /// # Safety
 ///
-/// The first of the places lies there.
+/// The first of the places lies at `at`.
 #[inline(never)]
 unsafe fn filled_with<T: Copy>(places: Places<T>, at: *mut T, items: &[T]) -> Places<T>
     requires place { at ≡ place_at T.row places.base places.start }

@@ -81,12 +81,12 @@ impl LifetimeToken {
 }
 
 impl EndedLifetime {
-    /// Forgets the share, where nothing is lent that has to come back.
+    /// Drops the proof, where nothing is lent that has to come back.
     pub fn forget(self) {
         let EndedLifetime { marker: _ } = self;
     }
 
-    /// The same twice, where two things come back.
+    /// The proof twice, where two things come back.
     pub fn again(self) -> (EndedLifetime, EndedLifetime)
         ensures { (result.0.lifetime ≡ self.lifetime) × (result.1.lifetime ≡ self.lifetime) }
     {

@@ -35,13 +35,18 @@ pub trait Mark: sealed::Sealed {
         requires { 1 ≤ most }
         ensures { IsOpened most Self.whole lent result.0 result.1 result.2 };
 
-    /// Shows that there is a pass that has seen this. The pass is used up, so no entry is added
-    /// with it after that.
+    /// Shows that a pass exists that has seen what this one has seen. The pass is used up, so no
+    /// entry is added with it after that.
     fn show(pass: PassState)
         ensures { pass.bound ≡ true → Self.real pass.block pass.number pass.lines };
 
-    /// What becomes of an owner that is dropped: whether it ended as the last one, and the pass
-    /// that it ended with.
+    /// What becomes of an owner that is dropped. Under `Open` it ends with a new pass. Under
+    /// `Whole` it is forgotten, and the pass is one of no block. The answer is whether the owner
+    /// ended as the last one, what its end leaves, and the pass.
+    ///
+    /// # History
+    ///
+    /// Under `Open`: Down. Under `Whole`: nothing.
     ///
     /// # Safety
     ///
@@ -58,8 +63,13 @@ pub trait Mark: sealed::Sealed {
         ensures forgotten { Self.whole ≡ true → (result.0 ≡ false) × (result.2.bound ≡ false) }
         ensures ended { Self.whole ≡ false → EndsWithNew own result.2 result.0 };
 
-    /// What becomes of a sole owner that is dropped: whether it ended, and the pass that it ended
-    /// with.
+    /// What becomes of a sole owner that is dropped. Under `Open` it ends with a new pass. Under
+    /// `Whole` it is forgotten, and the pass is one of no block. The answer is whether the owner
+    /// ended, and the pass.
+    ///
+    /// # History
+    ///
+    /// Under `Open`: Down, without an atomic step. Under `Whole`: nothing.
     fn let_go_sole(own: OwnerToken<Self>) -> (bool, PassState)
         requires held { IsSole own.block own }
         requires mark { own.block.whole ≡ Self.whole }
@@ -76,7 +86,8 @@ pub trait Stepping: Mark {
         requires mark { own.now.block.whole ≡ Self.Mark.whole }
         ensures new { IsFork own.now result };
 
-    /// The same of an owner whose share of the lifetime is elsewhere.
+    /// A new pass of the block of an owner whose share of the lifetime is elsewhere. It has seen
+    /// how the owner was made, and nothing was made with it.
     fn fork_without(own: &OwnerWithoutLifetime<Self>) -> PassState
         requires mark { own.now.block.whole ≡ Self.Mark.whole }
         ensures new { IsForkOf own.now.block own.now.born result };

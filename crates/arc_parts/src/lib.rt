@@ -1,4 +1,4 @@
-//! Parts: what a window is made of that is read; and where a writer's room comes from.
+//! Parts: what a read window is made of; and where a writer's room comes from.
 #![tactic(auto)]
 
 pub mod parts;

@@ -38,8 +38,8 @@ pub type PartsStorage<S, B, M, A, H> = Storage<
     SharedBuffer<<S as Slice>::Item, B, A>,
 >;
 
-/// A row of the table of lists, with its owner: the items, where they stand, and whether they are
-/// read or written.
+/// What a read window is made of: its items, where they stand, and its owner. Contracts see a row
+/// of the table of lists, whose role is always `reader`.
 ///
 /// `B` is the type of callers' buffers and `M` that of their metadata.
 ///
@@ -233,7 +233,9 @@ impl<S: Slice, B: Buffer<S::Item> + Drop, M: Drop, A: Allocator + Copy, H: Mark>
         Ok(Self::over_new::<L>(alloc, block, items.len(), new, pass))
     }
 
-    /// An array's items, which are moved into a block where `try_from_slice_as` copies them.
+    /// The items of an array, moved to a new native block with exactly a place for each. No items,
+    /// under a layout that has static data, stand on nothing. The pass, which is of no block,
+    /// becomes the block's.
     ///
     /// # Errors
     ///

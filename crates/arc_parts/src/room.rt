@@ -22,7 +22,7 @@ pub enum Room {
     Front,
     /// The block, which grows to this many places.
     Growth(usize),
-    /// The caller's buffer, which is asked for this many places more.
+    /// The caller's buffer, which is asked for room for this many items more.
     Own(usize),
     /// Nowhere, for this reason.
     Refused(TryReserveError),

@@ -2,3 +2,4 @@ pub mod Steps
 pub mod Cuts
 pub mod Borrow
 pub mod Ends
+pub mod Kept

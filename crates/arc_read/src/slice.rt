@@ -19,10 +19,12 @@ use std::marker::{Model, PhantomData};
 ///
 /// `B` is the type of callers' buffers and `M` that of their metadata.
 ///
-/// Each call that makes, steps on or leaves a block has a form that ends in `_as`. It takes a pass
-/// of the block, in which contracts read what is added to the block's history. The plain form is
-/// that form with a new pass. Two windows have a pass of no block: one that stands on no block, and
-/// one on an `Arc` that is a block by itself, whose owners the language counts.
+/// Each call but `let_go` that may make a block, or add to a block's history, has a form that ends
+/// in `_as`. It takes a pass, in which contracts read what is added. That is a pass of the window's
+/// block, or of no block where the call makes a window of items. The plain form is that form with a
+/// new pass. The plain form of `release_as` is the drop. Two windows have a pass of no block: one
+/// that stands on no block, and one on an `Arc` that is a block by itself, whose owners the
+/// language counts.
 ///
 /// A window under the mark `Open` that is dropped ends with a new pass. Under `Whole` there are the
 /// `_as` forms alone, and a window that is dropped is a forgotten owner of its block.

@@ -1,4 +1,4 @@
-//! Windows that have short lists of bytes in themselves.
+//! Lists of up to 30 bytes in the value itself, and windows that may be such a list.
 
 pub use arc_small::{
     SmallArcByteText, SmallArcBytes, SmallArcSlice, SmallArcStr, SmallByteText, SmallBytes,

@@ -1,5 +1,5 @@
 //! Windows into shared memory, which are cut and cloned without a copy. These are the names that a
-//! user imports, at the paths of the Rust crate.
+//! user imports. Those that the Rust crate has too stand at its paths.
 #![tactic(auto)]
 
 pub use arc_owners::mark::{Mark, Open, Whole};

@@ -45,7 +45,8 @@ fn is_turning<C: Carried>(command: &Cmd<C>) -> bool
     )
 }
 
-/// Ends the window, if there is one, under every layout and kind. It takes no memory.
+/// Ends the window, if there is one, under every layout and kind, and answers `Ok`. Where there is
+/// none the answer is `NoWindow`. It takes no memory.
 ///
 /// # History
 ///

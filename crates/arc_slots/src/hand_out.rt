@@ -109,8 +109,8 @@ where
         }
     }
 
-    /// Splits the window, if it is read or the places of one of several writers, and hands out the
-    /// part, if it has that and there is room.
+    /// Splits a window that is read, or the places of one of several writers, and hands out the
+    /// part, if the window has it and there is room in the table.
     ///
     /// # Errors
     ///

@@ -23,8 +23,16 @@ use arc_kinds::place::set_slot;
 use std::alloc::Allocator;
 use std::mem;
 
-/// Joins the two windows, if both are of several writers: then the second one is gone. Where there
-/// aren't two windows nothing changes.
+/// Joins two windows of several writers, and answers `Ok`. Then the first one has the places of
+/// both, and the second one is gone. It takes no memory.
+///
+/// # Errors
+///
+/// As a reply, and nothing changes:
+///
+/// - `NoWindow` where one of the windows isn't there.
+/// - `Kind` where one isn't of several writers.
+/// - `Refused` where `try_join` refuses them.
 ///
 /// # History
 ///
@@ -91,8 +99,9 @@ where
     ///
     /// # Errors
     ///
-    /// The other window comes back where they aren't neighbours on one block. Nothing is changed
-    /// then.
+    /// The other window comes back where the two stand on two blocks, or only one on a block, where
+    /// this one has a place without an item, and where its places don't end where the other's
+    /// begin. Nothing is changed then.
     ///
     /// # History
     ///

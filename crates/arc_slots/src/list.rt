@@ -78,8 +78,9 @@ impl<X, A: Allocator> Slots<X, A> {
         self.places[place].as_ref()
     }
 
-    /// Whether there is room for a window more, where it is wanted. Memory is taken for it, and for
-    /// a later entry of its place in the list of places that may be used again.
+    /// Makes room for a window more, where it is wanted, and answers whether there is some. Where
+    /// it isn't wanted the answer is `false`. Memory is taken for the window, and for a later entry
+    /// of its place in the list of places that may be used again.
     #[inline(always)]
     pub fn room_if(&mut self, wanted: bool) -> bool
         ensures index { self.new.index.items ≡ self.old.index.items }

@@ -95,8 +95,8 @@ where
     ghost use Rattle.arc_slots.specs.Splits.{IsSplit};
     ghost use Rattle.arc_slots.specs.Stands.{HasPassFor};
 
-    /// Splits a window that is read, and hands out the part. At an end that is the window itself,
-    /// and the new one stays under its number.
+    /// Splits a window that is read, and hands out the part. Where the part is all of the window,
+    /// the window itself is handed out, and a new one without items stays under its number.
     ///
     /// # Errors
     ///

@@ -38,7 +38,8 @@ use std::alloc::Allocator;
 use std::sync::Wait;
 
 /// Writes into a window of one of several writers, by a call that its kind has: makes room, and
-/// appends the items. Where it is refused nothing changes, and what was to be written is dropped.
+/// appends the items. Where it is refused the window is as it was, and what was to be written is
+/// dropped.
 #[inline(always)]
 fn write_beside_as<
     S: Commands<A>,
@@ -201,7 +202,7 @@ where
     ///
     /// # Errors
     ///
-    /// The window itself comes back.
+    /// The window itself comes back beside another owner, and on no block.
     ///
     /// # History
     ///
@@ -234,11 +235,12 @@ where
     }
 
     /// Makes room for `additional` items more in a window of one of several writers, if that takes
-    /// no memory. Where the window has too few places, no other owner may live.
+    /// no memory, and answers whether there is room. Where the window has too few places, there is
+    /// none beside another owner. Where the answer is `false` the window is as it was.
     ///
     /// # History
     ///
-    /// On a block, where the window has too few places: Alone with the answer.
+    /// On a block, where the window has too few places: Alone with what the count says.
     pub fn try_reclaim_beside(&mut self, additional: usize, passes: &mut Passes<A>) -> bool
         requires role { is_several self.old.role ≡ true }
         requires pass { HasPassFor passes.old.of_blocks.items (stand_of (Some self.old)) }
@@ -289,7 +291,7 @@ where
     ///
     /// # Errors
     ///
-    /// The window itself comes back.
+    /// The window itself comes back over a caller's buffer.
     pub fn try_share(self) -> Result<Self, Self>
         requires writes { is_sole self.role ≡ true }
         requires shares { S.Calls.calls.shares ≡ true }
@@ -414,8 +416,8 @@ where
     ///
     /// # Errors
     ///
-    /// Those of `try_reserve` of such a window. Nothing changes then, and what was to be written is
-    /// dropped.
+    /// Those of `try_reserve` of such a window. The window is as it was then, and what was to be
+    /// written is dropped.
     ///
     /// # Allocates
     ///
@@ -423,8 +425,8 @@ where
     ///
     /// # History
     ///
-    /// On a block, where the window has too few places: Alone with the answer. Where a first block
-    /// is made its history begins.
+    /// On a block, where the window has too few places: Alone with what the count says. Where a
+    /// first block is made its history begins.
     #[inline(always)]
     pub fn write_beside(
         &mut self,

@@ -25,8 +25,8 @@ use std::marker::Model;
 use std::sync::Wait;
 
 /// A window, and the number of the block that it stands on, if it stands on one. It can't be
-/// dropped: each ends by `release`. A window that is dropped would stay an owner of its block for
-/// good.
+/// dropped: a window that is dropped would stay an owner of its block for good. It ends by
+/// `release`, or by a call that takes it.
 pub struct Slot<S: TableKind, L: Layout, B: BufferMut<S::Item> + Drop, M: Drop, A: Allocator + Copy>
 where
     L::Writable: LayoutMut,
@@ -178,7 +178,7 @@ where
         }
     }
 
-    /// A window that is written, of a sole writer's parts, on the block with this number.
+    /// The slot of a sole writer's window, on the block with this number, or on none.
     pub fn written(
         window: ArcSliceMut<S, L::Writable, 1, B, M, A, Whole>,
         block: Option<usize>,
@@ -197,8 +197,8 @@ where
         }
     }
 
-    /// The window of one of several writers, on the block with this number, where the kind has
-    /// such.
+    /// The slot of a window of one of several writers, on the block with this number, or on none.
+    /// The kind has such windows.
     pub fn written_beside(
         window: ArcSliceMut<S, L::Writable, 0, B, M, A, Whole>,
         block: Option<usize>,
@@ -536,8 +536,8 @@ where
         }
     }
 
-    /// Whether a first block has to be made for `additional` items more in the window, which is a
-    /// sole writer's.
+    /// Whether a first block has to be made for `additional` items more in the window, which is
+    /// written.
     #[inline(always)]
     pub fn wants_block(&self, additional: usize) -> bool
         requires { is_writer self.now.role ≡ true }

@@ -34,7 +34,7 @@ pub enum Taking {
     Boxed,
     /// A caller's buffer.
     Buffer,
-    /// The `Arc` of one.
+    /// The `Arc` of a caller's buffer.
     Raw,
 }
 
@@ -197,11 +197,12 @@ where
         }
     }
 
-    /// The same of a sole writer's window.
+    /// What a sole writer's window stands on, taken out, as a reply: where it is of the sort that
+    /// is asked for.
     ///
     /// # Errors
     ///
-    /// The window itself comes back. Nothing is added then.
+    /// The window itself comes back.
     ///
     /// # History
     ///

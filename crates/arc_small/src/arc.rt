@@ -79,7 +79,7 @@ impl<
     ghost use Rattle.std.specs.Borrow.{sem};
     ghost use Rattle.arc_small.specs.Lends.{lends_either};
 
-    /// A window without bytes, which lies in itself under every layout.
+    /// A window without bytes. Under every layout its list lies in the window itself.
     pub fn new() -> Self
     where
         S: Emptyable,
@@ -98,8 +98,8 @@ impl<
         &self.either
     }
 
-    /// The short list, or the window that is read, to be changed: afterwards it is what is written
-    /// there. It adds no entry.
+    /// The short list, or the window that is read, to be changed. Once the borrow ends, the window
+    /// is what was written there last. The call adds no entry.
     #[inline(always)]
     pub fn as_either_mut(&mut self) -> &mut Either<SmallSlice<S, L>, ArcSlice<S, L, B, M, A, H>>
         ensures* writes_back { sem 𝓛 (lends_either S.row L.row B.row M.row A.row H.row

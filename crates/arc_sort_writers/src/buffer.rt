@@ -31,6 +31,8 @@ use std::marker::Model;
 
 /// A row of the table of lists that its only owner writes in a caller's buffer: the items from
 /// `start` to before `end` of the buffer's.
+///
+/// Parts that are dropped end as a window does.
 pub struct SoleBuffer<
     S: Slice,
     B: BufferMut<S::Item> + Drop,
@@ -142,7 +144,7 @@ impl<S: Slice, B: BufferMut<S::Item> + Drop, M: Drop, A: Allocator + Copy, H: Ma
     }
 
     /// All items of a caller's buffer, which lies beside the count, with its metadata, if there is
-    /// some. The pass becomes the block's.
+    /// some. The pass, which is of no block, becomes the block's.
     ///
     /// # Errors
     ///
@@ -188,7 +190,7 @@ impl<S: Slice, B: BufferMut<S::Item> + Drop, M: Drop, A: Allocator + Copy, H: Ma
         }
     }
 
-    /// Where there is room for `additional` items more.
+    /// Where room for `additional` items more comes from, or why it is refused.
     pub fn room(&self, additional: usize) -> Room
         ensures room { result ≡ room_for S.DROPS (type_size S.Item.row) self.now additional }
         ensures spare { IfSpare result

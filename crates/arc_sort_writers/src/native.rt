@@ -256,7 +256,7 @@ impl<S: Slice, M: Drop, A: Allocator + Copy, H: Mark> SoleNative<S, M, A, H> {
         self.memory.capacity() - self.memory.len()
     }
 
-    /// Where there is room for `additional` items more.
+    /// Where room for `additional` items more comes from, or why it is refused.
     pub fn room(&self, additional: usize) -> Room
         ensures room { result ≡ room_for S.DROPS (type_size S.Item.row) self.now additional }
         ensures fresh { IfFresh result (λ places. (self.now.place ≡ nowhere)
@@ -284,8 +284,8 @@ impl<S: Slice, M: Drop, A: Allocator + Copy, H: Mark> SoleNative<S, M, A, H> {
         room_in::<S>(false, size, full, offset, len, additional)
     }
 
-    /// No items, with `capacity` places, on a new native block. No places stand on nothing. The
-    /// pass, which is of no block, becomes the block's.
+    /// No items, with `capacity` places, on a new native block; for a `capacity` of 0, on nothing.
+    /// The pass, which is of no block, becomes the block's.
     ///
     /// # Errors
     ///
@@ -313,8 +313,8 @@ impl<S: Slice, M: Drop, A: Allocator + Copy, H: Mark> SoleNative<S, M, A, H> {
         }
     }
 
-    /// A copy of the items, on a new native block with exactly a place for each; no items stand on
-    /// nothing. The pass, which is of no block, becomes the block's.
+    /// A copy of the items, on a new native block with exactly a place for each; if there are none,
+    /// on nothing. The pass, which is of no block, becomes the block's.
     ///
     /// # Errors
     ///
@@ -344,8 +344,8 @@ impl<S: Slice, M: Drop, A: Allocator + Copy, H: Mark> SoleNative<S, M, A, H> {
         }
     }
 
-    /// `count` zeros, on a new native block with exactly a place for each. None stand on nothing.
-    /// The pass, which is of no block, becomes the block's.
+    /// `count` zeros, on a new native block with exactly a place for each; for a `count` of 0, on
+    /// nothing. The pass, which is of no block, becomes the block's.
     ///
     /// # Errors
     ///
@@ -353,7 +353,7 @@ impl<S: Slice, M: Drop, A: Allocator + Copy, H: Mark> SoleNative<S, M, A, H> {
     ///
     /// # Allocates
     ///
-    /// Once, except for none.
+    /// Once, except for a `count` of 0.
     pub fn try_zeroed_as(alloc: A, count: usize, pass: &mut Pass<H>) -> Result<Self, AllocError>
     where
         S: Zeroable,
@@ -372,7 +372,8 @@ impl<S: Slice, M: Drop, A: Allocator + Copy, H: Mark> SoleNative<S, M, A, H> {
         }
     }
 
-    /// An array's items, which are moved into a block where `try_from_slice_as` copies them.
+    /// The items of an array, moved to a new native block with exactly a place for each; if there
+    /// are none, on nothing. The pass, which is of no block, becomes the block's.
     ///
     /// # Errors
     ///
@@ -421,8 +422,8 @@ impl<S: Slice, M: Drop, A: Allocator + Copy, H: Mark> SoleNative<S, M, A, H> {
         }
     }
 
-    /// Items from start to end of a block's memory, whose only owner this is. Those behind them are
-    /// let go, but for items that are dropped one by one, which stay.
+    /// The items from `start` to before `end` of a block's memory, whose only owner this is. The
+    /// others are forgotten, but items that are dropped one by one stay in the block.
     pub fn over(
         alloc: A,
         count: NativeCount<MAX_OWNERS, H>,
@@ -451,16 +452,17 @@ impl<S: Slice, M: Drop, A: Allocator + Copy, H: Mark> SoleNative<S, M, A, H> {
     /// Where there are too few places, in this order:
     ///
     /// - `Unsupported` where items that are dropped one by one end before the block's full places.
-    /// - `CapacityOverflow` where a block would have to grow to more than 2^63 - 1 places or bytes.
+    /// - `CapacityOverflow` where the block would need more than 2^63 - 1 places or bytes, or where
+    ///   twice its size is more bytes than that.
     /// - `AllocError` where memory is refused for a larger block, or for a first one of any size.
     ///
-    /// Nothing is changed then.
+    /// The writer is unchanged.
     ///
     /// # Allocates
     ///
-    /// Once for a first block, and once where the block grows. It grows where the places behind the
-    /// items aren't enough, unless the items can be moved to its front: they aren't dropped one by
-    /// one, they are no more than the places in front of them, and the whole block is large enough.
+    /// Once for a first block, or where the block grows. It grows where its places behind the items
+    /// aren't enough, unless the items can be moved to its front: they aren't dropped one by one,
+    /// they are no more than the places in front of them, and the whole block is large enough.
     ///
     /// # History
     ///
@@ -562,7 +564,7 @@ impl<S: Slice, M: Drop, A: Allocator + Copy, H: Mark> SoleNative<S, M, A, H> {
         self.memory.widen();
     }
 
-    /// Moves the items to the front of their memory; those before them are let go.
+    /// Moves the items to the front of their memory; those before them are forgotten.
     fn to_front(&mut self)
         requires { S.DROPS ≡ false }
         ensures shifted { self.new ≡ with_room Front self.old }

@@ -22,7 +22,7 @@ ghost use Rattle.arc_memory.specs.SharedWriters.{writer_range, writer_items};
 ghost use Rattle.arc_memory.specs.WriterParts.{SplitsOwner};
 ghost use Rattle.arc_owners.specs.memory.Boxes.{owner_in, value_of, place_in};
 
-use arc_block::block::{MAX_OWNERS, NativeBlock, NativeCount};
+use arc_block::block::{MAX_OWNERS, NativeBlock, NativeCount, max_owners};
 use arc_buffer::kinds::Slice;
 use arc_memory::{Base, HeadSize, Kept, LifetimeToken, SharedWriter, WriterMemory, WriterPart};
 use arc_owners::error::{AllocError, CountFull};
@@ -160,8 +160,8 @@ impl<T: Drop, A: Allocator + Copy, H: Mark> SharedNative<T, A, H> {
         }
     }
 
-    /// Ends this writer by one subtraction from the count. The last owner gets the block's memory:
-    /// its places begin where the writer's do. It takes no memory.
+    /// Ends this writer by one subtraction from the count. The last owner gets the block's memory,
+    /// whose places begin where the writer's do. Every other one gets `None`. It takes no memory.
     ///
     /// # History
     ///
@@ -191,6 +191,16 @@ impl<T: Drop, A: Allocator + Copy, H: Mark> SharedNative<T, A, H> {
                 None
             }
         }
+    }
+
+    /// `MAX_OWNERS`: how many owners the block may have at once. The contract says too that the
+    /// block is under the mark `H`.
+    pub fn max_owners(&self) -> u64
+        ensures answer { result ≡ 9223372036854775807 }
+        ensures block { IsLimited 9223372036854775807 H.whole self.now.owner }
+    {
+        let _ = &self.writer;
+        max_owners()
     }
 
     /// How many items there are.
@@ -274,7 +284,8 @@ impl<T: Drop, A: Allocator + Copy, H: Mark> SharedNative<T, A, H> {
     ///
     /// # History
     ///
-    /// Up, or Full where it is refused.
+    /// Up, or Full where it is refused. Of a block that begins without a count the clauses allow
+    /// also Promote for Up, and Joined before it or before Full. No writer's block begins so.
     #[tactic(auto, using(crate::proofs::Takes::laid_alike))]
     pub fn try_split_as<const FRONT_STAYS: bool>(
         self,
@@ -312,8 +323,8 @@ impl<T: Drop, A: Allocator + Copy, H: Mark> SharedNative<T, A, H> {
         }
     }
 
-    /// Whether the other writer's places begin where these end, and each of these has an item. Both
-    /// are of one block.
+    /// Whether each of these places has an item, and the other writer's begin, by their numbers,
+    /// where these end. It doesn't test that both writers are of one block.
     pub fn can_join(&self, other: &Self) -> bool
         ensures { result ≡ ((length self.now.items == self.now.capacity)
             && (self.now.start + self.now.capacity == other.now.start)) }
@@ -321,7 +332,7 @@ impl<T: Drop, A: Allocator + Copy, H: Mark> SharedNative<T, A, H> {
         self.len() == self.capacity() && self.start() + self.capacity() == other.start()
     }
 
-    /// An owner that has a block to itself is of another one than this writer. Does nothing: its
+    /// This writer isn't of the block of an owner that has its block to itself. Does nothing: its
     /// contract is the law.
     pub fn apart_from<V: Drop>(&self, sole: &SoleBox<V, A, MAX_OWNERS, H>)
         ensures { ¬ (self.now.owner.block ≡ (sole_in sole.now).block) }
@@ -329,8 +340,8 @@ impl<T: Drop, A: Allocator + Copy, H: Mark> SharedNative<T, A, H> {
         sole.apart_from_rest(&self.writer.rest.rest);
     }
 
-    /// The same of an owner that has a native block to itself. Does nothing: its contract is the
-    /// law.
+    /// This writer isn't of the block of an owner that has a native block to itself. Does nothing:
+    /// its contract is the law.
     pub fn apart_from_count(&self, sole: &NativeCount<MAX_OWNERS, H>)
         ensures { ¬ (self.now.owner.block ≡ (count_owner sole.now).block) }
     {
@@ -421,6 +432,10 @@ impl<T: Drop, A: Allocator + Copy, H: Mark> SharedNative<T, A, H> {
     /// What a drop does. Under `Open` this owner ends with a new pass, which is the answer, and the
     /// last one gives the block back. Under `Whole` it is a forgotten owner: no step is made, and
     /// the answer is a pass of no block. It takes no memory.
+    ///
+    /// # History
+    ///
+    /// Under `Open`: Down. Under `Whole`: nothing.
     #[tactic(auto, using(crate::proofs::Takes::kept_until, crate::proofs::Takes::laid_room))]
     pub fn let_go(self) -> Pass<H>
         ensures forgotten { H.whole ≡ true → IsPassOfNone result }

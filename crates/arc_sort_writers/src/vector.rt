@@ -155,7 +155,7 @@ impl<S: Slice, B: Buffer<S::Item> + Drop, M: Drop, A: Allocator + Copy, H: Mark>
         self.items.capacity() - self.items.len()
     }
 
-    /// Where there is room for `additional` items more.
+    /// Where room for `additional` items more comes from, or why it is refused.
     pub fn room(&self, additional: usize) -> Room
         ensures room { result ≡ room_for S.DROPS (type_size S.Item.row) self.now additional }
         ensures fresh { IfFresh result (λ places. ⊥) }
@@ -213,8 +213,8 @@ impl<S: Slice, B: Buffer<S::Item> + Drop, M: Drop, A: Allocator + Copy, H: Mark>
         }
     }
 
-    /// Items from start to end of a block's vector, whose only owner this is. Those behind them are
-    /// let go, but for items that are dropped one by one, which stay.
+    /// The items from `start` to before `end` of a block's vector, whose only owner this is. Unless
+    /// items are dropped one by one, the vector is truncated behind them.
     pub fn over(
         alloc: A,
         count: SoleCount<S::Item, B, M, A, MAX_OWNERS, H>,
@@ -250,7 +250,7 @@ impl<S: Slice, B: Buffer<S::Item> + Drop, M: Drop, A: Allocator + Copy, H: Mark>
     ///   bytes.
     /// - `AllocError` where memory is refused for a larger block.
     ///
-    /// Nothing is changed then.
+    /// The writer is unchanged.
     ///
     /// # Allocates
     ///

@@ -13,7 +13,7 @@ ghost use Rattle.arc_commands.specs.Step.{Run, Step};
 ghost use Rattle.arc_commands.specs.Commands.{ListCmd, ListReply};
 ghost use Rattle.arc_table.specs.Once.{AreRight, Booked, Books, EachOnce, StayRight, books_after};
 
-/// Rows on one block agree about it, in every table that comes of the empty one. In that no row
+/// Rows on one block agree about it, in every table that comes of the empty one. There no row
 /// stands on a block, and each step keeps the agreement. So does each run, also a run of commands
 /// that a `Table` carries out.
 ///
@@ -93,19 +93,20 @@ pub fn parts_apart<T, M>()
         → IsParted (joined_row row other) row other }
 {}
 
-/// Items once. The books of a run have, for each block, the items that were put into it, each at
-/// the place at which it was put in, and say that these are in the block, handed out or dropped
-/// (`Books`). Commands and replies determine them, and where windows stand. The block's vector or
-/// buffer is where its items are, and its metadata is in the block as long as they are.
+/// The items of a block leave it once. The books of a run have, for each block, the items that were
+/// put into it, each at the place at which it was put in, and say that these are in the block,
+/// handed out or dropped (`Books`). Commands and replies determine them, and where windows stand.
+/// The block's vector or buffer is where its items are, and its metadata is in the block as long as
+/// they are.
 ///
-/// Right books (`AreRight`) stay right by each step, and each run has books (`booked`). Things leave
-/// a block by a command on the last window there, and what was handed out or dropped stays so. What
-/// a reply hands out was in a block until then, and where items are dropped one by one it is all of
-/// them (`EachOnce`). Books of the empty table are right.
+/// Right books (`AreRight`) of a lawful table stay right by each step, and each run has books
+/// (`booked`). Things leave a block by a command on the last window there, and what was handed out
+/// or dropped stays so. What a reply hands out was in a block until then, and where items are
+/// dropped one by one it is all of them (`EachOnce`). Books of the empty table are right.
 ///
-/// A list that a command brings and that comes into no block isn't in the books. Nor are items that
-/// need no drop held to them, nor an `Arc` that is a block by itself. Does nothing: its contract is
-/// the law, for items and metadata of any type.
+/// A list that a command brings and that comes into no block isn't in the books, nor is an `Arc`
+/// that is a block by itself. Of items that need no drop the books don't say which ones a row
+/// shows. Does nothing: its contract is the law, for items and metadata of any type.
 pub fn items_once<T, M>()
     ensures empty { (drops : Bool) (books : Books T) → AreRight {M = M} drops empty_table books }
     ensures step { (setting : Setting T) (old : Table T M) (command : ListCmd T M)

@@ -116,20 +116,20 @@ where
     ///
     /// # Errors
     ///
-    /// A refusal is a reply. It changes nothing, and what the command brought is dropped. In this
-    /// order:
+    /// A refusal is a reply. Every window is as it was then, and what the command brought is
+    /// dropped. An entry may be added (see History). The tests come in this order:
     ///
     /// - `NoWindow` where no window has the number.
-    /// - `Kind` where the command isn't for the window's role, or where the kind or the layout
-    ///   lacks what it asks for.
+    /// - `Kind` where the command isn't for the window's role, where the kind or the layout lacks
+    ///   what it asks for, or where a window is to be joined with itself.
     /// - `Range` where the range isn't one of the window.
     /// - `Alloc`, `Reserve`, `Owner` and `Refused` where the window's call is refused, or memory
     ///   for it.
     ///
     /// # Allocates
     ///
-    /// - For a new window: for its number, for what it is made of, and for items that are shown.
-    ///   Refused, the reply is `Alloc`.
+    /// - For a new window, for its number and for what it is made of, and for the items of a
+    ///   `Show`. Refused, the reply is `Alloc`.
     /// - For the block of a window that is there. Refused, the reply is `Reserve`, and of a
     ///   `Freeze` `Refused`.
     /// - For the block to which one of several writers moves from a vector when it is split.
@@ -137,7 +137,22 @@ where
     ///
     /// # History
     ///
-    /// What `Adds` says of the command and its reply.
+    /// `Adds` says it of each command and reply. Only a window on a block that counts its owners
+    /// adds entries:
+    ///
+    /// - `New` to a clone, cut or split: Up, unless the new window stands on nothing. To a split of
+    ///   one of several writers on a vector: Down there, and Up in a new block's history.
+    /// - `Owner` with `CountFull`: Full.
+    /// - `Yes` or `No` to `Uniq`: Alone with what the count says, but nothing over an `Arc`.
+    /// - `Ok` to `Mut` or `Unique`: Alone with yes.
+    /// - `Vec`, `Boxed`, `Buffer` or `Raw`: Alone with yes, then Down; of a sole writer only Down.
+    /// - `Refused` to a command of the two lines above, where only the count could decide: Alone
+    ///   with no.
+    /// - Any reply to `Res`, `Push`, `Ext` or `Rec` but `Kind`, on a window of one of several
+    ///   writers that has too few places: Alone with what the count says.
+    /// - `Ok` to `Drop`: Down. `Ok` to `Join`: Down of the other window.
+    ///
+    /// No other reply adds an entry. Where a block is made its history begins.
     #[inline(always)]
     pub fn step(&mut self, rt: &impl Wait, command: TableCmd<S, B, M, A>) -> TableReply<S, B, M, A>
         ensures { CarriesOut ⟦<S as TableUnder<L, A>>⟧.setting self.old
@@ -361,8 +376,13 @@ where
         }
     }
 
-    /// Carries out a `Cmd::Show`. The reply lends the items where they are in the window. It takes
-    /// no memory.
+    /// Carries out a `Cmd::Show` of the window with the number `i`. The reply lends the items where
+    /// they are in the window. It takes no memory.
+    ///
+    /// # Errors
+    ///
+    /// As a reply: `NoWindow` where no window has the number, `Kind` where the kind's items can't
+    /// be copied.
     #[inline(always)]
     pub fn show_in_place(&self, i: usize) -> LentReply<'_, S, B, M, A>
         ensures carried { CarriesOut ⟦<S as TableUnder<L, A>>⟧.setting self.now (command.Show i)

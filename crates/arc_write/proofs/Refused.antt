@@ -1,6 +1,6 @@
 -- Room that a writer of either role is refused leaves all as it was.
-use Rattle.std.proofs.Common.{◌≡◌, ℕ, Bool, true, false, refl, sym, ap, ◌∙◌}
-use Rattle.std.specs.Prelude.{Result, Ok, Err, is_ok}
+use Rattle.std.proofs.Common.{◌≡◌, ℕ, Bool, true, false, sym, ap, ◌∙◌}
+use Rattle.std.specs.Prelude.{Result, Ok, Err, is_ok, IfErr, OnErr}
 use Rattle.std.proofs.lemmas.Bool.{false≢true}
 use Rattle.arc_owners.specs.declared.count.tokens.Pass.{Pass}
 use Rattle.arc_owners.specs.declared.error.TryReserveError.{TryReserveError}
@@ -9,7 +9,6 @@ use Rattle.arc_parts.specs.declared.room.Room.TheVariants.{Spare, Behind, Front,
 use Rattle.arc_parts.specs.declared.room.Room.TheVariants.{Growth, Own, Refused}
 use Rattle.arc_parts.specs.Shared.{MakesRoomAlone, MakesRoomIf, MakesSharedRoom}
 use Rattle.arc_parts.specs.Shared.{as_shared, as_unique, asks_alone}
-use Rattle.arc_block.specs.Table.{one_writer_of_several}
 use Rattle.arc_parts.specs.Window.{PartsView}
 use Rattle.arc_parts.specs.Writers.{room_for, MakesRoom}
 use Rattle.arc_writer_parts.specs.Roles.{AsksRoom, HasWritersRole}
@@ -51,3 +50,31 @@ module _ {T M H : Type 0} (one_pass : Bool) (e : TryReserveError) where
   refused_stays true drops item_size additional old new before after role made =
       several-stays (room_for false item_size old additional) old new role
       (asks_alone old additional) before after made
+
+module _ {T M H : Type 0} (several drops one_pass : Bool) (item_size additional : ℕ)
+    (old new : PartsView T M) (before after : Pass H) (role : HasWritersRole several old.role) where
+  -- a list that was pushed or refused
+  pub extend_same : {E : Type 0} (why : E → TryReserveError) (reply : Result (Unit {0}) E)
+      → IfErr reply (λ e. AsksRoom several drops one_pass item_size additional
+      old new before after (Err (why e)))
+      → OnErr reply (new ≡ old)
+  extend_same why (Ok done) refused = tt
+  extend_same why (Err e) refused = refused_stays one_pass (why e) several drops item_size
+      additional old new before after role refused
+
+  -- an item
+  pub push_same : (x : T) (reply : Result (Unit {0}) (TryReserveError × T))
+      → IfErr reply (λ r. (r.1 ≡ x) × AsksRoom several drops one_pass item_size additional
+      old new before after (Err r.0))
+      → OnErr reply (new ≡ old)
+  push_same x (Ok done) refused = tt
+  push_same x (Err r) refused = refused_stays one_pass r.0 several drops item_size
+      additional old new before after role refused.1
+
+  -- and room
+  pub room_same : (reply : Result (Unit {0}) TryReserveError)
+      → AsksRoom several drops one_pass item_size additional old new before after reply
+      → OnErr reply (new ≡ old)
+  room_same (Ok done) made = tt
+  room_same (Err e) made = refused_stays one_pass e several drops item_size
+      additional old new before after role made

@@ -1,9 +1,10 @@
 //! `WriteWindow`, a window that is written, and `ArcSliceMut`, its name by the writer's role.
-ghost use Rattle.std.specs.Prelude.{◌≡◌, false};
+ghost use Rattle.std.specs.Prelude.{◌≡◌, [], false};
 ghost use Rattle.arc_block.specs.LayoutFacts.{layout_facts};
+ghost use Rattle.arc_block.specs.Place.{IsOnBlock};
 ghost use Rattle.arc_parts.specs.Steps.{EndsShownAt};
 ghost use Rattle.arc_parts.specs.Window.{IsBlockHeld};
-ghost use Rattle.arc_parts.specs.Writers.{idle_writer};
+ghost use Rattle.arc_parts.specs.Writers.{capacity_of, idle_writer};
 ghost use Rattle.arc_writer_parts.specs.Roles.{HasWritersRole, StandsAsWriter};
 
 use arc_block::layout::{DefaultLayoutMut, LayoutMut};
@@ -25,7 +26,7 @@ use std::marker::{Model, PhantomData};
 /// Each call that makes a block, makes room in it or leaves it has a form that ends in `_as`. It
 /// takes a pass of the block, in which contracts read what is added to the block's history. The
 /// plain form is that form with a new pass. A window that stands on no block has a pass of none.
-/// `try_extend` and `try_from_iter`, which go item by item, have the plain form alone.
+/// `try_extend` and `try_from_iter`, which go item by item, and `let_go` have the plain form alone.
 ///
 /// A window under the mark `Open` that is dropped ends with a new pass. One under `Whole` is a
 /// forgotten owner of its block.
@@ -156,14 +157,22 @@ impl<
         parts
     }
 
-    /// The window stands on nothing, or on a block that counts its owners and may be written; one
-    /// of several writers stands on one that keeps its items in memory of ours. Does nothing: its
-    /// contract is the law.
+    /// The window stands on nothing, or on a block that counts its owners and may be written. One
+    /// of several writers stands on nothing, on a native block or on a vector. The window's role is
+    /// that of `R`. Does nothing: its contract is the law.
     pub fn known_place(&self)
         ensures place { StandsAsWriter R.Parts.several self.now.place }
         ensures role { HasWritersRole R.Parts.several self.now.role }
     {
         self.parts.known_place();
+    }
+
+    /// On no block the window has no items and no places. Does nothing: its contract is the law.
+    pub fn known_idle(&self)
+        ensures items { (¬ IsOnBlock self.now.place) → self.now.items ≡ [] }
+        ensures places { (¬ IsOnBlock self.now.place) → capacity_of self.now.role ≡ 0 }
+    {
+        self.parts.known_idle();
     }
 }
 

@@ -2,3 +2,4 @@ pub mod Splits
 pub mod Rooms
 pub mod Takes
 pub mod Frozen
+pub mod Idle

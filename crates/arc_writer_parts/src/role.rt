@@ -5,6 +5,7 @@ ghost use Rattle.std.specs.Borrow.{Array, Lends, sem};
 ghost use Rattle.std.specs.Mem.{type_size};
 ghost use Rattle.std.specs.Vec.{vec_capacity};
 ghost use Rattle.arc_owners.specs.count.Calls.{IsNewPass, IsPassOfNone, Learns};
+ghost use Rattle.arc_block.specs.Block.{IsLimited};
 ghost use Rattle.arc_block.specs.LayoutFacts.{layout_facts};
 ghost use Rattle.arc_block.specs.Metadata.{IsMetadataAt, IsOnCallers};
 ghost use Rattle.arc_block.specs.Moves.{IsRefused, layout_move};
@@ -43,7 +44,7 @@ pub trait RoleOf<
     A: Allocator + Copy,
     H: Mark,
 > {
-    /// The parts.
+    /// The parts of such a window.
     type Parts: WriterParts<S, B, M, A, H>;
 }
 
@@ -76,7 +77,7 @@ pub trait WriterParts<
     A: Allocator + Copy,
     H: Mark,
 >: Sized {
-    /// The row.
+    /// The row that is seen of the parts.
     ghost seen: { Self → PartsView S.Item M };
 
     /// Whether its owner is one of several writers, and not the block's only owner.
@@ -85,12 +86,18 @@ pub trait WriterParts<
     /// The same parts with other items in their places.
     ghost with_list: { Self → List S.Item → Self };
 
-    /// They stand on nothing, or on a block that counts its owners and may be written. Those of one
-    /// of several writers stand on a block only where its items are in memory of the library's.
-    /// Does nothing: its contract is the law.
+    /// They stand on nothing, or on a block that counts its owners and may be written. For one of
+    /// several writers the block is native or a vector. Their role is that of a sole writer, or of
+    /// one of several. Does nothing: its contract is the law.
     fn known_place(&self)
         ensures place { StandsAsWriter several (seen self.now).place }
         ensures role { HasWritersRole several (seen self.now).role };
+
+    /// On no block there are no items and no places. Does nothing: its contract is the law.
+    fn known_idle(&self)
+        ensures items { (¬ IsOnBlock (seen self.now).place) → (seen self.now).items ≡ [] }
+        ensures places { (¬ IsOnBlock (seen self.now).place)
+            → capacity_of (seen self.now).role ≡ 0 };
 
     /// How many items there are.
     fn len(&self) -> usize
@@ -116,7 +123,8 @@ pub trait WriterParts<
         requires { count ≤ length (seen self.old).items }
         ensures { seen self.new ≡ after_advance count (seen self.old) };
 
-    /// Keeps the first `len` items, or all where there are no more.
+    /// Keeps the first `len` items, or all where there are no more. Items that are dropped one by
+    /// one stay in the block when they are cut off, and the capacity is `len` then.
     fn truncate(&mut self, len: usize)
         ensures { seen self.new ≡ after_truncate S.DROPS len (seen self.old) };
 
@@ -128,17 +136,19 @@ pub trait WriterParts<
     ///
     /// - `NotUnique` of one of several writers, on a block where another owner lives.
     /// - `Unsupported` where items that are dropped one by one end before the block's full places.
-    /// - What the caller's buffer refuses with, over one.
-    /// - `CapacityOverflow` where a block would have to grow to more than 2^63 - 1 places or bytes.
+    /// - Over a caller's buffer: what that refuses with, never `NotUnique`.
+    /// - `CapacityOverflow` where the block would need more than 2^63 - 1 places or bytes; of a
+    ///   native block, also where twice its size is more bytes than that.
     /// - `AllocError` where memory is refused for a larger block, or for a first one of any size.
     ///
-    /// Nothing is changed then.
+    /// The parts are unchanged.
     ///
     /// # Allocates
     ///
-    /// Once for a first block, and once where the block grows. It grows where the places behind the
-    /// items aren't enough, unless the items can be moved to its front: they aren't dropped one by
-    /// one, they are no more than the places in front of them, and the whole block is large enough.
+    /// Once for a first block, or where the block grows. It grows where its places behind the items
+    /// aren't enough, unless the items can be moved to its front: they aren't dropped one by one,
+    /// they are no more than the places in front of them, and the whole block is large enough. A
+    /// caller's buffer grows as it will.
     ///
     /// # History
     ///
@@ -161,7 +171,8 @@ pub trait WriterParts<
             (size_at (seen self.new).place) result) };
 
     /// Makes room for `additional` items more where that takes no memory, and answers whether there
-    /// is room.
+    /// is room. A caller's buffer isn't asked for more. One of several writers gets no further
+    /// places while another owner lives.
     ///
     /// # History
     ///
@@ -177,8 +188,8 @@ pub trait WriterParts<
     ///
     /// # Errors
     ///
-    /// Those of `try_reserve_as` for one item, with the item, which comes back. Nothing is changed
-    /// then.
+    /// Those of `try_reserve_as` for one item, with the item, which comes back. The parts are
+    /// unchanged.
     ///
     /// # Allocates
     ///
@@ -248,13 +259,13 @@ pub trait WriterParts<
             (IsBoxWhole (seen self).items (seen self).place) (seen self).place
             pass.old pass.new) };
 
-    /// The same items and places, as those of a reader. It adds no entry and takes no memory.
+    /// The same items at the same place, as a reader's. It adds no entry and takes no memory.
     fn freeze(self) -> Parts<S, B, M, A, H>
         ensures { result ≡ as_reader (seen self) };
 
-    /// The same items, as parts of a window under the layout `L` that is read. On nothing they
-    /// become those that no items make under that layout: on nothing, or on a new native block of
-    /// no places, of which the pass becomes one.
+    /// The same items, as parts of a window under the layout `L` that is read. It adds no entry.
+    /// Where the parts stand on nothing, the new ones stand on nothing too, or, if that layout has
+    /// no static data, on a new native block of no places, and the pass becomes that block's.
     ///
     /// # Errors
     ///
@@ -333,7 +344,8 @@ pub trait WriterParts<
     ///
     /// # History
     ///
-    /// Under `Open`, on a block: Down; of a sole writer without an atomic step. Else nothing.
+    /// Under `Open`, on a block: Down; of a sole writer, and on a vector, without an atomic step.
+    /// Else nothing.
     fn let_go(self) -> Pass<H>
         ensures forgotten { H.whole ≡ true → IsPassOfNone result }
         ensures ended { H.whole ≡ false → EndsAt (seen self).place result };
@@ -349,6 +361,13 @@ pub trait WriterParts<
         ensures { at_owner (seen self.now).place (pass.new ≡ pass.old) (λ o.
             Learns o.block pass.old other.now pass.new) };
 
+    /// `MAX_OWNERS`: how many owners the block may have at once. The contract says too that the
+    /// block is under the mark `H`.
+    fn max_owners(&self) -> u64
+        ensures answer { result ≡ 9223372036854775807 }
+        ensures block { at_owner (seen self.now).place (Unit {0}) (λ o.
+            IsLimited 9223372036854775807 H.whole o) };
+
     /// A new pass of the block. It has seen at least how this owner became one, and nothing was
     /// made with it. On no block it is a pass of none. It adds no entry.
     fn pass(&self) -> Pass<H>
@@ -356,7 +375,7 @@ pub trait WriterParts<
         H: Stepping,
         ensures { at_owner (seen self.now).place (IsPassOfNone result) (λ o. IsNewPass o result) };
 
-    /// With other items they stand where they stand.
+    /// With other items the parts have the same place and as many places.
     ghost keeps: { (parts : Self) (items : List S.Item)
         → seen (with_list parts items) ≡ with_items (seen parts) items };
 }
@@ -376,7 +395,7 @@ where
     ///
     /// # Errors
     ///
-    /// Those of `try_reserve_as` for as many items. Nothing is changed then.
+    /// Those of `try_reserve_as` for as many items. The parts are unchanged.
     ///
     /// # Allocates
     ///

@@ -145,8 +145,8 @@ impl<S: Slice, B: BufferMut<S::Item> + Drop, M: Drop, A: Allocator + Copy, H: Ma
         }
     }
 
-    /// No items, with `capacity` places, on a new native block. No places stand on nothing. The
-    /// pass, which is of no block, becomes the block's.
+    /// No items, with `capacity` places, on a new native block; for a `capacity` of 0, on nothing.
+    /// The pass, which is of no block, becomes the block's.
     ///
     /// # Errors
     ///
@@ -171,8 +171,8 @@ impl<S: Slice, B: BufferMut<S::Item> + Drop, M: Drop, A: Allocator + Copy, H: Ma
         }
     }
 
-    /// A copy of the items, on a new native block with exactly a place for each; no items stand on
-    /// nothing. The pass, which is of no block, becomes the block's.
+    /// A copy of the items, on a new native block with exactly a place for each; if there are none,
+    /// on nothing. The pass, which is of no block, becomes the block's.
     ///
     /// # Errors
     ///
@@ -199,8 +199,8 @@ impl<S: Slice, B: BufferMut<S::Item> + Drop, M: Drop, A: Allocator + Copy, H: Ma
         }
     }
 
-    /// `count` zeros, on a new native block with exactly a place for each. None stand on nothing.
-    /// The pass, which is of no block, becomes the block's.
+    /// `count` zeros, on a new native block with exactly a place for each; for a `count` of 0, on
+    /// nothing. The pass, which is of no block, becomes the block's.
     ///
     /// # Errors
     ///
@@ -208,7 +208,7 @@ impl<S: Slice, B: BufferMut<S::Item> + Drop, M: Drop, A: Allocator + Copy, H: Ma
     ///
     /// # Allocates
     ///
-    /// Once, except for none.
+    /// Once, except for a `count` of 0.
     pub fn try_zeroed_as(alloc: A, count: usize, pass: &mut Pass<H>) -> Result<Self, AllocError>
     where
         S: Zeroable,
@@ -224,7 +224,8 @@ impl<S: Slice, B: BufferMut<S::Item> + Drop, M: Drop, A: Allocator + Copy, H: Ma
         }
     }
 
-    /// An array's items, which are moved into a block where `try_from_slice_as` copies them.
+    /// The items of an array, moved to a new native block with exactly a place for each; if there
+    /// are none, on nothing. The pass, which is of no block, becomes the block's.
     ///
     /// # Errors
     ///

@@ -16,7 +16,8 @@ impl<
     const MAX: u64,
     H: Mark,
 > Block<S, B, M, A, MAX, H> {
-    /// The metadata of the caller's buffer that the block keeps, behind an `Arc` or not.
+    /// The metadata of the caller's buffer that the block keeps, behind an `Arc` or not; `None`
+    /// where the block is a vector.
     pub fn borrowed_metadata(&self) -> Option<&B::Metadata>
     where
         B: BorrowMetadata,

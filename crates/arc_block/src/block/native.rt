@@ -1,4 +1,4 @@
-//! Native blocks: items in memory of this crate's own making, which is lent for the lease of the
+//! Native blocks: items in memory of the library's own making, which is lent for the lease of the
 //! block's owners.
 //!
 //! The counted box keeps what gives the memory back at the end. It lies in front of the items, in
@@ -198,6 +198,10 @@ impl<S: Slice, A: Allocator + Copy, const MAX: u64, H: Mark> NativeBlock<S, A, M
     /// What a drop does. Under `Open` this owner ends with a new pass, which is the answer, and the
     /// last one gives the block back. Under `Whole` it is a forgotten owner: no step is made, and
     /// the answer is a pass of no block. It takes no memory.
+    ///
+    /// # History
+    ///
+    /// Under `Open`: Down. Under `Whole`: nothing.
     #[inline(always)]
     #[tactic(auto, using(crate::proofs::Natives::kept_ended, crate::proofs::Natives::laid_room))]
     pub fn let_go(self) -> Pass<H>

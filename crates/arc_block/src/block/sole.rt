@@ -1,4 +1,5 @@
-//! Blocks of a caller's making with one owner. The owner of one that is a vector has the vector.
+//! Blocks of a caller's making with one owner. Where the block is a vector, its owner has the
+//! vector.
 //!
 //! So its items are read and written by the vector's own code, and no count is read. Meanwhile the
 //! memory of the count holds none of the items.
@@ -53,6 +54,10 @@ pub fn new_count<T: Drop, B: Drop, M: Drop, A: Allocator + Copy, const MAX: u64,
 /// What a drop does. Under `Open` the owner ends with a new pass, which is the answer, and its
 /// items are dropped. Under `Whole` owner and items are forgotten: the items stay where they are,
 /// and the answer is a pass of no block.
+///
+/// # History
+///
+/// Under `Open`: Down. Under `Whole`: nothing.
 pub fn end_sole<T: Drop, B: Drop, M: Drop, A: Allocator + Copy, const MAX: u64, H: Mark>(
     count: SoleCount<T, B, M, A, MAX, H>,
     items: Vec<T, A>,

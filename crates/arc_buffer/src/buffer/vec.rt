@@ -49,6 +49,16 @@ impl<T, A: Allocator> BufferMut<T> for Vec<T, A> {
 
     ghost grows = { λ v additional places. length (vec_items v) + additional ≤ places };
 
+    /// Makes room for `additional` items more than there are. The list stays the same.
+    ///
+    /// # Errors
+    ///
+    /// Only where it has too few places: `CapacityOverflow` where it would need more than
+    /// `isize::MAX` places, else `AllocError`. It then has as many places as before.
+    ///
+    /// # Allocates
+    ///
+    /// Where it has too few places, as the vector does.
     fn try_reserve(&mut self, additional: usize) -> Result<(), TryReserveError> {
         let len = self.len();
         match self.reserve(additional) {

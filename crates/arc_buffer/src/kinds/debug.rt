@@ -9,13 +9,18 @@ use crate::print;
 use bstr::BStr;
 use std::{fmt, str};
 
-/// Kinds whose lists have a `Debug` form. Bytes have that of a byte string, other items that of the
-/// language's list, `Text` that of its `str`, and `ByteText` that of `bstr`.
+/// Kinds whose lists have a `Debug` form. `Plain<u8>` has that of a byte string, `Plain` of other
+/// items and `Owned` of all that of the language's list, `Text` that of its `str`, and `ByteText`
+/// that of `bstr`.
 pub trait DebugSlice: Slice {
     /// What `{:?}` writes of a list, where that is specified.
     ghost debug_items: { List Self.Item → Option (List ℕ) };
 
     /// Writes a legal list as `{:?}` does.
+    ///
+    /// # Errors
+    ///
+    /// The writer's, or that of an item's `Debug`.
     fn fmt_items<W: fmt::Write>(items: &[Self::Item], f: &mut fmt::Formatter<W>) -> fmt::Result
         requires legal { ∥ Self.is_legal items.now ∥₁ }
         ensures { DisplaysOnOk W.write_str_gives f.old result (debug_items items.now) f.new };
@@ -28,6 +33,10 @@ pub trait DebugItem: fmt::Debug {
     ghost debug_plain: { List Self → Option (List ℕ) };
 
     /// Writes a list of such items as `{:?}` does.
+    ///
+    /// # Errors
+    ///
+    /// The writer's, or that of an item's `Debug`.
     fn fmt_plain<W: fmt::Write>(items: &[Self], f: &mut fmt::Formatter<W>) -> fmt::Result
     where
         Self: Sized,

@@ -72,7 +72,7 @@ impl Zeroable for Text {
     ghost zeros_are_legal = { zeros_are_text };
 }
 
-/// Text is cut between characters exactly where both parts are text.
+/// A text may be cut exactly where both parts are text. Does nothing: its contract is the law.
 pub fn cuts_into_texts()
     ensures { CutsIntoTexts }
 {}

@@ -10,8 +10,8 @@ use std::alloc::Allocator;
 use std::boxed::{BoxedSlice, BoxedStr};
 
 /// A vector or a box as the plain one that it wraps. A `String` wraps a vector of bytes, and a
-/// `Vec` wraps itself. No call copies an item or takes memory. The clauses speak of values, and of
-/// a `BString` of its bytes only.
+/// `Vec` wraps itself. No call copies an item or takes memory. The clauses speak of whole values,
+/// but of a `BString` and of a `BoxedStr` they tell the bytes only.
 pub trait Wraps<V> {
     /// What it wraps.
     ghost wraps: { Self → V → Type 0 };

@@ -140,7 +140,7 @@ pub trait CallsOf<S: Subsliceable> {
     /// Where the window has too few places, in this order: `Unsupported` where items that are
     /// dropped one by one end before the block's full places, the refusal of a caller's buffer,
     /// `CapacityOverflow` where the block would have to grow to more than 2^63 - 1 places or bytes,
-    /// and `AllocError` where memory is refused. Nothing is changed then.
+    /// and `AllocError` where memory is refused. The window is unchanged.
     ///
     /// # Allocates
     ///
@@ -171,7 +171,7 @@ pub trait CallsOf<S: Subsliceable> {
     /// Where the window has too few places, in this order: `Unsupported` where items that are
     /// dropped one by one end before the block's full places, the refusal of a caller's buffer,
     /// `CapacityOverflow` where the block would have to grow to more than 2^63 - 1 places or bytes,
-    /// and `AllocError` where memory is refused. Nothing is changed then.
+    /// and `AllocError` where memory is refused. The window is unchanged.
     ///
     /// # Allocates
     ///
@@ -196,8 +196,9 @@ pub trait CallsOf<S: Subsliceable> {
             window.old window.new pass.old pass.new (Err e))) }
         ensures none { IfNone result ((window.new ≡ window.old) × (pass.new ≡ pass.old)) };
 
-    /// A sole writer's window as one of several writers: it is taken out of its place, unless it
-    /// stands on a caller's buffer, where it stays. It adds no entry and takes no memory.
+    /// Takes a sole writer's window out of its place, as that of one of several writers. Over a
+    /// caller's buffer it answers `None`, and the window stays in its place. It adds no entry and
+    /// takes no memory.
     fn into_shared<L: LayoutMut, B: BufferMut<S::Item> + Drop, M: Drop, A: Allocator + Copy>(
         sole: &mut Option<ArcSliceMut<S, L, 1, B, M, A, Whole>>,
     ) -> Option<ArcSliceMut<S, L, 0, B, M, A, Whole>>
@@ -215,7 +216,7 @@ pub trait CallsOf<S: Subsliceable> {
     ///
     /// # Errors
     ///
-    /// `AllocError` where memory for the native block is refused. Nothing is changed then.
+    /// `AllocError` where memory for the native block is refused. The window is unchanged.
     ///
     /// # Allocates
     ///
@@ -249,7 +250,7 @@ pub trait CallsOf<S: Subsliceable> {
     /// # Errors
     ///
     /// On a native block `CountFull`, exactly where `MAX_OWNERS` owners live, and on a vector
-    /// `AllocError`, where memory for the native block is refused. Nothing is changed then.
+    /// `AllocError`, where memory for the native block is refused. The window is unchanged.
     ///
     /// # Allocates
     ///
@@ -283,7 +284,7 @@ pub trait CallsOf<S: Subsliceable> {
     /// # Errors
     ///
     /// On a native block `CountFull`, exactly where `MAX_OWNERS` owners live, and on a vector
-    /// `AllocError`, where memory for the native block is refused. Nothing is changed then.
+    /// `AllocError`, where memory for the native block is refused. The window is unchanged.
     ///
     /// # Allocates
     ///
@@ -311,8 +312,8 @@ pub trait CallsOf<S: Subsliceable> {
         ensures none { IfNone result ((window.new ≡ window.old) × (pass.new ≡ pass.old)) };
 
     /// Puts the other window's places behind this one's, where this one is full and the other
-    /// begins where it ends, or where both stand on nothing. It answers `None` where they don't,
-    /// and the other window stays in its place.
+    /// begins where it ends, or where both stand on nothing. Else it answers `None`, and the other
+    /// window stays in its place.
     ///
     /// # History
     ///
@@ -342,7 +343,7 @@ pub trait CallsOf<S: Subsliceable> {
     ///
     /// Where the window has too few places, in this order: `NotUnique` where another owner of the
     /// block lives, `CapacityOverflow` where the block would have to grow to more than 2^63 - 1
-    /// places or bytes, and `AllocError` where memory is refused. Nothing is changed then.
+    /// places or bytes, and `AllocError` where memory is refused. The window is unchanged.
     ///
     /// # Allocates
     ///
@@ -376,7 +377,7 @@ pub trait CallsOf<S: Subsliceable> {
     ///
     /// Where the window has too few places, in this order: `NotUnique` where another owner of the
     /// block lives, `CapacityOverflow` where the block would have to grow to more than 2^63 - 1
-    /// places or bytes, and `AllocError` where memory is refused. Nothing is changed then.
+    /// places or bytes, and `AllocError` where memory is refused. The window is unchanged.
     ///
     /// # Allocates
     ///

@@ -19,7 +19,7 @@ use std::marker::PhantomData;
 use std::sync::Wait;
 
 /// One attempt to raise a count: `None` where the number changes between its two steps, and then no
-/// entry is added.
+/// entry is added. Else it adds what `try_up_raw` names.
 #[inline(always)]
 pub(crate) fn try_up<H: Mark>(
     word: &Word,
@@ -121,7 +121,7 @@ impl<const MAX: u64, H: Mark> Owners<MAX, H> {
     /// A new owner of the same block. It takes no memory.
     ///
     /// It takes `rt` since a raise that another thread disturbs is tried again. On a word that
-    /// began lone, the pass has to know that it has been promoted.
+    /// began lone, the pass has to have seen the Promote.
     ///
     /// # Errors
     ///

@@ -28,8 +28,9 @@ impl<H: Mark> Pass<H> {
         self.trace.attest();
     }
 
-    /// Shows that there is a pass that has seen this. A body that is generic in the mark can say so
-    /// by no other call. The pass is used up, so no entry is added with it after that.
+    /// Shows that a pass exists that has seen what this one has seen (`real`). A body that is
+    /// generic in the mark can say so by no other call. The pass is used up, so no entry is added
+    /// with it after that.
     pub fn show(self)
         ensures { IsOfBlock self
             → H.real (pass_block self) (pass_number self) (history_of self) }

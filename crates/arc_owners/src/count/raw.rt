@@ -16,8 +16,18 @@ use crate::leave::RaiseLeave;
 use crate::mark::Mark;
 
 impl<const MAX: u64, H: Mark> Owners<MAX, H> {
-    /// One attempt of `up_as` on the place of the word: `None` where another thread's step came
-    /// between, and then no entry is added. The caller tries again.
+    /// One attempt to make a new owner as `up_as` does, by the word's address. It answers `None`,
+    /// and adds no entry, where another thread's step came between. The caller tries again then. It
+    /// takes no memory.
+    ///
+    /// # Errors
+    ///
+    /// `CountFull` exactly where `MAX` owners live.
+    ///
+    /// # History
+    ///
+    /// Up, or on a lone word Promote. Full where it is refused. Where the pass didn't know of a
+    /// count, a Joined may stand before.
     ///
     /// # Safety
     ///
@@ -45,7 +55,12 @@ impl<const MAX: u64, H: Mark> Owners<MAX, H> {
         try_up(word, leave, MAX, by, pass)
     }
 
-    /// `alone_as` on the place of the word.
+    /// Whether the owner is alone, as `alone_as` answers, by the word's address. It takes no
+    /// memory.
+    ///
+    /// # History
+    ///
+    /// Alone with the answer. On a lone word, where the answer is yes, nothing.
     ///
     /// # Safety
     ///
@@ -66,7 +81,12 @@ impl<const MAX: u64, H: Mark> Owners<MAX, H> {
         word.load(&by.right, &mut pass.trace) == 1
     }
 
-    /// `down_as` on the place of the word, which may be gone before the call returns.
+    /// Ends an owner as `down_as` does, by the word's address. The word may be gone before the call
+    /// returns. It takes no memory.
+    ///
+    /// # History
+    ///
+    /// Down.
     ///
     /// # Safety
     ///
@@ -93,7 +113,16 @@ impl<const MAX: u64, H: Mark> Owners<MAX, H> {
         released(found, last)
     }
 
-    /// `claim_as` on the place of the word.
+    /// Takes the block back where the owner is alone, as `claim_as` does, by the word's address. It
+    /// takes no memory.
+    ///
+    /// # Errors
+    ///
+    /// The owner comes back as it was where another one lives.
+    ///
+    /// # History
+    ///
+    /// Alone with the answer. On a lone word, where the answer is yes, nothing.
     ///
     /// # Safety
     ///

@@ -14,7 +14,7 @@ use crate::lifetime::LifetimeToken;
 use crate::mark::{Internal, Mark};
 use std::marker::PhantomData;
 
-/// What an owner has that asks for the block back, and finds this number.
+/// What an owner has that asked for the block back, where the word held this number.
 pub(crate) fn claimed<H: Mark>(
     found: u64,
     right: OwnerToken<H>,
@@ -72,13 +72,17 @@ impl<const MAX: u64, H: Mark> Owners<MAX, H> {
         )
     }
 
-    /// Takes the block back where the owner is alone, at the point of the one load that this takes,
-    /// as `Arc::try_unwrap` does. Where other owners live, this one comes back as before. It takes
-    /// no memory.
+    /// Takes the block back where the owner is alone, at the point of the one load that this takes.
+    /// The owner then has the block to itself, and gets the right to end the lifetime of its lease.
+    /// It takes no memory.
+    ///
+    /// # Errors
+    ///
+    /// The owner comes back as it was where another one lives.
     ///
     /// # History
     ///
-    /// Alone with the answer. On a lone word nothing.
+    /// Alone with the answer. On a lone word, where the answer is yes, nothing.
     #[tactic(auto, using(crate::proofs::count::Calls::asks_of))]
     pub fn claim_as(
         &self,
@@ -125,8 +129,8 @@ impl<H: Mark> Sole<H> {
         }
     }
 
-    /// As `lend`, for a lifetime that the owner has whole. All owners of the block have a note of
-    /// what else is lent for it. It adds no entry and takes no memory.
+    /// Lends the block for a lifetime that the owner has whole. All owners of the block have a note
+    /// of what else is lent for it. It adds no entry and takes no memory.
     pub fn lend_for(self, lifetime: LifetimeToken) -> Share<H>
         ghost note: { LentNote }
         requires { lifetime.share ≡ full_share }

@@ -135,7 +135,7 @@ impl Word {
         unsafe { raw::load::<Brand>(self as *const Self as *const u64, SeqCst) }
     }
 
-    /// Reads the number. Where it is the greatest, that is an entry.
+    /// Reads the number. Where it is the greatest, a Full is added.
     pub(crate) fn load_for_raise<H>(&self, by: &OwnerToken<H>, pass: &mut PassState) -> u64
         requires { IsHeld self.now by.now × IsOf self.now pass.old }
         ensures { SamePass self.now pass.old pass.new
@@ -165,7 +165,7 @@ impl Word {
         self.compare_exchange(by, pass, new, old, next)
     }
 
-    /// The same without the leave. Only `raise` calls it.
+    /// The compare-exchange of `raise`, which asks for no leave. Only `raise` calls it.
     fn compare_exchange<H>(
         &self,
         by: &OwnerToken<H>,
@@ -197,8 +197,8 @@ impl Word {
         unsafe { raw::fetch_sub::<Brand>(self as *const Self as *const u64, 1, SeqCst) }
     }
 
-    /// The same by the place of a word that lies there for as long as the block is lent. It may be
-    /// gone after the step.
+    /// As `subtract`, by the address of a word that lies there for as long as the block is lent. It
+    /// may be gone after the step.
     pub(crate) unsafe fn subtract_raw<H>(
         place: *const u64,
         lodging: &WordBorrow,
@@ -232,7 +232,7 @@ impl Word {
         unsafe { raw::load::<Brand>(self as *const Self as *const u64, SeqCst) }
     }
 
-    /// The same by the place of a word that lies there for as long as the block is lent.
+    /// As `claim`, by the address of a word that lies there for as long as the block is lent.
     pub(crate) unsafe fn claim_raw<H>(
         place: *const u64,
         lodging: &WordBorrow,
@@ -291,8 +291,8 @@ impl<H> OwnerToken<H> {
             × (self.new.lease.is_lent ≡ true) × (self.new.lease.note ≡ no_note) }
     {}
 
-    /// The same, for a lifetime that the owner has whole, and with a note of what else is lent for
-    /// it.
+    /// A sole owner who has the block back lends it anew, for a lifetime that it has whole, and
+    /// with a note of what else is lent for that.
     pub(crate) fn lend_for(&mut self, lifetime: LifetimeToken)
         ghost note: { LentNote }
         requires { (self.old.held ≡ true) × (self.old.lease.is_lent ≡ false)
@@ -423,7 +423,7 @@ impl WordBorrow {
 }
 
 impl EndTokens {
-    /// Nothing.
+    /// No right to end a lifetime.
     pub(crate) fn none() -> EndTokens
         ensures { result.last ≡ false }
     {

@@ -23,7 +23,7 @@ pub enum Event {
         thread: u64,
         by: u64,
     },
-    /// The count was raised by one for the new owner, from one below the greatest.
+    /// The count, which was less than the greatest, was raised by one for the new owner.
     CountUp {
         thread: u64,
         by: u64,

@@ -64,9 +64,9 @@ pub fn is_run<const MAX: u64>(history: &[Entry])
     ensures { (events : List AnyEvent) × RunAgrees MAX Counted events history.now }
 {}
 
-/// Of a block's owners that have all ended exactly one was the last. So where each of them ends by a
-/// call that gives the last one what the block kept, one of them gets it. There is nothing to run,
-/// and no memory to take.
+/// Of a block's owners that have all ended exactly one was the last. So where each of them ends by
+/// a call that gives the last one what the block kept, one of them gets it. Does nothing: its
+/// contract is the law.
 pub fn one_is_last<const MAX: u64>(history: &[Entry])
     requires legal { (began : Beginning) × IsLegal MAX began history.now }
     requires ended { live_owners history.now ≡ [] }

@@ -34,6 +34,14 @@ pub fn replay<const MAX: u64, A: Allocator + Copy>(
 }
 
 /// As `replay`, from the word of a lone vector, which owner 0 alone owns.
+///
+/// # Errors
+///
+/// `AllocError` where memory for the lists of the answer is refused.
+///
+/// # Allocates
+///
+/// For these lists.
 pub fn replay_lone<const MAX: u64, A: Allocator + Copy>(
     alloc: A,
     events: &[Event],

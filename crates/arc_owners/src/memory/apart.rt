@@ -20,8 +20,8 @@ impl<V: Drop, A: Allocator + Copy, const MAX: u64, H: Mark> SoleBox<V, A, MAX, H
         self.sole.right.same_lease(&other.share.right);
     }
 
-    /// The same of an owner whose share of the lifetime is elsewhere. Does nothing: its contract is
-    /// the law.
+    /// An owner to whom a value is lent, and whose share of the lifetime is elsewhere, is of
+    /// another block than a sole owner. Does nothing: its contract is the law.
     pub fn apart_from_rest<W: Drop, B: Allocator + Copy>(
         &self,
         other: &CountedBoxWithoutLifetime<W, B, MAX, H>,

@@ -30,7 +30,7 @@ impl<T, A: Allocator> Model for Inheritance<T, A> {
 }
 
 impl<T, A: Allocator> Inheritance<T, A> {
-    /// A copy of it, for the same items or value.
+    /// A copy of it, for the same box.
     pub fn again(&self) -> Inheritance<T, A>
         ensures { (result.value ≡ self.now.value) × (result.alloc ≡ self.now.alloc)
             × (result.at ≡ self.now.at) × (result.lease ≡ self.now.lease) }

@@ -22,7 +22,7 @@ impl<T> Model for SharedBorrow<T> {
 }
 
 impl<T> SharedBorrow<T> {
-    /// A copy of it, for the same items or value.
+    /// A copy of it, for the same value.
     pub fn again(&self) -> SharedBorrow<T>
         ensures { (result.value ≡ self.now.value) × (result.at ≡ self.now.at)
             × (result.lifetime ≡ self.now.lifetime) }

@@ -69,7 +69,7 @@ impl<V> SharedBorrow<V> {
 impl<T, V> Shown<T, V> {
     ghost use Rattle.arc_owners.specs.count.Calls.{lease_of};
 
-    /// A copy of it, for the same items or value.
+    /// A copy of it, for the same items.
     #[inline(always)]
     pub fn again(&self) -> Shown<T, V>
         ensures { result ≡ self.now }

@@ -6,7 +6,7 @@ pub trait Shows<T> {
     /// The list that it shows.
     ghost shown: { Self → List T };
 
-    /// The slice.
+    /// The slice that it shows.
     fn show(&self) -> &[T]
         ensures { result.now ≡ shown self.now };
 }

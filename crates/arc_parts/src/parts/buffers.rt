@@ -269,7 +269,8 @@ impl<S: Slice, B: Buffer<S::Item> + Drop, M: Drop, A: Allocator + Copy, H: Mark>
     }
 
     /// The `Arc` of the caller's buffer, where the items are all of the buffer, and no other owner
-    /// of the block lives. Of an `Arc` that is a block by itself no count is read.
+    /// lives of a block that counts its owners. Of an `Arc` that is a block by itself no count is
+    /// read.
     ///
     /// # Errors
     ///
@@ -278,8 +279,8 @@ impl<S: Slice, B: Buffer<S::Item> + Drop, M: Drop, A: Allocator + Copy, H: Mark>
     ///
     /// # History
     ///
-    /// Taken: Alone with yes, then Down. Refused: Alone with no, where only the count could decide;
-    /// else nothing.
+    /// On a block that counts its owners, taken: Alone with yes, then Down. On one, refused: Alone
+    /// with no, where only the count could decide. Else nothing.
     pub fn try_into_raw_as(self, pass: &mut Pass<H>) -> Result<Arc<B, A>, Self>
         requires role { self.role ≡ reader }
         requires pass { IsPassAt self.place pass.old }

@@ -1,4 +1,4 @@
-//! Ends of parts: what is taken back, and what is let go.
+//! Ends of parts: arrays and static slices are taken out, and owners end.
 ghost use Rattle.std.specs.Prelude.{◌≡◌, ◌↔◌, Bool, true, false, IfOk, IfErr, IsTrue};
 ghost use Rattle.arc_owners.specs.count.Calls.{AsksAndLeaves, Leaves, TakesBlock, IsPassOfNone};
 ghost use Rattle.arc_block.specs.Place.{IsOnBlock, at_owner};

@@ -53,7 +53,7 @@ impl<S: Slice, B: Buffer<S::Item> + Drop, M: Drop, A: Allocator + Copy, H: Mark>
     /// - An `Arc` that is a block by itself goes into a new block, which keeps it and counts its
     ///   owners. The pass becomes that block's.
     /// - A block that counts an `Arc` is left for a clone of the `Arc`, where the layout has an
-    ///   `Arc` as a block by itself.
+    ///   `Arc` as a block by itself. The pass stays the old block's.
     ///
     /// # Errors
     ///

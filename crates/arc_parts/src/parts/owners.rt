@@ -29,9 +29,9 @@ impl<S: Slice, B: Buffer<S::Item> + Drop, M: Drop, A: Allocator + Copy, H: Mark>
     A,
     H,
 > {
-    /// One attempt to make another owner of the same items at the same place. It answers `None`,
-    /// and adds no entry, where another thread's step came between: only parts on a block meet
-    /// that. It takes no memory.
+    /// One attempt to make another owner of the same items at the same place. It answers `None`
+    /// where another thread's step came between: only parts on a block meet that. It takes no
+    /// memory.
     ///
     /// # Errors
     ///
@@ -41,7 +41,9 @@ impl<S: Slice, B: Buffer<S::Item> + Drop, M: Drop, A: Allocator + Copy, H: Mark>
     ///
     /// # History
     ///
-    /// On a block that counts its owners: Up, or Full where it is refused.
+    /// On a block that counts its owners: Up, or Full where it is refused, or nothing where it
+    /// answers `None`. Where the block's word began lone, the contract allows a Joined too, and a
+    /// Promote for the Up. No window's block begins so.
     #[inline(always)]
     pub fn try_clone_once_as<L: Layout>(
         &self,
@@ -93,7 +95,7 @@ impl<S: Slice, B: Buffer<S::Item> + Drop, M: Drop, A: Allocator + Copy, H: Mark>
     ///
     /// # History
     ///
-    /// Where the part stands on a block that counts its owners: Up, or Full where it is refused.
+    /// Where the part stands on a block: that of `try_clone_once_as`. Else nothing.
     #[inline(always)]
     pub fn try_part_once_as<L: Layout>(
         &self,
@@ -164,9 +166,9 @@ impl<S: Slice, B: Buffer<S::Item> + Drop, M: Drop, A: Allocator + Copy, H: Mark>
         }
     }
 
-    /// Whether no other owner has a part of what the parts stand on. On a block the count is read,
-    /// by one load; of a caller's buffer the buffer is asked too. The answer is `false` on no
-    /// block, and on an `Arc`.
+    /// Whether no other owner has a part of what the parts stand on. On a block that is no `Arc`
+    /// the count is read, by one load. Where that says yes, a caller's buffer is asked too. The
+    /// answer is `false` on no block, and on an `Arc`.
     ///
     /// # History
     ///
@@ -186,7 +188,8 @@ impl<S: Slice, B: Buffer<S::Item> + Drop, M: Drop, A: Allocator + Copy, H: Mark>
         }
     }
 
-    /// From here on the first pass has seen at least what the other had. It adds no entry.
+    /// From here on the first pass has seen at least what the other had. It adds no entry. On no
+    /// block, and on an `Arc` that is a block by itself, it does nothing.
     pub fn learn(&self, pass: &mut Pass<H>, other: &Pass<H>)
         requires pass { IsPassAt self.now.place pass.old }
         requires other { IsPassAt self.now.place other.now }

@@ -20,7 +20,7 @@ use arc_owners::mark::Mark;
 use arc_owners::owners::Pass;
 use std::alloc::Allocator;
 
-/// The items of a vector from `start` to before `end`, moved to its front.
+/// The items of a vector from `start` to before `end`, moved to its front. The others are dropped.
 pub fn cut_to<T: Drop, A: Allocator>(items: Vec<T, A>, start: usize, end: usize) -> Vec<T, A>
     requires { (start ≤ end) × (end ≤ vec_len items) }
     ensures items { result.items ≡ sub items.items start end }
@@ -40,13 +40,13 @@ impl<S: Slice, B: Buffer<S::Item> + Drop, M: Drop, A: Allocator + Copy, H: Mark>
     A,
     H,
 > {
-    /// All items of a vector, on a block that is the vector: no item is copied. A vector without
-    /// places is as a list of no items by `try_from_slice_as`. The pass, which is of no block,
-    /// becomes the block's.
+    /// All items of a vector, on a block that is the vector: no item is copied. Of a vector without
+    /// places the parts are those that `try_from_array_as` makes of no items. The pass, which is of
+    /// no block, becomes the block's.
     ///
     /// # Errors
     ///
-    /// The vector comes back where memory for the count is refused; the pass is then as before.
+    /// The vector comes back where memory for a block is refused; the pass is then as before.
     ///
     /// # Allocates
     ///
@@ -251,6 +251,10 @@ impl<S: Slice, B: Buffer<S::Item> + Drop, M: Drop, A: Allocator + Copy, H: Mark>
     /// # Errors
     ///
     /// The parts come back where another owner lives.
+    ///
+    /// # History
+    ///
+    /// Taken: Alone with yes, then Down. Refused: Alone with no.
     fn try_take_memory_as(self, pass: &mut Pass<H>) -> Result<Vec<S::Item, A>, Self>
         requires pass { IsPassAt self.place pass.old }
         requires sort { IsOfSort vector self.place }

@@ -1,14 +1,16 @@
 //! `Buf` of read windows over bytes and byte text.
-ghost use Rattle.std.specs.Prelude.{◌≡◌, ◌≤◌, [], length, drop};
-ghost use Rattle.arc_block.specs.Place.{moved};
-ghost use Rattle.arc_read.specs.Ends.{end_place};
-ghost use Rattle.bytes.specs.Adapters.{kept_spare};
+ghost use Rattle.std.specs.Prelude.{◌≡◌, ℕ, ◌≤◌, Bool, List, Option, length, drop};
+ghost use Rattle.arc_owners.specs.count.Calls.{Leaves, Owner};
+ghost use Rattle.arc_owners.specs.declared.count.tokens.Pass.{Pass};
+ghost use Rattle.arc_block.specs.Place.{Place, at_owner, moved};
+ghost use Rattle.arc_parts.specs.Steps.{IsPassAt};
+ghost use Rattle.arc_read.specs.Kept.{kept_read, without_metadata};
 ghost use Rattle.bytes.specs.Unread.{IsChunkOf};
 
 use crate::slice::ArcSlice;
 use arc_block::layout::Layout;
 use arc_buffer::buffer::Buffer;
-use arc_buffer::kinds::{ByteText, Plain};
+use arc_buffer::kinds::{ByteText, Plain, Slice};
 use arc_owners::mark::Mark;
 use bytes::Buf;
 use std::alloc::Allocator;
@@ -17,7 +19,7 @@ impl<L: Layout, B: Buffer<u8> + Drop, M: Drop, A: Allocator + Copy, H: Mark> Buf
     for ArcSlice<Plain<u8>, L, B, M, A, H> {
     ghost unread = { λ w. w.items };
 
-    ghost kept = { λ w. kept_spare (end_place w.place w.items) };
+    ghost kept = { λ w. kept_read w.place w.items };
 
     fn remaining(&self) -> usize {
         self.len()
@@ -34,8 +36,8 @@ impl<L: Layout, B: Buffer<u8> + Drop, M: Drop, A: Allocator + Copy, H: Mark> Buf
     fn advance(&mut self, count: usize)
         requires { count ≤ length self.old.items }
         ensures value { self.new.items ≡ drop count self.old.items }
-        ensures kept { kept_spare (end_place self.new.place self.new.items)
-            ≡ kept_spare (end_place self.old.place self.old.items) }
+        ensures kept { kept_read self.new.place self.new.items
+            ≡ kept_read self.old.place self.old.items }
         ensures place { self.new.place ≡ moved count self.old.place }
     {
         ArcSlice::advance(self, count);
@@ -46,7 +48,7 @@ impl<L: Layout, B: Buffer<u8> + Drop, M: Drop, A: Allocator + Copy, H: Mark> Buf
     for ArcSlice<ByteText, L, B, M, A, H> {
     ghost unread = { λ w. w.items };
 
-    ghost kept = { λ w. kept_spare (end_place w.place w.items) };
+    ghost kept = { λ w. kept_read w.place w.items };
 
     fn remaining(&self) -> usize {
         self.len()
@@ -63,10 +65,32 @@ impl<L: Layout, B: Buffer<u8> + Drop, M: Drop, A: Allocator + Copy, H: Mark> Buf
     fn advance(&mut self, count: usize)
         requires { count ≤ length self.old.items }
         ensures value { self.new.items ≡ drop count self.old.items }
-        ensures kept { kept_spare (end_place self.new.place self.new.items)
-            ≡ kept_spare (end_place self.old.place self.old.items) }
+        ensures kept { kept_read self.new.place self.new.items
+            ≡ kept_read self.old.place self.old.items }
         ensures place { self.new.place ≡ moved count self.old.place }
     {
         ArcSlice::advance(self, count);
+    }
+}
+
+impl<S: Slice, L: Layout, B: Buffer<S::Item> + Drop, M: Drop, A: Allocator + Copy, H: Mark>
+    ArcSlice<S, L, B, M, A, H> {
+    /// What `kept` of `Buf` tells: after reads the window stands on the same block, as the same
+    /// owner, as many places further in as bytes were read. Does nothing: its contract is the law.
+    pub fn known_after_reads(&self)
+        ensures place { (n : ℕ) (place : Place (Option Owner) M) (items : List S.Item)
+            → kept_read self.now.place self.now.items ≡ kept_read place items
+            → n ≤ length items → self.now.items ≡ drop n items
+            → without_metadata self.now.place ≡ moved n (without_metadata place) }
+        ensures pass { (place : Place (Option Owner) M) (items : List S.Item) (pass : Pass H)
+            → kept_read self.now.place self.now.items ≡ kept_read place items
+            → IsPassAt place pass → IsPassAt self.now.place pass }
+        ensures left { (place : Place (Option Owner) M) (items : List S.Item)
+            (before after : Pass H)
+            → kept_read self.now.place self.now.items ≡ kept_read place items
+            → at_owner self.now.place (after ≡ before) (λ o. (last : Bool)
+            × Leaves o before after last)
+            → at_owner place (after ≡ before) (λ o. (last : Bool) × Leaves o before after last) }
+    {
     }
 }

@@ -39,6 +39,7 @@ impl<L: Layout, B: Buffer<u8> + Drop, M: Drop, A: Allocator + Copy, H: Mark> io:
     /// Fills the buffer with the window's first bytes, which it takes off. It adds no entry.
     ///
     /// # Errors
+    ///
     /// One of kind `UnexpectedEof` where the window has fewer bytes than the buffer. Then all of
     /// them are in the front of the buffer, and the window is empty.
     fn read_exact(&mut self, buffer: &mut [u8]) -> io::Result<()>

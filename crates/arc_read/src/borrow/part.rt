@@ -94,8 +94,8 @@ impl<
         }
     }
 
-    /// A window over the part: one owner more of the block. Without items, under a layout that has
-    /// static data, it stands on nothing, and no entry is added.
+    /// A window over the part. On a block it is one owner more. Without items, under a layout that
+    /// has static data, it stands on nothing, and no entry is added.
     ///
     /// It copies no item and takes no memory. It takes `rt` since an attempt that another thread
     /// disturbs is tried again.

@@ -212,8 +212,8 @@ impl<
     ///
     /// # History
     ///
-    /// On a block that counts its owners, taken: Alone with yes, then Down. On one, refused: Alone
-    /// with no, where only the count could decide. Else nothing.
+    /// On an `Arc` that is a block by itself: nothing. On other blocks, taken: Alone with yes, then
+    /// Down. Refused: Alone with no, where only the count could decide; else nothing.
     pub fn try_into_raw_buffer_as(self, pass: &mut Pass<H>) -> Result<Arc<B, A>, Self>
         requires pass { IsPassAt self.place pass.old }
         ensures taken { IfOk result (λ shared. IsRawWhole self.items self.place
@@ -235,7 +235,7 @@ impl<
     /// # Errors
     ///
     /// The window comes back exactly where it stands on no caller's buffer, or where the items are
-    /// only a part of it. Nothing is done then.
+    /// only a part of it. No entry is added then.
     ///
     /// # History
     ///
@@ -262,7 +262,7 @@ impl<
     /// # Errors
     ///
     /// The window comes back exactly where it stands on no `Arc`, or where the items are only a
-    /// part of the buffer. Nothing is done then.
+    /// part of the buffer. No entry is added then.
     ///
     /// # History
     ///
@@ -403,8 +403,8 @@ impl<
     ///
     /// # History
     ///
-    /// On a block that counts its owners, taken: Alone with yes, then Down. On one, refused: Alone
-    /// with no, where only the count could decide. Else nothing.
+    /// On an `Arc` that is a block by itself: nothing. On other blocks, taken: Alone with yes, then
+    /// Down. Refused: Alone with no, where only the count could decide; else nothing.
     pub fn try_into_raw_buffer(self) -> Result<Arc<B, A>, Self>
     where
         H: Stepping,
@@ -428,7 +428,7 @@ impl<
     /// # Errors
     ///
     /// The window comes back exactly where it stands on no caller's buffer, or where the items are
-    /// only a part of it. Nothing is done then.
+    /// only a part of it. No entry is added then.
     ///
     /// # History
     ///
@@ -457,7 +457,7 @@ impl<
     /// # Errors
     ///
     /// The window comes back exactly where it stands on no `Arc`, or where the items are only a
-    /// part of the buffer. Nothing is done then.
+    /// part of the buffer. No entry is added then.
     ///
     /// # History
     ///

@@ -26,8 +26,9 @@ impl<
     A: Allocator + Copy,
     H: Mark,
 > ArcSlice<S, L, B, M, A, H> {
-    /// One attempt of `try_clone_as`. It answers `None`, and adds no entry, where another thread's
-    /// step came between: only a window on a block meets that.
+    /// One attempt of `try_clone_as`. It answers `None` where another thread's step came between.
+    /// By the clause it adds no entry then, or one Joined. Only a window on a block that counts its
+    /// owners meets that.
     #[tactic(auto, using(arc_parts::proofs::Held::shared_held))]
     #[inline(always)]
     pub(super) fn try_clone_once_as(
@@ -49,7 +50,7 @@ impl<
         }
     }
 
-    /// Another window over the same items at the same place: one owner more of the block.
+    /// Another window over the same items at the same place. On a block it is one owner more.
     ///
     /// It copies no item and takes no memory. It takes `rt` since an attempt that another thread
     /// disturbs is tried again.
@@ -58,10 +59,14 @@ impl<
     ///
     /// - `CountFull` on a block that counts its owners, exactly where `MAX_OWNERS` of them live.
     /// - `AllocError` on an `Arc` that is a block by itself, where the `Arc` refuses to be cloned.
+    ///   The clauses allow it also on a vector under `BoxedSliceLayout` or `VecLayout`. There it
+    ///   never comes.
     ///
     /// # History
     ///
-    /// On a block that counts its owners: Up, or Full where it is refused.
+    /// On a block that counts its owners: Up, or Full where it is refused. Of a block that begins
+    /// without a count the clauses allow also Promote for Up, and Joined before it or before Full.
+    /// No window's block begins so.
     #[inline(always)]
     #[tactic(auto, using(arc_parts::proofs::Attempts::joins_pass))]
     pub fn try_clone_as(&self, rt: &impl Wait, pass: &mut Pass<H>) -> Result<Self, OwnerError>
@@ -91,6 +96,8 @@ impl<
     ///
     /// - `CountFull` on a block that counts its owners, exactly where `MAX_OWNERS` of them live.
     /// - `AllocError` on an `Arc` that is a block by itself, where the `Arc` refuses to be cloned.
+    ///   The clauses allow it also on a vector under `BoxedSliceLayout` or `VecLayout`. There it
+    ///   never comes.
     ///
     /// # History
     ///
@@ -116,8 +123,9 @@ impl<
         made
     }
 
-    /// One attempt of `try_subslice_as`. It answers `None`, and adds no entry, where another
-    /// thread's step came between.
+    /// One attempt of `try_subslice_as`. It answers `None` where another thread's step came
+    /// between. By the clause it adds no entry then, or one Joined. Only a part on a block that
+    /// counts its owners meets that.
     #[inline(always)]
     pub(super) fn try_subslice_once_as(
         &self,
@@ -145,8 +153,9 @@ impl<
         }
     }
 
-    /// A window over the items from `start` to before `end`: one owner more of the block. Without
-    /// items, under a layout that has static data, it stands on nothing, and no entry is added.
+    /// A window over the items from `start` to before `end`. On a block it is one owner more.
+    /// Without items, under a layout that has static data, it stands on nothing, and no entry is
+    /// added.
     ///
     /// It copies no item and takes no memory. It takes `rt` since an attempt that another thread
     /// disturbs is tried again.

@@ -46,9 +46,9 @@ impl<
         }
     }
 
-    /// A window over a copy of the items, on a new native block with exactly a place for each. No
-    /// items, under a layout that has static data, stand on nothing. The pass, which is of no
-    /// block, becomes the block's; the window is owner 0.
+    /// A window over a copy of the items, on a new native block with exactly a place for each.
+    /// Without items, under a layout that has static data, it stands on nothing. Of a new block the
+    /// window is owner 0, and the pass, which was of no block, becomes the block's.
     ///
     /// # Errors
     ///
@@ -73,8 +73,8 @@ impl<
         Self::try_from_legal_slice_as(alloc, items, pass)
     }
 
-    /// A window over an array's items, which are moved into a block where `try_from_slice_as`
-    /// copies them.
+    /// A window over an array's items. It is as one by `try_from_slice_as`, but the items are moved
+    /// into the block, not copied.
     ///
     /// # Errors
     ///

@@ -31,13 +31,15 @@ impl<
     /// - A window on an `Arc` that is a block by itself goes to a new block, which keeps the `Arc`
     ///   and counts its owners, where the layout counts them. The pass becomes that block's.
     /// - A window on a block that counts an `Arc` leaves it for a clone of the `Arc`, where the
-    ///   layout has an `Arc` as a block by itself.
+    ///   layout has an `Arc` as a block by itself. The pass stays that of the block that was left.
     ///
     /// # Errors
     ///
-    /// The window comes back where the layout holds neither its block nor its static data, where
-    /// memory for a new block is refused, and where the `Arc` refuses to be cloned. The pass is
-    /// then as before.
+    /// The window comes back in these cases, and the pass is then as before:
+    ///
+    /// - on a vector, a caller's buffer or an `Arc`, where `K` has native blocks alone;
+    /// - on a static slice, where `K` has no static data;
+    /// - where memory for a new block is refused, or the `Arc` refuses to be cloned.
     ///
     /// # Allocates
     ///
@@ -69,8 +71,11 @@ impl<
     ///
     /// # Errors
     ///
-    /// The window comes back where the layout holds neither its block nor its static data, where
-    /// memory for a new block is refused, and where the `Arc` refuses to be cloned.
+    /// The window comes back in these cases:
+    ///
+    /// - on a vector, a caller's buffer or an `Arc`, where `K` has native blocks alone;
+    /// - on a static slice, where `K` has no static data;
+    /// - where memory for a new block is refused, or the `Arc` refuses to be cloned.
     ///
     /// # Allocates
     ///

@@ -28,9 +28,9 @@ impl<
     A: Allocator + Copy,
     H: Mark,
 > ArcSlice<S, L, B, M, A, H> {
-    /// Whether no other owner has a part of what the window stands on. On a block the count is
-    /// read, by one load; of a caller's buffer the buffer is asked too. The answer is `false` on no
-    /// block, and on an `Arc`.
+    /// Whether no other owner has a part of what the window stands on. On a block that is no `Arc`
+    /// the count is read, by one load. Where the count finds no other owner of a caller's buffer,
+    /// the answer is the buffer's own. On an `Arc` and on no block the answer is `false`.
     ///
     /// # History
     ///
@@ -206,7 +206,8 @@ impl<
         ArcSlice::from_parts(self.into_parts().into_kind())
     }
 
-    /// From here on the first pass has seen at least what the other had. It adds no entry.
+    /// Lets `pass` see all that `other` has seen. Both are passes of the window's block. It adds no
+    /// entry. On no block nothing changes.
     pub fn learn(&self, pass: &mut Pass<H>, other: &Pass<H>)
         requires pass { IsPassAt self.now.place pass.old }
         requires other { IsPassAt self.now.place other.now }
@@ -227,7 +228,7 @@ impl<
     }
 
     /// A new pass of the window's block. It has seen at least how the window became an owner, and
-    /// nothing was made with it. On no block it is a pass of none. It adds no entry.
+    /// has added no entry. On no block it is a pass of none.
     pub fn pass(&self) -> Pass<H>
     where
         H: Stepping,

@@ -44,9 +44,10 @@ impl<
         let _ = (start, end);
     }
 
-    /// Splits the window at `at`. It keeps the front, and hands out the back. The part that is new
-    /// is one owner more of the block: the back, or for `at` of 0 the front, which then has no
-    /// items. Without items, under a layout that has static data, the new part stands on nothing.
+    /// Splits the window: it keeps the first `at` items, and the call returns a window over the
+    /// others. One part is new: the back, or for `at` of 0 the front, which then has no items. On a
+    /// block the new part is one owner more. Without items, under a layout that has static data,
+    /// the new part stands on nothing.
     ///
     /// It copies no item and takes no memory.
     ///
@@ -82,10 +83,10 @@ impl<
         Ok(back)
     }
 
-    /// Splits the window at `at`. It hands out the front, and keeps the back. The part that is new
-    /// is one owner more of the block: the front, or for `at` at the end the back, which then has
-    /// no items. Without items, under a layout that has static data, the new part stands on
-    /// nothing.
+    /// Splits the window: the call returns a window over the first `at` items, and this one keeps
+    /// the others. One part is new: the front, or for `at` of the length the back, which then has
+    /// no items. On a block the new part is one owner more. Without items, under a layout that has
+    /// static data, the new part stands on nothing.
     ///
     /// It copies no item and takes no memory.
     ///
@@ -121,8 +122,8 @@ impl<
         Ok(front)
     }
 
-    /// Splits the window at `at`. It keeps the front, and hands out the back. This is
-    /// `try_split_off_as` with a new pass.
+    /// Splits the window: it keeps the first `at` items, and the call returns a window over the
+    /// others. This is `try_split_off_as` with a new pass.
     ///
     /// It copies no item and takes no memory.
     ///
@@ -150,8 +151,8 @@ impl<
         made
     }
 
-    /// Splits the window at `at`. It hands out the front, and keeps the back. This is
-    /// `try_split_to_as` with a new pass.
+    /// Splits the window: the call returns a window over the first `at` items, and this one keeps
+    /// the others. This is `try_split_to_as` with a new pass.
     ///
     /// It copies no item and takes no memory.
     ///

@@ -31,8 +31,8 @@ impl<L: Layout, B: Buffer<u8> + Drop, M: Drop, A: Allocator + Copy, H: Mark> Arc
     H,
 > {
     /// A window over a copy of the text, on a new native block with exactly a place for each byte.
-    /// No text, under a layout that has static data, stands on nothing. The pass, which is of no
-    /// block, becomes the block's; the window is owner 0.
+    /// Without text, under a layout that has static data, it stands on nothing. Of a new block the
+    /// window is owner 0, and the pass, which was of no block, becomes the block's.
     ///
     /// # Errors
     ///
@@ -69,7 +69,7 @@ impl<L: Layout, B: Buffer<u8> + Drop, M: Drop, A: Allocator + Copy, H: Mark> Arc
     ///
     /// # Errors
     ///
-    /// The error and the window over bytes, exactly where they aren't valid UTF-8.
+    /// The error and the window over bytes come back exactly where these aren't valid UTF-8.
     pub fn try_from_arc_slice(
         bytes: ArcSlice<Plain<u8>, L, B, M, A, H>,
     ) -> Result<Self, (Utf8Error, ArcSlice<Plain<u8>, L, B, M, A, H>)>
@@ -133,7 +133,7 @@ impl<L: Layout, B: Buffer<u8> + Drop, M: Drop, A: Allocator + Copy, H: Mark> Arc
         self.into_kind()
     }
 
-    /// The same window, over byte text. It adds no entry. Never refused.
+    /// The same window, over byte text. It adds no entry, and is never refused.
     pub fn try_from_arc_slice(
         bytes: ArcSlice<Plain<u8>, L, B, M, A, H>,
     ) -> Result<Self, (Infallible, ArcSlice<Plain<u8>, L, B, M, A, H>)>

@@ -52,9 +52,9 @@ impl<
     }
 
     /// A window over all items of a vector, on a block that is the vector, with its places: no item
-    /// is copied. A vector without places makes the window that no items make by
-    /// `try_from_slice_as`. The pass, which is of no block, becomes the block's; the window is
-    /// owner 0.
+    /// is copied. A vector without places makes the window that `try_from_slice_as` makes of no
+    /// items. Of a new block the window is owner 0, and the pass, which was of no block, becomes
+    /// the block's.
     ///
     /// # Errors
     ///
@@ -84,9 +84,9 @@ impl<
 
     /// A window over all items of a box, on a block that is the box as a vector with exactly a
     /// place for each. No item is copied, unless the box's memory has spare places: then all are
-    /// first moved to memory without any. A box without items makes the window that no items make
-    /// by `try_from_slice_as`. The pass, which is of no block, becomes the block's; the window is
-    /// owner 0.
+    /// first moved to memory without any. A box without items makes the window that
+    /// `try_from_slice_as` makes of none. Of a new block the window is owner 0, and the pass, which
+    /// was of no block, becomes the block's.
     ///
     /// # Errors
     ///
@@ -95,7 +95,7 @@ impl<
     ///
     /// # Allocates
     ///
-    /// Once, where a block is needed, and once more for that move.
+    /// Once, where a block is needed, and once more for spare places.
     pub fn try_from_boxed_as(
         alloc: A,
         items: S::Boxed,
@@ -187,7 +187,7 @@ impl<
     /// # Errors
     ///
     /// The window comes back exactly where it stands on no vector, or where items that are dropped
-    /// one by one are only a part of the vector. Nothing is done then.
+    /// one by one are only a part of the vector. No entry is added then.
     ///
     /// # History
     ///
@@ -218,7 +218,7 @@ impl<
     /// # Errors
     ///
     /// The window comes back exactly where it stands on no vector, or where the items don't fill
-    /// all places of the vector. Nothing is done then.
+    /// all places of the vector. No entry is added then.
     ///
     /// # History
     ///
@@ -273,11 +273,11 @@ impl<
     ///
     /// # Errors
     ///
-    /// A box of the same items comes back where memory for the count or for that move is refused.
+    /// A box of the same items comes back where memory for the count or a move is refused.
     ///
     /// # Allocates
     ///
-    /// Once, where a block is needed, and once more for that move.
+    /// Once, where a block is needed, and once more for spare places.
     pub fn try_from_boxed(alloc: A, items: S::Boxed) -> Result<Self, S::Boxed>
     where
         L: AnyBufferLayout,
@@ -362,7 +362,7 @@ impl<
     /// # Errors
     ///
     /// The window comes back exactly where it stands on no vector, or where items that are dropped
-    /// one by one are only a part of the vector. Nothing is done then.
+    /// one by one are only a part of the vector. No entry is added then.
     ///
     /// # History
     ///
@@ -393,7 +393,7 @@ impl<
     /// # Errors
     ///
     /// The window comes back exactly where it stands on no vector, or where the items don't fill
-    /// all places of the vector. Nothing is done then.
+    /// all places of the vector. No entry is added then.
     ///
     /// # History
     ///

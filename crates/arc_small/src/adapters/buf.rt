@@ -25,7 +25,7 @@ impl<L: Layout> Buf for SmallSlice<Plain<u8>, L> {
         self.as_slice()
     }
 
-    /// Takes the first `count` bytes off, by the window's own `advance`.
+    /// Takes the first `count` bytes off, by the list's own `advance`.
     fn advance(&mut self, count: usize)
         requires { count ≤ length self.old.items }
         ensures value { self.new.items ≡ drop count self.old.items }
@@ -74,7 +74,7 @@ impl<L: Layout> Buf for SmallSlice<ByteText, L> {
         self.as_slice()
     }
 
-    /// Takes the first `count` bytes off, by the window's own `advance`.
+    /// Takes the first `count` bytes off, by the list's own `advance`.
     fn advance(&mut self, count: usize)
         requires { count ≤ length self.old.items }
         ensures value { self.new.items ≡ drop count self.old.items }

@@ -18,8 +18,8 @@ use std::io::ErrorKind;
 impl<L: Layout> io::Read for SmallSlice<Plain<u8>, L> {
     ghost remaining = { λ w. Some w.items };
 
-    /// Moves the window's first bytes to the front of the buffer, as many as both have, and answers
-    /// how many. The answer is always `Ok`. It adds no entry.
+    /// Moves the list's first bytes to the front of the buffer, as many as both have, and answers
+    /// how many. The answer is always `Ok`.
     fn read(&mut self, buffer: &mut [u8]) -> io::Result<usize>
         ensures bound { ReadsAtMost result buffer.new }
         ensures bytes { ReadConsumes (Some self.old.items) (Some self.new.items) result buffer.new }
@@ -35,12 +35,12 @@ impl<L: Layout> io::Read for SmallSlice<Plain<u8>, L> {
         Ok(count)
     }
 
-    /// Fills the buffer with the window's first bytes, which it takes off. It adds no entry.
+    /// Fills the buffer with the list's first bytes, which it takes off.
     ///
     /// # Errors
     ///
-    /// One of kind `UnexpectedEof` where the window has fewer bytes than the buffer. Then all of
-    /// them are in the front of the buffer, and the window is empty.
+    /// One of kind `UnexpectedEof` where the list has fewer bytes than the buffer. Then all of them
+    /// are in the front of the buffer, and the list is empty.
     fn read_exact(&mut self, buffer: &mut [u8]) -> io::Result<()>
         ensures bytes { OnOk result
             (Consumes (Some self.old.items) (Some self.new.items) buffer.new) }

@@ -28,7 +28,8 @@ impl<
     H: Mark,
 > SmallArcSlice<S, L, B, M, A, H> {
     /// Another window with the same bytes. A short list is copied, without an atomic step. A window
-    /// that is read is cloned at the same place: one owner more of the block. It takes no memory.
+    /// that is read is cloned at the same place. On a block the clone is one owner more. It takes
+    /// no memory.
     ///
     /// # Errors
     ///
@@ -90,9 +91,9 @@ impl<
     }
 
     /// A window over the bytes from `start` to before `end`. Of a short list they are copied,
-    /// without an atomic step. Of a window that is read the new window is one owner more of the
-    /// block; without bytes, under a layout that has static data, it stands on nothing, and no
-    /// entry is added. It takes no memory.
+    /// without an atomic step. Of a window on a block the new window is one owner more. Without
+    /// bytes, under a layout that has static data, it stands on nothing, and no entry is added. It
+    /// takes no memory.
     ///
     /// # Errors
     ///

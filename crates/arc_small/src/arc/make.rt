@@ -29,8 +29,8 @@ impl<
     H: Mark,
 > SmallArcSlice<S, L, B, M, A, H> {
     /// A window over a copy of the bytes: in the window itself where they are at most
-    /// `inline_limit()`, else on a new native block with exactly a place for each. The pass, which
-    /// is of no block, becomes the block's; the window is owner 0.
+    /// `inline_limit()`, else on a new native block with exactly a place for each. Of a new block
+    /// the window is owner 0, and the pass, which was of no block, becomes the block's.
     ///
     /// # Errors
     ///

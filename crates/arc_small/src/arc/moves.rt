@@ -25,12 +25,12 @@ impl<
     H: Mark,
 > SmallArcSlice<S, L, B, M, A, H> {
     /// The same bytes, as a small window under the layout `K`. A short list stays in the window
-    /// itself. A window that is read goes as `ArcSlice::try_with_layout_as` says.
+    /// itself. A window that is read goes where `ArcSlice::try_with_layout_as` says.
     ///
     /// # Errors
     ///
-    /// The window comes back where `ArcSlice::try_with_layout_as` hands it back; the pass is then
-    /// as before.
+    /// A window that is read comes back where `ArcSlice::try_with_layout_as` is refused; the pass
+    /// is then as before. A short list is never refused.
     ///
     /// # Allocates
     ///
@@ -66,7 +66,8 @@ impl<
     ///
     /// # Errors
     ///
-    /// The window comes back where `ArcSlice::try_with_layout_as` hands it back.
+    /// A window that is read comes back where `ArcSlice::try_with_layout` is refused. A short list
+    /// is never refused.
     ///
     /// # Allocates
     ///

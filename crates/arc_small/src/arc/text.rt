@@ -30,8 +30,8 @@ impl<L: Layout, B: Buffer<u8> + Drop, M: Drop, A: Allocator + Copy, H: Mark> Sma
     H,
 > {
     /// A window over a copy of the text: in the window itself where it is at most `inline_limit()`
-    /// bytes, else on a new native block with exactly a place for each byte. The pass, which is of
-    /// no block, becomes the block's; the window is owner 0.
+    /// bytes, else on a new native block with exactly a place for each byte. Of a new block the
+    /// window is owner 0, and the pass, which was of no block, becomes the block's.
     ///
     /// # Errors
     ///

@@ -26,8 +26,8 @@ impl<
     A: Allocator + Copy,
     H: Mark,
 > SmallArcSlice<S, L, B, M, A, H> {
-    /// A window that is read, over all bytes of a vector, also where they are few or none:
-    /// `ArcSlice::try_from_vec_as`.
+    /// A window that is read, over all bytes of a vector, also where they are few or none. It is
+    /// made by `ArcSlice::try_from_vec_as`.
     ///
     /// # Errors
     ///
@@ -55,8 +55,8 @@ impl<
         }
     }
 
-    /// A window that is read, over all bytes of a box, also where they are few or none:
-    /// `ArcSlice::try_from_boxed_as`.
+    /// A window that is read, over all bytes of a box, also where they are few or none. It is made
+    /// by `ArcSlice::try_from_boxed_as`.
     ///
     /// # Errors
     ///

@@ -2,6 +2,7 @@
 //! consist of such parts.
 ghost use Rattle.std.specs.Prelude.{◌≡◌, ◌↔◌, true, false, IsTrue};
 ghost use Rattle.arc_sort_writers.specs.NativeWriters.{IsAlonePlace};
+ghost use Rattle.arc_block.specs.Block.{IsLimited};
 ghost use Rattle.arc_block.specs.Place.{IsOnBlock, at_owner};
 ghost use Rattle.arc_parts.specs.Shared.{AsksAlone};
 ghost use Rattle.arc_parts.specs.Steps.{IsPassAt};
@@ -11,6 +12,7 @@ ghost use Rattle.arc_parts.specs.Writers.{capacity_of, idle_writer};
 
 use super::SoleBuffer;
 use crate::shared::SharedNative;
+use arc_block::block::max_owners;
 use arc_buffer::buffer::BufferMut;
 use arc_buffer::kinds::Slice;
 use arc_owners::mark::Mark;
@@ -40,6 +42,17 @@ impl<S: Slice, B: BufferMut<S::Item> + Drop, M: Drop, A: Allocator + Copy, H: Ma
         true
     }
 
+    /// `MAX_OWNERS`: how many owners the block may have at once. The contract says too that the
+    /// block is under the mark `H`.
+    pub fn max_owners(&self) -> u64
+        ensures answer { result ≡ 9223372036854775807 }
+        ensures block { at_owner self.now.place (Unit {0}) (λ o.
+            IsLimited 9223372036854775807 H.whole o) }
+    {
+        let _ = &self.count;
+        max_owners()
+    }
+
     /// Whether no other owner lives, by one load.
     ///
     /// # History
@@ -52,8 +65,8 @@ impl<S: Slice, B: BufferMut<S::Item> + Drop, M: Drop, A: Allocator + Copy, H: Ma
         self.count.is_unique_as(pass)
     }
 
-    /// They are of another block than one of several writers. Does nothing: its contract is the
-    /// law.
+    /// Their block isn't the block of this writer, who is one of several. Does nothing: its
+    /// contract is the law.
     pub fn apart_from(&self, writer: &SharedNative<S::Item, A, H>)
         ensures { at_owner self.now.place (Unit {0}) (λ o. ¬ (writer.now.owner.block ≡ o.block)) }
     {

@@ -73,7 +73,7 @@ impl<S: Slice, B: BufferMut<S::Item> + Drop, M: Drop, A: Allocator + Copy, H: Ma
         (count, start, end, alloc)
     }
 
-    /// The same items and places, as those of a reader.
+    /// The same items at the same place, as a reader's. It adds no entry and takes no memory.
     pub fn freeze(self) -> Parts<S, B, M, A, H>
         ensures { result ≡ as_reader self }
     {
@@ -194,7 +194,7 @@ impl<S: Slice, B: BufferMut<S::Item> + Drop, M: Drop, A: Allocator + Copy, H: Ma
         }
     }
 
-    /// The same parts, of items of another kind.
+    /// The same parts, of items of another kind. It adds no entry.
     pub fn into_kind<K: Slice<Item = S::Item>>(self) -> SoleBuffer<K, B, M, A, H>
         requires { K.DROPS ≡ S.DROPS }
         ensures { result ≡ self }
@@ -234,7 +234,8 @@ impl<S: Slice, B: BufferMut<S::Item> + Drop, M: Drop, A: Allocator + Copy, H: Ma
         pass
     }
 
-    /// Shows a pass the block's whole history up to here, in which no other owner lives.
+    /// Shows a pass the block's whole history up to here, in which no other owner lives. It adds no
+    /// entry.
     pub fn only(&self, pass: &mut Pass<H>)
         requires pass { IsPassAt self.now.place pass.old }
         ensures { at_owner self.now.place (pass.new ≡ pass.old) (λ o.
@@ -243,7 +244,7 @@ impl<S: Slice, B: BufferMut<S::Item> + Drop, M: Drop, A: Allocator + Copy, H: Ma
         self.count.only(pass);
     }
 
-    /// From here on the first pass has seen at least what the other had.
+    /// From here on the first pass has seen at least what the other had. It adds no entry.
     pub fn learn(&self, pass: &mut Pass<H>, other: &Pass<H>)
         requires pass { IsPassAt self.now.place pass.old }
         requires other { IsPassAt self.now.place other.now }
@@ -261,7 +262,8 @@ impl<S: Slice, B: BufferMut<S::Item> + Drop, M: Drop, A: Allocator + Copy, H: St
     A,
     H,
 > {
-    /// A new pass of the block.
+    /// A new pass of the block. It has seen at least how this owner became one, and nothing was
+    /// made with it. It adds no entry.
     pub fn pass(&self) -> Pass<H>
         ensures { at_owner self.now.place (IsPassOfNone result) (λ o. IsNewPass o result) }
     {

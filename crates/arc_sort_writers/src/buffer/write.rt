@@ -64,10 +64,12 @@ impl<S: Slice, B: BufferMut<S::Item> + Drop, M: Drop, A: Allocator + Copy, H: Ma
     ///
     /// # Errors
     ///
-    /// - `Unsupported` where items that are dropped one by one end before the buffer's last one.
-    /// - What the buffer refuses with.
+    /// Where there are too few places:
     ///
-    /// The items are then as before.
+    /// - `Unsupported` where items that are dropped one by one end before the buffer's last one.
+    /// - What the buffer refuses with, never `NotUnique`.
+    ///
+    /// The writer is unchanged.
     ///
     /// # Allocates
     ///
@@ -185,7 +187,8 @@ impl<S: Slice, B: BufferMut<S::Item> + Drop, M: Drop, A: Allocator + Copy, H: Ma
         self.start += count;
     }
 
-    /// Keeps the first `len` items, or all where there are no more.
+    /// Keeps the first `len` items, or all where there are no more. Items that are dropped one by
+    /// one stay in the block when they are cut off, and the capacity is `len` then.
     pub fn truncate(&mut self, len: usize)
         ensures { self.new ≡ after_truncate S.DROPS len self.old }
     {
@@ -210,7 +213,7 @@ where
     ///
     /// # Errors
     ///
-    /// Those of `try_reserve_as` for as many items. Nothing is changed then.
+    /// Those of `try_reserve_as` for as many items. The writer is unchanged.
     ///
     /// # Allocates
     ///

@@ -2,6 +2,7 @@
 //! of them.
 ghost use Rattle.std.specs.Prelude.{◌≡◌, ◌↔◌, true, false, IsTrue};
 ghost use Rattle.arc_sort_writers.specs.NativeWriters.{IsAlonePlace};
+ghost use Rattle.arc_block.specs.Block.{IsLimited};
 ghost use Rattle.arc_block.specs.Place.{IsOnBlock, at_owner, nowhere};
 ghost use Rattle.arc_parts.specs.Shared.{AsksAlone};
 ghost use Rattle.arc_parts.specs.Steps.{IsPassAt};
@@ -10,6 +11,7 @@ ghost use Rattle.arc_parts.specs.Writers.{capacity_of, idle_writer};
 
 use super::SoleNative;
 use crate::shared::SharedNative;
+use arc_block::block::max_owners;
 use arc_buffer::kinds::Slice;
 use arc_owners::mark::Mark;
 use arc_owners::owners::Pass;
@@ -38,6 +40,19 @@ impl<S: Slice, M: Drop, A: Allocator + Copy, H: Mark> SoleNative<S, M, A, H> {
         }
     }
 
+    /// `MAX_OWNERS`: how many owners the block may have at once. The contract says too that the
+    /// block is under the mark `H`.
+    pub fn max_owners(&self) -> u64
+        ensures answer { result ≡ 9223372036854775807 }
+        ensures block { at_owner self.now.place (Unit {0}) (λ o.
+            IsLimited 9223372036854775807 H.whole o) }
+    {
+        match &self.count {
+            Some(_) => max_owners(),
+            None => max_owners(),
+        }
+    }
+
     /// Whether no other owner lives, by one load. On no block the answer is no.
     ///
     /// # History
@@ -53,8 +68,8 @@ impl<S: Slice, M: Drop, A: Allocator + Copy, H: Mark> SoleNative<S, M, A, H> {
         }
     }
 
-    /// On a block they are of another one than the block of one of several writers. Does nothing:
-    /// its contract is the law.
+    /// Where they stand on a block, it isn't the block of this writer, who is one of several. Does
+    /// nothing: its contract is the law.
     pub fn apart_from(&self, writer: &SharedNative<S::Item, A, H>)
         ensures { at_owner self.now.place (Unit {0}) (λ o. ¬ (writer.now.owner.block ≡ o.block)) }
     {

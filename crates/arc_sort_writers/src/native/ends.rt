@@ -68,7 +68,7 @@ impl<S: Slice, M: Drop, A: Allocator + Copy, H: Mark> SoleNative<S, M, A, H> {
         (count, memory, alloc)
     }
 
-    /// The same items and places, as those of a reader. It adds no entry and takes no memory.
+    /// The same items at the same place, as a reader's. It adds no entry and takes no memory.
     pub fn freeze<B: Buffer<S::Item> + Drop>(self) -> Parts<S, B, M, A, H>
         ensures { result ≡ as_reader self }
     {
@@ -92,9 +92,9 @@ impl<S: Slice, M: Drop, A: Allocator + Copy, H: Mark> SoleNative<S, M, A, H> {
         }
     }
 
-    /// The same items, as parts of a window under the layout `L` that is read. On nothing they
-    /// become those that no items make under that layout: on nothing, or on a new native block of
-    /// no places, of which the pass becomes one.
+    /// The same items, as parts of a window under the layout `L` that is read. It adds no entry.
+    /// Where the parts stand on nothing, the new ones stand on nothing too, or, if that layout has
+    /// no static data, on a new native block of no places, and the pass becomes that block's.
     ///
     /// # Errors
     ///

@@ -50,7 +50,7 @@ impl<S: Slice, M: Drop, A: Allocator + Copy, H: Mark> SoleNative<S, M, A, H> {
     ///
     /// # Errors
     ///
-    /// The parts, exactly where they stand on nothing.
+    /// The parts come back exactly where they stand on nothing.
     pub fn into_several(self) -> Result<SharedNative<S::Item, A, H>, Self>
         requires { S.DROPS ≡ false }
         ensures shared { IfOk result (λ writer. native_row writer ≡ as_shared self) }

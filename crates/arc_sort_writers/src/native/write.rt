@@ -108,7 +108,8 @@ impl<S: Slice, M: Drop, A: Allocator + Copy, H: Mark> SoleNative<S, M, A, H> {
         self.memory.forget_front(count);
     }
 
-    /// Keeps the first `len` items, or all where there are no more.
+    /// Keeps the first `len` items, or all where there are no more. Items that are dropped one by
+    /// one stay in the block when they are cut off, and the capacity is `len` then.
     #[inline(always)]
     pub fn truncate(&mut self, len: usize)
         ensures { self.new ≡ after_truncate S.DROPS len self.old }
@@ -131,7 +132,7 @@ where
     ///
     /// # Errors
     ///
-    /// Those of `try_reserve_as` for as many items. Nothing is changed then.
+    /// Those of `try_reserve_as` for as many items. The writer is unchanged.
     ///
     /// # Allocates
     ///

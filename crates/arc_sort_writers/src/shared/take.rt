@@ -28,8 +28,8 @@ impl<T: Drop, A: Allocator + Copy, H: Mark> SharedNative<T, A, H> {
     ///
     /// # Errors
     ///
-    /// The writer comes back where it has another number of items or of places, and where another
-    /// owner lives.
+    /// The writer comes back where it hasn't `N` items, where the block hasn't `N` places, and
+    /// where another owner lives.
     ///
     /// # History
     ///

@@ -47,7 +47,7 @@ impl<S: Slice, B: Buffer<S::Item> + Drop, M: Drop, A: Allocator + Copy, H: Mark>
         (count, items, start, end, alloc)
     }
 
-    /// The same items and places, as those of a reader. It adds no entry and takes no memory.
+    /// The same items at the same place, as a reader's. It adds no entry and takes no memory.
     pub fn freeze(self) -> Parts<S, B, M, A, H>
         ensures { result ≡ as_reader self }
     {

@@ -113,7 +113,8 @@ impl<S: Slice, B: Buffer<S::Item> + Drop, M: Drop, A: Allocator + Copy, H: Mark>
         self.start += count;
     }
 
-    /// Keeps the first `len` items, or all where there are no more.
+    /// Keeps the first `len` items, or all where there are no more. Items that are dropped one by
+    /// one stay in the block when they are cut off, and the capacity is `len` then.
     pub fn truncate(&mut self, len: usize)
         ensures { self.new ≡ after_truncate S.DROPS len self.old }
     {
@@ -141,7 +142,7 @@ where
     ///
     /// # Errors
     ///
-    /// Those of `try_reserve_as` for as many items. Nothing is changed then.
+    /// Those of `try_reserve_as` for as many items. The writer is unchanged.
     ///
     /// # Allocates
     ///

@@ -41,7 +41,7 @@ where
     ///
     /// # History
     ///
-    /// What each command adds, in their order (`CarriesOut`).
+    /// What each command adds, as `step` says, in their order (`CarriesOut`).
     pub fn run(
         &mut self,
         rt: &impl Wait,

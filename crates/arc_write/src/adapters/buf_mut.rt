@@ -75,6 +75,11 @@ where
         }
     }
 
+    /// Appends a byte, where the window has a place for it. It makes no room, and adds no entry.
+    ///
+    /// # Errors
+    ///
+    /// `AllocError` where it has no place; nothing is changed then.
     fn put_u8(&mut self, byte: u8) -> Result<(), AllocError>
         ensures ok { OnOk result (self.new.items ≡ self.old.items ++ byte ∷ []) }
         ensures err { OnErr result (self.new.items ≡ self.old.items) }

@@ -34,7 +34,7 @@ where
     ///
     /// # Errors
     ///
-    /// `fmt::Error` where `try_reserve` refuses room for as many bytes; nothing is changed then.
+    /// `fmt::Error` where `try_reserve` refuses room for as many bytes. The window is unchanged.
     ///
     /// # Allocates
     ///
@@ -59,7 +59,6 @@ where
             (size_at self.new.place) reply) }
         ensures same { OnErr result (self.new ≡ self.old) }
     {
-        self.known_place();
         match self.try_extend_from_str(text) {
             Ok(()) => Ok(()),
             Err(_) => Err(fmt::Error),
@@ -84,7 +83,7 @@ where
     ///
     /// # Errors
     ///
-    /// `fmt::Error` where `try_reserve` refuses room for as many bytes; nothing is changed then.
+    /// `fmt::Error` where `try_reserve` refuses room for as many bytes. The window is unchanged.
     ///
     /// # Allocates
     ///
@@ -109,7 +108,6 @@ where
             (size_at self.new.place) reply) }
         ensures same { OnErr result (self.new ≡ self.old) }
     {
-        self.known_place();
         match self.try_extend_from_slice(text.as_bytes()) {
             Ok(()) => Ok(()),
             Err(_) => Err(fmt::Error),
@@ -134,7 +132,7 @@ where
     ///
     /// # Errors
     ///
-    /// `fmt::Error` where `try_reserve` refuses room for as many bytes; nothing is changed then.
+    /// `fmt::Error` where `try_reserve` refuses room for as many bytes. The window is unchanged.
     ///
     /// # Allocates
     ///
@@ -159,7 +157,6 @@ where
             (size_at self.new.place) reply) }
         ensures same { OnErr result (self.new ≡ self.old) }
     {
-        self.known_place();
         match self.try_extend_from_slice(text.as_bytes()) {
             Ok(()) => Ok(()),
             Err(_) => Err(fmt::Error),

@@ -92,7 +92,7 @@ impl<
     ///
     /// # Allocates
     ///
-    /// Once.
+    /// Once, for the block that keeps the buffer.
     pub fn try_from_buffer_as(alloc: A, buffer: B, pass: &mut Pass<H>) -> Result<Self, B>
     where
         S: AnyItems,
@@ -118,7 +118,7 @@ impl<
     ///
     /// # Allocates
     ///
-    /// Once.
+    /// Once, for the block that keeps the buffer.
     pub fn try_from_buffer(alloc: A, buffer: B) -> Result<Self, B>
     where
         S: AnyItems,
@@ -146,7 +146,7 @@ impl<
     ///
     /// # Allocates
     ///
-    /// Once.
+    /// Once, for the block that keeps the buffer.
     pub fn try_from_buffer_with_metadata_as(
         alloc: A,
         buffer: B,
@@ -181,7 +181,7 @@ impl<
     ///
     /// # Allocates
     ///
-    /// Once.
+    /// Once, for the block that keeps the buffer.
     pub fn try_from_buffer_with_metadata(alloc: A, buffer: B, metadata: M) -> Result<Self, (B, M)>
     where
         S: AnyItems,

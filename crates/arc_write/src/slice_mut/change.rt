@@ -34,8 +34,8 @@ impl<
     H: Mark,
 > WriteWindow<S, L, R, B, M, A, H> {
     /// The same items at the same place, as a window under the layout `K` that is read. A window on
-    /// nothing becomes the one that no items make under that layout: on nothing, or on a new native
-    /// block of no places, of which the pass becomes one.
+    /// nothing becomes the window that `K` has of no items: on nothing, or on a new native block of
+    /// no places. The pass then becomes that block's. It adds no entry.
     ///
     /// # Errors
     ///
@@ -44,7 +44,7 @@ impl<
     ///
     /// # Allocates
     ///
-    /// Once for a window on nothing, where the layout has no static data.
+    /// On nothing, where the layout has no static data: once, for a block of no places.
     pub fn try_freeze_as<K: Layout>(
         self,
         pass: &mut Pass<H>,
@@ -78,7 +78,7 @@ impl<
     ///
     /// # Allocates
     ///
-    /// Once for a window on nothing, where the layout has no static data.
+    /// On nothing, where the layout has no static data: once, for a block of no places.
     pub fn try_freeze<K: Layout>(self) -> Result<ArcSlice<S, K, B, M, A, H>, Self>
     where
         H: Stepping,
@@ -173,7 +173,7 @@ impl<L: LayoutMut, B: BufferMut<u8> + Drop, M: Drop, A: Allocator + Copy, H: Mar
     ///
     /// # Errors
     ///
-    /// The error and the window over bytes, exactly where they aren't valid UTF-8.
+    /// The error and the window over bytes come back, exactly where the bytes aren't valid UTF-8.
     pub fn try_from_arc_slice_mut(
         bytes: ArcSliceMut<Plain<u8>, L, 1, B, M, A, H>,
     ) -> Result<Self, (Utf8Error, ArcSliceMut<Plain<u8>, L, 1, B, M, A, H>)>
@@ -210,7 +210,7 @@ impl<L: LayoutMut, B: BufferMut<u8> + Drop, M: Drop, A: Allocator + Copy, H: Mar
     ///
     /// # Errors
     ///
-    /// The error and the window over bytes, exactly where they aren't valid UTF-8.
+    /// The error and the window over bytes come back, exactly where the bytes aren't valid UTF-8.
     pub fn try_from_arc_slice_mut(
         bytes: ArcSliceMut<Plain<u8>, L, 0, B, M, A, H>,
     ) -> Result<Self, (Utf8Error, ArcSliceMut<Plain<u8>, L, 0, B, M, A, H>)>

@@ -32,31 +32,30 @@ pub trait IntoMut: Sized {
     /// The type of their metadata.
     type Metadata: Drop;
 
-    /// The allocator.
+    /// The allocator of the window's block.
     type Alloc: Allocator + Copy;
 
-    /// The mark.
+    /// The mark of the window's block.
     type Mark: Mark;
 
     /// The window's items, and where it stands.
     ghost seen: { Self → Window Self.Kind.Item Self.Metadata };
 
-    /// The same items, as their only writer under the layout `K`. The window stands on a block that
-    /// may be written and that the layout holds, and no other owner has it; or it stands on no
-    /// block and has no items. On a block it stays where it stands. An empty window of a `'static`
-    /// slice stands on nothing afterwards.
+    /// The same items, as their only writer under the layout `K`. This needs a block that may be
+    /// written, that `K` holds and that no other owner has. The window stays where it stands. A
+    /// window on no block has to be without items, and stands on nothing afterwards.
     ///
     /// A native block may be written, and a vector. A caller's buffer that was given to be read may
     /// not be, nor an `Arc`.
     ///
     /// # Errors
     ///
-    /// The window comes back where its block may not be written, where the layout doesn't hold
-    /// that, where another owner lives, and where it has items of a `'static` slice.
+    /// The window comes back where its block may not be written, where `K` doesn't hold the block,
+    /// where another owner lives, and where it has items of a `'static` slice.
     ///
     /// # History
     ///
-    /// On a block that may be written, and that `K` holds: Alone with the answer.
+    /// On a block that may be written, and that `K` holds: Alone with the answer. Else nothing.
     fn try_into_mut_as<K: LayoutMut>(
         self,
         pass: &mut Pass<Self::Mark>,
@@ -79,12 +78,12 @@ pub trait IntoMut: Sized {
     ///
     /// # Errors
     ///
-    /// The window comes back where its block may not be written, where the layout doesn't hold
-    /// that, where another owner lives, and where it has items of a `'static` slice.
+    /// The window comes back where its block may not be written, where `K` doesn't hold the block,
+    /// where another owner lives, and where it has items of a `'static` slice.
     ///
     /// # History
     ///
-    /// On a block that may be written, and that `K` holds: Alone with the answer.
+    /// On a block that may be written, and that `K` holds: Alone with the answer. Else nothing.
     fn try_into_mut<K: LayoutMut>(
         self,
     ) -> Result<

@@ -23,8 +23,8 @@ impl<
     A: Allocator + Copy,
     H: Mark,
 > ArcSliceMut<S, L, 1, B, M, A, H> {
-    /// A window without items, with `capacity` places, on a new native block. No places stand on
-    /// nothing. The pass, which is of no block, becomes the block's; the window is owner 0.
+    /// A window with `capacity` places and no items, on a new native block. For no places it stands
+    /// on nothing. The pass, which is of no block, becomes the block's; the window is owner 0.
     ///
     /// # Errors
     ///
@@ -32,7 +32,7 @@ impl<
     ///
     /// # Allocates
     ///
-    /// Once, except for no places.
+    /// Once, for the block, unless there are no places.
     #[tactic(auto, using(crate::proofs::Held::native_held))]
     pub fn try_with_capacity_as(
         alloc: A,
@@ -52,7 +52,7 @@ impl<
         }
     }
 
-    /// A window without items, with `capacity` places: `try_with_capacity_as` with a new pass.
+    /// A window with `capacity` places and no items: `try_with_capacity_as` with a new pass.
     ///
     /// # Errors
     ///
@@ -60,7 +60,7 @@ impl<
     ///
     /// # Allocates
     ///
-    /// Once, except for no places.
+    /// Once, for the block, unless there are no places.
     pub fn try_with_capacity(alloc: A, capacity: usize) -> Result<Self, AllocError>
     where
         H: Stepping,
@@ -76,9 +76,9 @@ impl<
         made
     }
 
-    /// A window over a copy of the items, on a new native block with exactly a place for each. No
-    /// items stand on nothing. The pass, which is of no block, becomes the block's; the window is
-    /// owner 0.
+    /// A window over a copy of the items, on a new native block with exactly a place for each.
+    /// Without items it stands on nothing. The pass, which is of no block, becomes the block's; the
+    /// window is owner 0.
     ///
     /// # Errors
     ///
@@ -86,7 +86,7 @@ impl<
     ///
     /// # Allocates
     ///
-    /// Once, except for no items.
+    /// Once, for the block, unless there are no items.
     #[tactic(auto, using(crate::proofs::Held::native_held))]
     pub fn try_from_slice_as(
         alloc: A,
@@ -115,7 +115,7 @@ impl<
     ///
     /// # Allocates
     ///
-    /// Once, except for no items.
+    /// Once, for the block, unless there are no items.
     pub fn try_from_slice(alloc: A, items: &[S::Item]) -> Result<Self, AllocError>
     where
         H: Stepping,
@@ -132,8 +132,9 @@ impl<
         made
     }
 
-    /// A window over `count` zeros, on a new native block with exactly a place for each. None stand
-    /// on nothing. The pass, which is of no block, becomes the block's; the window is owner 0.
+    /// A window over `count` zeros, on a new native block with exactly a place for each. Without
+    /// zeros it stands on nothing. The pass, which is of no block, becomes the block's; the window
+    /// is owner 0.
     ///
     /// # Errors
     ///
@@ -141,7 +142,7 @@ impl<
     ///
     /// # Allocates
     ///
-    /// Once, except for no zeros.
+    /// Once, for the block, unless there are no zeros.
     #[tactic(auto, using(crate::proofs::Held::native_held))]
     pub fn try_zeroed_as(alloc: A, count: usize, pass: &mut Pass<H>) -> Result<Self, AllocError>
     where
@@ -166,7 +167,7 @@ impl<
     ///
     /// # Allocates
     ///
-    /// Once, except for no zeros.
+    /// Once, for the block, unless there are no zeros.
     pub fn try_zeroed(alloc: A, count: usize) -> Result<Self, AllocError>
     where
         H: Stepping,
@@ -183,8 +184,9 @@ impl<
         made
     }
 
-    /// A window over an array's items, which are moved into a block where `try_from_slice_as`
-    /// copies them.
+    /// A window over an array's items, which are moved to a new native block with exactly a place
+    /// for each. Without items it stands on nothing. The pass, which is of no block, becomes the
+    /// block's; the window is owner 0.
     ///
     /// # Errors
     ///
@@ -192,7 +194,7 @@ impl<
     ///
     /// # Allocates
     ///
-    /// Once, except for no items.
+    /// Once, for the block, unless there are no items.
     #[tactic(auto, using(crate::proofs::Held::native_held))]
     pub fn try_from_array_as<const N: usize>(
         alloc: A,
@@ -221,7 +223,7 @@ impl<
     ///
     /// # Allocates
     ///
-    /// Once, except for no items.
+    /// Once, for the block, unless there are no items.
     pub fn try_from_array<const N: usize>(
         alloc: A,
         array: [S::Item; N],

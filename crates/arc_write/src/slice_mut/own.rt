@@ -1,6 +1,7 @@
 //! Owners of a write window's block, and ends of the window.
 ghost use Rattle.std.specs.Prelude.{◌≡◌, false, true};
 ghost use Rattle.arc_owners.specs.count.Calls.{IsNewPass, IsPassOfNone, Learns, SeesAlone};
+ghost use Rattle.arc_block.specs.Block.{IsLimited};
 ghost use Rattle.arc_block.specs.Place.{at_owner};
 ghost use Rattle.arc_parts.specs.Steps.{EndsAt, IsPassAt};
 ghost use Rattle.arc_writer_parts.specs.Roles.{ReleasesAt, ReleasesHintedAt};
@@ -77,14 +78,15 @@ impl<
         self.parts.learn(pass, other);
     }
 
-    /// What a drop does. Under `Open` the window ends with a new pass, which is the answer, and the
-    /// last owner gives the block back with its items. Under `Whole` the window is a forgotten
-    /// owner: no step is made, and its items stay. The answer is a pass of no block under `Whole`,
-    /// and on no block.
+    /// Does what a drop does. Under `Open` the window ends with a new pass, which is returned, and
+    /// the last owner gives the block back with its items. Under `Whole` the window is a forgotten
+    /// owner: no step is made, and its items stay. Under `Whole`, and on no block, the returned
+    /// pass is of no block.
     ///
     /// # History
     ///
-    /// Under `Open`, on a block: Down; of a sole writer without an atomic step. Else nothing.
+    /// Under `Open`, on a block: Down; of a sole writer, and on a vector, without an atomic step.
+    /// Else nothing.
     pub fn let_go(self) -> Pass<H>
         ensures forgotten { H.whole ≡ true → IsPassOfNone result }
         ensures ended { H.whole ≡ false → EndsAt self.place result }
@@ -92,8 +94,18 @@ impl<
         self.into_parts().let_go()
     }
 
+    /// `MAX_OWNERS`: how many owners the window's block may have at once. The contract says too
+    /// that the block is under the mark `H`.
+    pub fn max_owners(&self) -> u64
+        ensures answer { result ≡ 9223372036854775807 }
+        ensures block { at_owner self.now.place (Unit {0}) (λ o.
+            IsLimited 9223372036854775807 H.whole o) }
+    {
+        self.parts.max_owners()
+    }
+
     /// A new pass of the window's block. It has seen at least how the window became an owner, and
-    /// nothing was made with it. On no block it is a pass of none. It adds no entry.
+    /// has added no entry. On no block it is a pass of none.
     pub fn pass(&self) -> Pass<H>
     where
         H: Stepping,
@@ -111,8 +123,7 @@ impl<
     A: Allocator + Copy,
     H: Mark,
 > ArcSliceMut<S, L, 1, B, M, A, H> {
-    /// Shows a pass the block's whole history up to here, in which no other owner than this window
-    /// lives. It adds no entry.
+    /// From here on the pass has seen that the window is its block's only owner. It adds no entry.
     pub fn only(&self, pass: &mut Pass<H>)
         requires pass { IsPassAt self.now.place pass.old }
         ensures { at_owner self.now.place (pass.new ≡ pass.old) (λ o.

@@ -1,5 +1,5 @@
 //! Room for items more, of a sole writer and of one of several.
-ghost use Rattle.std.specs.Prelude.{◌+◌, ◌≡◌, ◌≤◌, false, is_ok, length, OnOk};
+ghost use Rattle.std.specs.Prelude.{◌+◌, ◌≡◌, ◌≤◌, false, is_ok, length, OnErr, OnOk};
 ghost use Rattle.std.specs.Mem.{type_size};
 ghost use Rattle.arc_block.specs.Place.{size_at};
 ghost use Rattle.arc_parts.specs.Shared.{asks_alone, ReclaimsShared};
@@ -36,12 +36,14 @@ impl<
     /// Where the window has too few places, in this order:
     ///
     /// - `NotUnique` of one of several writers, on a block where another owner lives.
-    /// - `Unsupported` where items that are dropped one by one end before the block's full places.
+    /// - `Unsupported` where items are dropped one by one, and full places of the block lie behind
+    ///   them.
     /// - What the caller's buffer refuses with, over one.
-    /// - `CapacityOverflow` where a block would have to grow to more than 2^63 - 1 places or bytes.
+    /// - `CapacityOverflow` where a block needs more than 2^63 - 1 places or bytes, or where a
+    ///   native block is to grow and twice its size is more than 2^63 - 1 bytes.
     /// - `AllocError` where memory is refused for a larger block, or for a first one of any size.
     ///
-    /// Nothing is changed then.
+    /// The window is unchanged.
     ///
     /// # Allocates
     ///
@@ -70,7 +72,9 @@ impl<
             result) }
         ensures within { StaysWithin R.Parts.several additional
             self.old self.new (is_ok result) }
+        ensures same { OnErr result (self.new ≡ self.old) }
     {
+        self.known_place();
         self.parts.try_reserve_as(additional, pass)
     }
 
@@ -82,12 +86,14 @@ impl<
     /// Where the window has too few places, in this order:
     ///
     /// - `NotUnique` of one of several writers, on a block where another owner lives.
-    /// - `Unsupported` where items that are dropped one by one end before the block's full places.
+    /// - `Unsupported` where items are dropped one by one, and full places of the block lie behind
+    ///   them.
     /// - What the caller's buffer refuses with, over one.
-    /// - `CapacityOverflow` where a block would have to grow to more than 2^63 - 1 places or bytes.
+    /// - `CapacityOverflow` where a block needs more than 2^63 - 1 places or bytes, or where a
+    ///   native block is to grow and twice its size is more than 2^63 - 1 bytes.
     /// - `AllocError` where memory is refused for a larger block, or for a first one of any size.
     ///
-    /// Nothing is changed then.
+    /// The window is unchanged.
     ///
     /// # Allocates
     ///
@@ -113,6 +119,7 @@ impl<
             result) }
         ensures within { StaysWithin R.Parts.several additional
             self.old self.new (is_ok result) }
+        ensures same { OnErr result (self.new ≡ self.old) }
     {
         let mut pass = self.pass();
         let made = self.try_reserve_as(additional, &mut pass);

@@ -62,8 +62,8 @@ impl<
         self.parts.is_on_vector()
     }
 
-    /// The block's full places aren't counted: none are more when items are written. Does nothing:
-    /// its contract is the law.
+    /// The window's block doesn't count its full places, so items that are written change nothing
+    /// that contracts know of it. Does nothing: its contract is the law.
     pub fn known_uncounted(&self)
         ensures { (len more : ℕ) → with_full len more self.now.place ≡ self.now.place }
     {
@@ -127,13 +127,13 @@ impl<
     }
 
     /// Ends the window, where it stands on a native block, by one subtraction from the count. The
-    /// last owner gets the block's memory: a window that is the only writer of the same items and
-    /// places, on a new block, and a pass of that. Every other one gets `None`. It takes no memory.
+    /// last owner gets the block's memory as a new block: a window that is its only writer, of the
+    /// same items and places, and a pass of it. Every other owner gets `None`. It takes no memory.
     ///
     /// # Errors
     ///
-    /// The window comes back exactly on nothing and on a vector, where it has no other owner beside
-    /// it. Nothing is done then.
+    /// The window comes back exactly where it stands on nothing or on a vector, as it was. The pass
+    /// is then as before.
     ///
     /// # History
     ///
@@ -158,13 +158,12 @@ impl<
         }
     }
 
-    /// Ends the window, and gives the last owner one that is the only writer:
-    /// `into_unique_if_last_as` with a new pass.
+    /// Ends the window, where it stands on a native block. The last owner gets a window of the same
+    /// items and places, which is their only writer: `into_unique_if_last_as` with a new pass.
     ///
     /// # Errors
     ///
-    /// The window comes back exactly on nothing and on a vector, where it has no other owner beside
-    /// it. Nothing is done then.
+    /// The window comes back exactly where it stands on nothing or on a vector, as it was.
     ///
     /// # History
     ///

@@ -25,25 +25,26 @@ impl<
     A: Allocator + Copy,
     H: Mark,
 > ArcSliceMut<S, L, 0, B, M, A, H> {
-    /// Keeps the first `at` places, and hands out those behind them with the items that lie there:
-    /// another owner of the same block. The places of a vector are moved to a native block first,
-    /// of which the pass becomes one. Of a window on nothing both parts stand on nothing.
+    /// Keeps the first `at` places, and returns those behind them, with the items that lie there,
+    /// as another owner of the same block. The places of a vector are moved to a native block
+    /// first, and the pass becomes that block's. Of a window on nothing both parts stand on
+    /// nothing.
     ///
     /// # Errors
     ///
     /// - `CountFull` on a native block, exactly where `MAX_OWNERS` owners live.
     /// - `AllocError` on a vector, where memory for the native block is refused.
     ///
-    /// Nothing is changed then.
+    /// The window is unchanged.
     ///
     /// # Allocates
     ///
-    /// Once, on a vector.
+    /// On a vector: once, for the native block.
     ///
     /// # History
     ///
     /// On a native block: Up, or Full where it is refused. On a vector: Down, without an atomic
-    /// step, and Up in the new block.
+    /// step, and Up in the new block; nothing where it is refused.
     pub fn try_split_off_as(
         &mut self,
         rt: &impl Wait,
@@ -67,7 +68,7 @@ impl<
         }
     }
 
-    /// Keeps the first `at` places, and hands out those behind them with the items that lie there:
+    /// Keeps the first `at` places, and returns those behind them, with the items that lie there:
     /// `try_split_off_as` with a new pass.
     ///
     /// # Errors
@@ -75,16 +76,16 @@ impl<
     /// - `CountFull` on a native block, exactly where `MAX_OWNERS` owners live.
     /// - `AllocError` on a vector, where memory for the native block is refused.
     ///
-    /// Nothing is changed then.
+    /// The window is unchanged.
     ///
     /// # Allocates
     ///
-    /// Once, on a vector.
+    /// On a vector: once, for the native block.
     ///
     /// # History
     ///
     /// On a native block: Up, or Full where it is refused. On a vector: Down, without an atomic
-    /// step, and Up in the new block.
+    /// step, and Up in the new block; nothing where it is refused.
     pub fn try_split_off(&mut self, rt: &impl Wait, at: usize) -> Result<Self, OwnerError>
     where
         S: Subsliceable,
@@ -104,26 +105,26 @@ impl<
         made
     }
 
-    /// Hands out the first `at` places with the items that lie there, and keeps those behind them.
-    /// The part that is handed out is another owner of the same block. The places of a vector are
-    /// moved to a native block first, of which the pass becomes one. Of a window on nothing both
-    /// parts stand on nothing.
+    /// Keeps the places behind the first `at`, and returns the first `at`, with the items that lie
+    /// there, as another owner of the same block. The places of a vector are moved to a native
+    /// block first, and the pass becomes that block's. Of a window on nothing both parts stand on
+    /// nothing.
     ///
     /// # Errors
     ///
     /// - `CountFull` on a native block, exactly where `MAX_OWNERS` owners live.
     /// - `AllocError` on a vector, where memory for the native block is refused.
     ///
-    /// Nothing is changed then.
+    /// The window is unchanged.
     ///
     /// # Allocates
     ///
-    /// Once, on a vector.
+    /// On a vector: once, for the native block.
     ///
     /// # History
     ///
     /// On a native block: Up, or Full where it is refused. On a vector: Down, without an atomic
-    /// step, and Up in the new block.
+    /// step, and Up in the new block; nothing where it is refused.
     pub fn try_split_to_as(
         &mut self,
         rt: &impl Wait,
@@ -147,24 +148,24 @@ impl<
         }
     }
 
-    /// Hands out the first `at` places with the items that lie there, and keeps those behind them:
-    /// `try_split_to_as` with a new pass.
+    /// Keeps the places behind the first `at`, and returns the first `at`, with the items that lie
+    /// there: `try_split_to_as` with a new pass.
     ///
     /// # Errors
     ///
     /// - `CountFull` on a native block, exactly where `MAX_OWNERS` owners live.
     /// - `AllocError` on a vector, where memory for the native block is refused.
     ///
-    /// Nothing is changed then.
+    /// The window is unchanged.
     ///
     /// # Allocates
     ///
-    /// Once, on a vector.
+    /// On a vector: once, for the native block.
     ///
     /// # History
     ///
     /// On a native block: Up, or Full where it is refused. On a vector: Down, without an atomic
-    /// step, and Up in the new block.
+    /// step, and Up in the new block; nothing where it is refused.
     pub fn try_split_to(&mut self, rt: &impl Wait, at: usize) -> Result<Self, OwnerError>
     where
         S: Subsliceable,
@@ -185,8 +186,8 @@ impl<
         made
     }
 
-    /// Moves the places of a vector to a native block, as a split does first, and hands out a pass
-    /// of that block. So the caller has the passes of both blocks.
+    /// Moves the places of a vector to a native block, as a split does first, and returns a pass of
+    /// that block. So the caller has the passes of both blocks.
     ///
     /// # Errors
     ///
@@ -194,11 +195,11 @@ impl<
     ///
     /// # Allocates
     ///
-    /// Once.
+    /// Once, for the native block.
     ///
     /// # History
     ///
-    /// Down of the vector's owner, without an atomic step.
+    /// Down of the vector's owner, without an atomic step; nothing where it is refused.
     pub fn try_leave_vector_as(&mut self, pass: &mut Pass<H>) -> Result<Pass<H>, AllocError>
     where
         S: Subsliceable,
@@ -219,7 +220,7 @@ impl<
     ///
     /// # Errors
     ///
-    /// The other window comes back exactly where it isn't so. Nothing is changed then.
+    /// The other window comes back exactly where `can_join` says no. Nothing is changed then.
     ///
     /// # History
     ///
@@ -247,7 +248,7 @@ impl<
     ///
     /// # Errors
     ///
-    /// The other window comes back exactly where it isn't so. Nothing is changed then.
+    /// The other window comes back exactly where `can_join` says no. Nothing is changed then.
     ///
     /// # History
     ///

@@ -164,7 +164,7 @@ impl<
     ///
     /// # Errors
     ///
-    /// The window comes back with another number of items, and on a block whose places they don't
+    /// The window comes back where its items aren't `N`, and on a block whose places they don't
     /// fill or that isn't native; the pass is then as before.
     ///
     /// # History
@@ -188,7 +188,7 @@ impl<
     ///
     /// # Errors
     ///
-    /// The window comes back with another number of items, and on a block whose places they don't
+    /// The window comes back where its items aren't `N`, and on a block whose places they don't
     /// fill or that isn't native.
     ///
     /// # History
@@ -276,7 +276,7 @@ impl<
     ///
     /// # Errors
     ///
-    /// The window comes back with another number of items, on a block whose places they don't fill,
+    /// The window comes back where its items aren't `N`, on a block whose places they don't fill,
     /// on a vector, and where another owner lives.
     ///
     /// # History
@@ -300,7 +300,7 @@ impl<
     ///
     /// # Errors
     ///
-    /// The window comes back with another number of items, on a block whose places they don't fill,
+    /// The window comes back where its items aren't `N`, on a block whose places they don't fill,
     /// on a vector, and where another owner lives.
     ///
     /// # History

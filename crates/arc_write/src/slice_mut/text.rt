@@ -37,11 +37,11 @@ impl<
         unsafe { str::from_utf8_unchecked(self.parts.as_slice()) }
     }
 
-    /// Appends a copy of the text, behind the others, once there is room.
+    /// Appends a copy of the text, behind the window's, once there is room.
     ///
     /// # Errors
     ///
-    /// Those of `try_reserve_as` for as many bytes. Nothing is changed then.
+    /// Those of `try_reserve_as` for as many bytes. The window is unchanged.
     ///
     /// # Allocates
     ///
@@ -50,7 +50,8 @@ impl<
     /// # History
     ///
     /// Of a sole writer: nothing. Of one of several, on a block, where it has too few places: Alone
-    /// with the answer.
+    /// with the answer. Where a first block is made, the pass, which is of no block before, becomes
+    /// that block's.
     pub fn try_extend_from_str_as(
         &mut self,
         text: &str,
@@ -69,15 +70,17 @@ impl<
             result) }
         ensures within { StaysWithin R.Parts.several (length text.now)
             self.old self.new (is_ok result) }
+        ensures same { OnErr result (self.new ≡ self.old) }
     {
+        self.known_place();
         self.parts.try_extend_from_slice_as(text.as_bytes(), pass)
     }
 
-    /// Appends a copy of the text, behind the others: `try_extend_from_str_as` with a new pass.
+    /// Appends a copy of the text, behind the window's: `try_extend_from_str_as` with a new pass.
     ///
     /// # Errors
     ///
-    /// Those of `try_reserve` for as many bytes. Nothing is changed then.
+    /// Those of `try_reserve` for as many bytes. The window is unchanged.
     ///
     /// # Allocates
     ///
@@ -104,6 +107,7 @@ impl<
             result) }
         ensures within { StaysWithin R.Parts.several (length text.now)
             self.old self.new (is_ok result) }
+        ensures same { OnErr result (self.new ≡ self.old) }
     {
         let mut pass = self.pass();
         let extended = self.try_extend_from_str_as(text, &mut pass);
@@ -122,8 +126,8 @@ impl<L: LayoutMut, B: BufferMut<u8> + Drop, M: Drop, A: Allocator + Copy, H: Mar
     H,
 > {
     /// A window over a copy of the text, on a new native block with exactly a place for each byte.
-    /// No text stands on nothing. The pass, which is of no block, becomes the block's; the window
-    /// is owner 0.
+    /// Without text it stands on nothing. The pass, which is of no block, becomes the block's; the
+    /// window is owner 0.
     ///
     /// # Errors
     ///
@@ -131,7 +135,7 @@ impl<L: LayoutMut, B: BufferMut<u8> + Drop, M: Drop, A: Allocator + Copy, H: Mar
     ///
     /// # Allocates
     ///
-    /// Once, except for no text.
+    /// Once, for the block, unless the text is empty.
     #[tactic(auto, using(crate::proofs::Held::native_held))]
     pub fn try_from_str_as(alloc: A, text: &str, pass: &mut Pass<H>) -> Result<Self, AllocError>
         requires pass { IsPassOfNone pass.old }
@@ -153,7 +157,7 @@ impl<L: LayoutMut, B: BufferMut<u8> + Drop, M: Drop, A: Allocator + Copy, H: Mar
     ///
     /// # Allocates
     ///
-    /// Once, except for no text.
+    /// Once, for the block, unless the text is empty.
     pub fn try_from_str(alloc: A, text: &str) -> Result<Self, AllocError>
     where
         H: Stepping,

@@ -47,8 +47,8 @@ impl<
     }
 
     /// A window over all items of a vector, on a block that is the vector, with its places: no item
-    /// is copied. A vector without places stands on nothing. The pass, which is of no block,
-    /// becomes the block's; the window is owner 0.
+    /// is copied. Without places it stands on nothing. The pass, which is of no block, becomes the
+    /// block's; the window is owner 0.
     ///
     /// # Errors
     ///
@@ -56,7 +56,7 @@ impl<
     ///
     /// # Allocates
     ///
-    /// Once, except for a vector without places.
+    /// Once, for the count, unless the vector has no places.
     pub fn try_from_vec_as(alloc: A, items: S::Vec, pass: &mut Pass<H>) -> Result<Self, S::Vec>
     where
         L: AnyBufferLayout,
@@ -83,7 +83,7 @@ impl<
     ///
     /// # Allocates
     ///
-    /// Once, except for a vector without places.
+    /// Once, for the count, unless the vector has no places.
     pub fn try_from_vec(alloc: A, items: S::Vec) -> Result<Self, S::Vec>
     where
         L: AnyBufferLayout,

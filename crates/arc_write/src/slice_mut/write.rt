@@ -50,8 +50,8 @@ impl<
     ///
     /// # Errors
     ///
-    /// Those of `try_reserve_as` for one item, with the item, which comes back. Nothing is changed
-    /// then.
+    /// Those of `try_reserve_as` for one item, with the item, which comes back. The window is
+    /// unchanged.
     ///
     /// # Allocates
     ///
@@ -60,7 +60,8 @@ impl<
     /// # History
     ///
     /// Of a sole writer: nothing. Of one of several, on a block, where it has too few places: Alone
-    /// with the answer.
+    /// with the answer. Where a first block is made, the pass, which is of no block before, becomes
+    /// that block's.
     #[inline(always)]
     pub fn try_push_as(
         &mut self,
@@ -80,7 +81,9 @@ impl<
             AsksForRoom B.list B.places B.grows B.refuses self.old k (size_at self.new.place)
             (without_item result)) }
         ensures within { StaysWithin R.Parts.several 1 self.old self.new (is_ok result) }
+        ensures same { OnErr result (self.new ≡ self.old) }
     {
+        self.known_place();
         self.parts.try_push_as(item, pass)
     }
 
@@ -88,8 +91,8 @@ impl<
     ///
     /// # Errors
     ///
-    /// Those of `try_reserve` for one item, with the item, which comes back. Nothing is changed
-    /// then.
+    /// Those of `try_reserve` for one item, with the item, which comes back. The window is
+    /// unchanged.
     ///
     /// # Allocates
     ///
@@ -116,6 +119,7 @@ impl<
             AsksForRoom B.list B.places B.grows B.refuses self.old k (size_at self.new.place)
             (without_item result)) }
         ensures within { StaysWithin R.Parts.several 1 self.old self.new (is_ok result) }
+        ensures same { OnErr result (self.new ≡ self.old) }
     {
         let mut pass = self.pass();
         let pushed = self.try_push_as(item, &mut pass);
@@ -127,7 +131,7 @@ impl<
     ///
     /// # Errors
     ///
-    /// Those of `try_reserve_as` for as many items. Nothing is changed then.
+    /// Those of `try_reserve_as` for as many items. The window is unchanged.
     ///
     /// # Allocates
     ///
@@ -136,7 +140,8 @@ impl<
     /// # History
     ///
     /// Of a sole writer: nothing. Of one of several, on a block, where it has too few places: Alone
-    /// with the answer.
+    /// with the answer. Where a first block is made, the pass, which is of no block before, becomes
+    /// that block's.
     #[inline(always)]
     pub fn try_extend_from_slice_as(
         &mut self,
@@ -160,7 +165,9 @@ impl<
             (size_at self.new.place) result) }
         ensures within { StaysWithin R.Parts.several (length items.now)
             self.old self.new (is_ok result) }
+        ensures same { OnErr result (self.new ≡ self.old) }
     {
+        self.known_place();
         self.parts.try_extend_from_slice_as(items, pass)
     }
 
@@ -168,7 +175,7 @@ impl<
     ///
     /// # Errors
     ///
-    /// Those of `try_reserve` for as many items. Nothing is changed then.
+    /// Those of `try_reserve` for as many items. The window is unchanged.
     ///
     /// # Allocates
     ///
@@ -198,6 +205,7 @@ impl<
             (size_at self.new.place) result) }
         ensures within { StaysWithin R.Parts.several (length items.now)
             self.old self.new (is_ok result) }
+        ensures same { OnErr result (self.new ≡ self.old) }
     {
         let mut pass = self.pass();
         let extended = self.try_extend_from_slice_as(items, &mut pass);

@@ -24,11 +24,12 @@ impl<S: Slice, B: BufferMut<S::Item> + Drop, M: Drop, A: Allocator + Copy, H: Ma
     ///
     /// # Errors
     ///
-    /// The other parts come back exactly where it isn't so. Nothing is changed then.
+    /// The other parts come back exactly where these aren't full, or the others don't begin where
+    /// these end. Nothing is changed then.
     ///
     /// # History
     ///
-    /// On a block: Down of the other owner.
+    /// On a block: Down of the other owner; nothing where it is refused.
     pub fn try_unsplit_as(&mut self, other: Self, pass: &mut Pass<H>) -> Result<(), Self>
         requires block { IsOneBlock self.old.place other.place }
         requires pass { IsPassAt self.old.place pass.old }
@@ -52,7 +53,7 @@ impl<S: Slice, B: BufferMut<S::Item> + Drop, M: Drop, A: Allocator + Copy, H: Ma
         }
     }
 
-    /// The same for parts by value.
+    /// `try_unsplit_as` by value: where it is refused, both parts come back.
     fn unsplit_as(self, other: Self, pass: &mut Pass<H>) -> Result<Self, (Self, Self)>
         requires block { IsOneBlock self.place other.place }
         requires pass { IsPassAt self.place pass.old }

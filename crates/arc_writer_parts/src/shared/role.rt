@@ -43,6 +43,13 @@ impl<S: Slice, B: BufferMut<S::Item> + Drop, M: Drop, A: Allocator + Copy, H: Ma
         }
     }
 
+    fn known_idle(&self) {
+        match &self.on {
+            SharedStorage::Several(_) => (),
+            SharedStorage::Alone(parts) => parts.known_idle(),
+        }
+    }
+
     #[inline(always)]
     fn len(&self) -> usize {
         match &self.on {
@@ -290,6 +297,13 @@ impl<S: Slice, B: BufferMut<S::Item> + Drop, M: Drop, A: Allocator + Copy, H: Ma
 
     fn end(self) {
         drop(self)
+    }
+
+    fn max_owners(&self) -> u64 {
+        match &self.on {
+            SharedStorage::Several(writer) => writer.max_owners(),
+            SharedStorage::Alone(parts) => parts.max_owners(),
+        }
     }
 
     fn learn(&self, pass: &mut Pass<H>, other: &Pass<H>) {

@@ -46,8 +46,8 @@ where
     S::Item: Copy,
 {
     /// Splits the places at `at`, with the items that lie there. One part stays, the front where
-    /// `FRONT_STAYS` and else the back. The other is handed out: another owner of the same block.
-    /// The places of a vector are moved to a native block first, of which the pass becomes one. On
+    /// `FRONT_STAYS` and else the back. The other is returned: another owner of the same block. The
+    /// places of a vector are moved to a native block first, and the pass becomes that block's. On
     /// nothing both parts stand on nothing.
     ///
     /// # Errors
@@ -55,7 +55,7 @@ where
     /// - `CountFull` on a native block, exactly where `MAX_OWNERS` owners live.
     /// - `AllocError` on a vector, where memory for the native block is refused.
     ///
-    /// Nothing is changed then.
+    /// The parts are unchanged.
     ///
     /// # Allocates
     ///
@@ -63,8 +63,10 @@ where
     ///
     /// # History
     ///
-    /// On a native block: Up, or Full where it is refused. On a vector: Down, without an atomic
-    /// step, and Up in the new block.
+    /// On a native block: Up, or Full where it is refused. Of a block that begins without a count
+    /// the clauses allow also Promote for Up, and Joined before it or before Full. No writer's
+    /// block begins so. On a vector: Down in its history, without an atomic step, and Up in the new
+    /// block's; nothing where it is refused. On nothing: nothing.
     pub fn try_split_as<const FRONT_STAYS: bool>(
         &mut self,
         rt: &impl Wait,
@@ -131,7 +133,7 @@ where
         }
     }
 
-    /// The same of a vector, whose places are moved first.
+    /// `try_split_as` on a vector, whose places are moved to a native block first.
     #[tactic(auto, using(crate::proofs::Splits::vector_refused))]
     fn split_vector_as<const FRONT_STAYS: bool>(
         &mut self,
@@ -166,8 +168,8 @@ where
         }
     }
 
-    /// Moves the places of a vector to a native block, as a split does first, and hands out a pass
-    /// of that block. So the caller has the passes of both blocks.
+    /// Moves the places of a vector to a native block, as a split does first, and returns a pass of
+    /// that block. So the caller has the passes of both blocks.
     ///
     /// # Errors
     ///
@@ -179,7 +181,7 @@ where
     ///
     /// # History
     ///
-    /// Down of the vector's owner, without an atomic step.
+    /// Down of the vector's owner, without an atomic step; nothing where it is refused.
     pub fn try_leave_vector_as(&mut self, pass: &mut Pass<H>) -> Result<Pass<H>, AllocError>
         requires vector { is_vector_at self.old.place ≡ true }
         requires pass { IsPassAt self.old.place pass.old }

@@ -1,5 +1,4 @@
-//! What one of several writers takes back while no other owner lives: a vector's items, or an
-//! array.
+//! The items of one of several writers as an array, while no other owner lives.
 ghost use Rattle.std.specs.Prelude.{◌≡◌, IfOk, IfErr};
 ghost use Rattle.arc_parts.specs.Steps.{IsPassAt, TakesAt, RefusesTaking};
 ghost use Rattle.arc_parts.specs.Writers.{IsWholeWriter};
@@ -19,8 +18,8 @@ impl<S: Slice, B: BufferMut<S::Item> + Drop, M: Drop, A: Allocator + Copy, H: Ma
     A,
     H,
 > {
-    /// The items as an array of `N`. On a block they have to be all places of a native one, and no
-    /// other owner lives.
+    /// The items as an array of `N`. On a block they have to fill all places of a native one, and
+    /// no other owner may live.
     ///
     /// # Errors
     ///

@@ -34,8 +34,8 @@ impl<S: Slice, B: BufferMut<S::Item> + Drop, M: Drop, A: Allocator + Copy, H: Ma
         }
     }
 
-    /// Where one of several writers has no other owner beside him, full places aren't counted, so
-    /// that pushed items change no such count. Does nothing: its contract is the law.
+    /// On nothing and on a vector, full places aren't counted where items need no drop. So pushed
+    /// items change no such count. Does nothing: its contract is the law.
     pub(crate) fn known_uncounted(&self)
         requires kind { S.DROPS ≡ false }
         requires place { IsAlonePlace self.now.place }
@@ -88,8 +88,8 @@ impl<S: Slice, B: BufferMut<S::Item> + Drop, M: Drop, A: Allocator + Copy, H: Ma
         }
     }
 
-    /// On a block they are of another one than the block of one of several writers. Does nothing:
-    /// its contract is the law.
+    /// Where they stand on a block, it isn't the block of this writer, who is one of several. Does
+    /// nothing: its contract is the law.
     pub(crate) fn apart_from(&self, writer: &SharedNative<S::Item, A, H>)
         ensures { at_owner self.now.place (Unit {0}) (λ o. ¬ (writer.now.owner.block ≡ o.block)) }
     {

@@ -110,8 +110,8 @@ impl<S: Slice, B: BufferMut<S::Item> + Drop, M: Drop, A: Allocator + Copy, H: Ma
     }
 
     /// The items of a reader's parts at the same place, as their only writer under the layout `L`.
-    /// They stand on a block that may be written and that the layout holds, and no other owner has
-    /// it; or there are none and they stand on no block.
+    /// Their block has to be one that may be written and that the layout holds, and no other owner
+    /// may live. On no block there may be no items, and the writer stands on nothing.
     ///
     /// # Errors
     ///

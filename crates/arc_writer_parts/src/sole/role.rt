@@ -43,6 +43,11 @@ impl<S: Slice, B: BufferMut<S::Item> + Drop, M: Drop, A: Allocator + Copy, H: Ma
         }
     }
 
+    #[tactic(auto, using(crate::proofs::Idle::no_items, crate::proofs::Idle::no_places))]
+    fn known_idle(&self) {
+        let _ = self.is_on_block();
+    }
+
     #[inline(always)]
     fn len(&self) -> usize {
         match &self.on {
@@ -276,6 +281,14 @@ impl<S: Slice, B: BufferMut<S::Item> + Drop, M: Drop, A: Allocator + Copy, H: Ma
 
     fn end(self) {
         drop(self)
+    }
+
+    fn max_owners(&self) -> u64 {
+        match &self.on {
+            SoleStorage::Other(SoleOther::Buffer(parts)) => parts.max_owners(),
+            SoleStorage::Native(parts) => parts.max_owners(),
+            SoleStorage::Other(SoleOther::Vector(parts)) => parts.max_owners(),
+        }
     }
 
     fn learn(&self, pass: &mut Pass<H>, other: &Pass<H>) {

@@ -16,8 +16,8 @@ impl<S: Slice, B: BufferMut<S::Item> + Drop, M: Drop, A: Allocator + Copy, H: Ma
     A,
     H,
 > {
-    /// Makes room for `additional` items more where that takes no memory, and answers whether it
-    /// did.
+    /// Makes room for `additional` items more where that takes no memory, and answers whether there
+    /// is room. A caller's buffer isn't asked for more.
     pub fn try_reclaim(&mut self, additional: usize) -> bool
         ensures { Reclaims (room_for S.DROPS (type_size S.Item.row) self.old additional)
             self.old self.new result }

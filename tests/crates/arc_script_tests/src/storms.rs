@@ -1,8 +1,10 @@
 //! Storms of clones: two workers that have a clone each at one time, and how often each passes.
-use crate::devices::Taken;
+use crate::devices::{Pieces, Taken};
+use crate::program::words_in;
 use arc_script::io::Counted;
-use arc_script::program::storms::run_storm;
+use arc_script::program::run_args;
 use arc_script::storm::{Gate, OpenGate, storm};
+use std::alloc::AllocError;
 use std::sync::Wait;
 use std::sync::atomic::AtomicU64;
 use std::sync::atomic::Ordering::SeqCst;
@@ -44,43 +46,55 @@ impl Gate for Meeting {
     }
 }
 
-/// The program's storm of two workers through this gate: its status, what it wrote, and what it
-/// told.
+/// What the program comes to for `storm 2`, where its workers pass this gate: its status, what it
+/// wrote and what it told, and how often it read.
 fn storm_of_two<R: Threads + Wait + Sync + AllocGlobal, G: Gate + Sync>(
     rt: &R,
     gate: &G,
-) -> (u8, Vec<u8>, Vec<u8>) {
+) -> Result<(u8, Vec<u8>, Vec<u8>, usize), AllocError> {
+    let mut input = Pieces::new(b"show 0\n", usize::MAX);
     let mut taken = Taken::new(rt.alloc(), usize::MAX);
     let mut told = Taken::new(rt.alloc(), usize::MAX);
+    let words = words_in(rt.alloc(), &["storm", "2"])?;
+    let mut reader = Counted::new(&mut input);
     let mut writer = Counted::new(&mut taken);
     let mut faults = Counted::new(&mut told);
-    let status = run_storm(rt, gate, 2, &mut writer, &mut faults);
-    (status, taken.bytes, told.bytes)
+    let status = run_args(
+        rt,
+        gate,
+        rt.alloc(),
+        &words,
+        &mut reader,
+        &mut writer,
+        &mut faults,
+    );
+    Ok((status, taken.bytes, told.bytes, input.calls))
 }
 
 /// Two workers of the program's storm have a clone at one time, within 1,000,000 turns, and each
 /// passes 1,000 times: one worker after the other would wait in vain.
 #[test]
-fn both_cloned(rt: HostRuntime) {
+fn both_cloned(rt: HostRuntime) -> Result<(), Fail> {
     let gate = Meeting {
         first: AtomicU64::new(0),
         second: AtomicU64::new(0),
         missed: AtomicU64::new(0),
     };
-    let (status, written, told) = storm_of_two(&rt, &gate);
+    let (status, written, told, reads) = storm_of_two(&rt, &gate)?;
     let passed = [
         gate.first.load(SeqCst),
         gate.second.load(SeqCst),
         gate.missed.load(SeqCst),
     ];
-    let found = (status, written.as_slice(), told.as_slice(), passed);
-    assert!(rt; found == (0, b"2a\n".as_slice(), b"".as_slice(), [1000, 1000, 0]));
+    let found = (status, written.as_slice(), told.as_slice(), reads, passed);
+    assert!(rt; found == (0, b"2a\n".as_slice(), b"".as_slice(), 0, [1000, 1000, 0]));
+    Ok(())
 }
 
-/// As many workers as the program lets in, and none.
+/// As many workers as the program lets in, and one.
 #[test]
 fn many_workers(rt: HostRuntime) -> Result<(), Fail> {
-    for workers in [64, 1, 0] {
+    for workers in [64, 1] {
         let bytes = storm(&rt, rt.alloc(), workers, &OpenGate)?;
         assert!(rt; bytes.as_slice() == [42].as_slice());
     }

@@ -7,7 +7,7 @@ use Rattle.arc_commands.specs.State.{CarriesOut}
 use Rattle.arc_script.specs.State.{CarriesOutSaid}
 use Rattle.arc_forms.proofs.Forms.{on_err}
 use Rattle.arc_script.proofs.Going.{on_ok_then}
-use Rattle.arc_script.proofs.States.{shown_said}
+use Rattle.arc_script.proofs.States.{may_need, not_lends, shown_said}
 use Rattle.arc_script.proofs.script.answer_said.Goals as goal
 
 pub returns-in-Some-Show : goal.returns-in-Some-Show
@@ -16,7 +16,7 @@ returns-in-Some-Show g c =
     let does =
     shown_said g.L.NamedLayout.named g.met.L.NamedLayout.run_so
     (c.in-Some-Show.is ∙ ap (λ command. Some command) c.in-Some-Show.field-0-is)
-    c.in-Some-Show.window-is c.show_in_place.ensures.carried in
+    c.in-Some-Show.window-is c.show_in_place.ensures.carried c.show_in_place.ensures.lent in
     let push = c.push_answer in
     record {
       ok = on_ok_then push.result push.ensures.ok (λ wrote.
@@ -32,9 +32,12 @@ returns-in-Some g c =
     let does : CarriesOutSaid g.L.NamedLayout.named table (option_map line_command c.args.said)
     (Some reply)
     c.step-reply.new.self =
-    rw c.in-Some.is (subst (λ s. CarriesOut s table (line_command c.in-Some.command) reply
-    c.step-reply.new.self)
-    g.met.L.NamedLayout.run_so c.step-reply.ensures) in
+    rw c.in-Some.is (
+      subst (λ s. CarriesOut s table (line_command c.in-Some.command) reply
+          c.step-reply.new.self) g.met.L.NamedLayout.run_so c.step-reply.ensures,
+      may_need (line_command c.in-Some.command) reply
+          (not_lends c.in-Some.command c.in-Some.not-Show),
+    ) in
     let push = c.push_answer-in-Some in
     record {
       ok = on_ok_then push.result push.ensures.ok (λ wrote.

@@ -26,14 +26,15 @@ some g c none short =
 pub returns-in_err-end_line-clause-err : goal.returns-in_err-end_line-clause-err
 returns-in_err-end_line-clause-err g c =
     let end = c.in_err-end_line.ensures in
-    on_err c.from_residual.result (λ start input writer read.
-    subst (λ o. IsBegun g.L.NamedLayout.named Alloc start input writer o c.end_line.new.self.table)
+    on_err c.from_residual.result (λ early start input writer read.
+    subst
+    (λ o. IsBegun g.L.NamedLayout.named Alloc early start input writer o c.end_line.new.self.table)
     (sym end.err)
     (last_broken read (some g (goal.at.returns-in_err-end_line-clause-err g c).After-end_line)
     c.end_line.new.self.table end.broken))
 
 pub returns-clause-ok : goal.returns-clause-ok
-returns-clause-ok g c = λ start input writer read.
+returns-clause-ok g c = λ early start input writer read.
     last_answered read (some g (goal.at.returns-clause-ok g c).After-end_line)
     c.end_line.new.self.table c.end_line.new.self.out.items
     c.in_ok-end_line.ensures.ok

@@ -1,10 +1,12 @@
-use Rattle.std.proofs.Common.{subst}
-use Rattle.std.specs.Prelude.{is_ok, length}
+use Rattle.std.proofs.Common.{◌≡◌, sym, subst}
+use Rattle.std.specs.Prelude.{is_ok, length, OnErr}
 use Rattle.std.specs.Mem.{type_size}
 use Rattle.arc_block.specs.LayoutFacts.{layout_facts}
 use Rattle.arc_parts.specs.Window.{PartsView}
+use Rattle.arc_writer_parts.specs.Roles.{HasWritersRole}
 use Rattle.arc_write.specs.Within.{StaysWithin}
 use Rattle.arc_write.proofs.Held.{extend_held}
+use Rattle.arc_write.proofs.Refused.{extend_same}
 use Rattle.arc_write.proofs.Within.{extend_within}
 use Rattle.arc_write.proofs.slice_mut.WriteWindow.try_extend_from_slice_as.Goals as goal
 
@@ -28,3 +30,15 @@ returns-clause-within g c =
     (length c.args.items.now) (of.seen c.self.inside.parts) (of.seen call.new.self)
     c.args.pass.now call.new.pass c.args.items.now (λ e. e) call.result
     call.ensures.extended call.ensures.refused)
+
+pub returns-clause-same : goal.returns-clause-same
+returns-clause-same g c =
+    let of = g.R.Parts.WriterParts in let call = c.try_extend_from_slice_as in
+    let role = subst (λ (w : PartsView g.row.S-Item.Denot g.row.M.Denot).
+    HasWritersRole of.several w.role) (sym c.self.view_is) c.known_place.ensures.role in
+    subst (λ (w : PartsView g.row.S-Item.Denot g.row.M.Denot). OnErr call.result
+    (of.seen call.new.self ≡ w)) c.self.view_is
+    (extend_same of.several g.S.Slice.DROPS g.H.Mark.whole (type_size g.row.S-Item)
+    (length c.args.items.now) (of.seen c.self.inside.parts) (of.seen call.new.self)
+    c.args.pass.now call.new.pass role (λ e. e) call.result
+    call.ensures.refused)

@@ -1,10 +1,12 @@
-use Rattle.std.proofs.Common.{sym, subst}
-use Rattle.std.specs.Prelude.{is_ok}
+use Rattle.std.proofs.Common.{◌≡◌, sym, subst}
+use Rattle.std.specs.Prelude.{is_ok, OnErr}
 use Rattle.std.specs.Mem.{type_size}
 use Rattle.arc_block.specs.LayoutFacts.{layout_facts}
 use Rattle.arc_parts.specs.Window.{PartsView}
+use Rattle.arc_writer_parts.specs.Roles.{HasWritersRole}
 use Rattle.arc_write.specs.Within.{StaysWithin}
 use Rattle.arc_write.proofs.Held.{room_held}
+use Rattle.arc_write.proofs.Refused.{room_same}
 use Rattle.arc_write.proofs.Within.{room_within}
 use Rattle.arc_write.proofs.slice_mut.WriteWindow.try_reserve_as.Goals as goal
 
@@ -26,3 +28,14 @@ returns-clause-within g c =
     (room_within of.several g.S.Slice.DROPS g.H.Mark.whole (type_size g.row.S-Item)
     c.args.additional (of.seen c.self.inside.parts) (of.seen call.new.self) c.args.pass.now
     call.new.pass call.result call.ensures.room)
+
+pub returns-clause-same : goal.returns-clause-same
+returns-clause-same g c =
+    let of = g.R.Parts.WriterParts in let call = c.try_reserve_as in
+    let role = subst (λ (w : PartsView g.row.S-Item.Denot g.row.M.Denot).
+    HasWritersRole of.several w.role) (sym c.self.view_is) c.known_place.ensures.role in
+    subst (λ (w : PartsView g.row.S-Item.Denot g.row.M.Denot). OnErr call.result
+    (of.seen call.new.self ≡ w)) c.self.view_is
+    (room_same of.several g.S.Slice.DROPS g.H.Mark.whole (type_size g.row.S-Item)
+    c.args.additional (of.seen c.self.inside.parts) (of.seen call.new.self) c.args.pass.now
+    call.new.pass role call.result call.ensures.room)

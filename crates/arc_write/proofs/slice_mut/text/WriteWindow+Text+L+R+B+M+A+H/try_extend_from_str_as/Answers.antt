@@ -1,12 +1,14 @@
-use Rattle.std.proofs.Common.{subst}
-use Rattle.std.specs.Prelude.{is_ok, length, ℕ, List, false}
+use Rattle.std.proofs.Common.{◌≡◌, sym, subst}
+use Rattle.std.specs.Prelude.{is_ok, length, ℕ, List, false, OnErr}
 use Rattle.std.specs.Str.{IsUtf8}
 use Rattle.std.proofs.lemmas.Str.{IsUtf8-append}
 use Rattle.arc_block.specs.LayoutFacts.{layout_facts}
 use Rattle.arc_parts.specs.Window.{PartsView}
+use Rattle.arc_writer_parts.specs.Roles.{HasWritersRole}
 use Rattle.arc_write.specs.Within.{StaysWithin}
 use Rattle.arc_write.proofs.Held.{extend_held}
 use Rattle.arc_write.proofs.Legal.{extend_legal}
+use Rattle.arc_write.proofs.Refused.{extend_same}
 use Rattle.arc_write.proofs.Within.{extend_within}
 use Rattle.arc_write.proofs.slice_mut.text.WriteWindow+Text+L+R+B+M+A+H.try_extend_from_str_as.Goals as goal
 
@@ -35,3 +37,14 @@ returns-clause-within g c =
     (extend_within of.several false g.H.Mark.whole 1 (length bytes) (of.seen c.self.inside.parts)
     new c.args.pass.now call.new.pass bytes (λ e. e) call.result call.ensures.extended
     call.ensures.refused))
+
+pub returns-clause-same : goal.returns-clause-same
+returns-clause-same g c =
+    let of = g.R.Parts.WriterParts in let call = c.try_extend_from_slice_as in
+    let role = subst (λ (w : PartsView ℕ g.row.M.Denot).
+    HasWritersRole of.several w.role) (sym c.self.view_is) c.known_place.ensures.role in
+    subst (λ (w : PartsView ℕ g.row.M.Denot). OnErr call.result
+    (of.seen call.new.self ≡ w)) c.self.view_is
+    (extend_same of.several false g.H.Mark.whole 1 (length c.as_bytes.result.now)
+    (of.seen c.self.inside.parts) (of.seen call.new.self) c.args.pass.now call.new.pass
+    role (λ e. e) call.result call.ensures.refused)
