@@ -38,24 +38,27 @@ in_place held bytes line too_long none holds =
 module _ {layout : ScriptLayout} {L A W : Type 0} {N : Named.Ghosts L W}
     {G : Layout.Ghosts L W} {K : Layout.Ghosts W W} where
   -- the same windows, out, line and flag make the same state
-  pub same_state : (early : ℕ) (start input : List ℕ) (w : Traffic) (e : Engine L A W N G K) (out held : List ℕ)
-      (state : ByteState) (too_long : Bool) → e.out.items ≡ out → e.table ≡ state
-      → e.line.items ≡ held → e.too_long ≡ too_long
-      → IsUnderway layout early start input w out state held too_long → HasRead layout early start input w e
-  same_state early start input w e out held state too_long same_out same_windows same_line same_flag u =
+  pub same_state : (early : ℕ) (start input : List ℕ) (w : Traffic) (e : Engine L A W N G K)
+      (out held : List ℕ) (state : ByteState) (too_long : Bool) → e.out.items ≡ out
+      → e.table ≡ state → e.line.items ≡ held → e.too_long ≡ too_long
+      → IsUnderway layout early start input w out state held too_long
+      → HasRead layout early start input w e
+  same_state early start input w e out held state too_long same_out same_windows same_line
+      same_flag u =
       subst
       (λ f. IsUnderway layout early start input w e.out.items e.table e.line.items f)
       (sym same_flag)
       (subst (λ l. IsUnderway layout early start input w e.out.items e.table l too_long)
       (sym same_line)
-      (subst (λ s. IsUnderway layout early start input w e.out.items s held too_long) (sym same_windows)
+      (subst (λ s. IsUnderway layout early start input w e.out.items s held too_long)
+      (sym same_windows)
       (subst (λ o. IsUnderway layout early start input w o state held too_long) (sym same_out) u)))
 
   -- the same windows and out make the same beginning
   same_begun : (fault : ScriptError) (early : ℕ) (start input : List ℕ) (w : Traffic)
-      (e : Engine L A W N G K) (out : List ℕ) (state : ByteState) → e.out.items ≡ out → e.table ≡ state
-      → IsBegun layout fault early start input w out state → IsBegun layout fault early start input w
-      e.out.items e.table
+      (e : Engine L A W N G K) (out : List ℕ) (state : ByteState) → e.out.items ≡ out
+      → e.table ≡ state → IsBegun layout fault early start input w out state
+      → IsBegun layout fault early start input w e.out.items e.table
   same_begun fault early start input w e out state same_out same_windows b =
       subst (λ o. IsBegun layout fault early start input w o e.table) (sym same_out)
       (subst (λ s. IsBegun layout fault early start input w out s) (sym same_windows) b)
@@ -192,7 +195,8 @@ module _ {layout : ScriptLayout} {L A W : Type 0} {N : Named.Ghosts L W}
       subst (λ xs. IsBegun layout Alloc early start xs w e1.out.items e1.table)
       (append_assoc input bytes (line_feed ∷ more)
       ∙ ap (λ xs. input ++ xs) (sym (append_assoc bytes (line_feed ∷ []) more)))
-      (subst (λ o. IsBegun layout Alloc early start ((input ++ bytes) ++ (line_feed ∷ [] ++ more)) w o
+      (subst
+      (λ o. IsBegun layout Alloc early start ((input ++ bytes) ++ (line_feed ∷ [] ++ more)) w o
       e1.table)
       (sym same_out) (line_broken held e1.table more may))
 
@@ -386,7 +390,8 @@ module _ {layout : ScriptLayout} {L A W : Type 0} {N : Named.Ghosts L W}
       → OnOk rest ((early : ℕ) (start input : List ℕ) (w : Traffic)
       → HasRead layout early start input w e
       → IsAnswered layout early start input w e1.out.items e1.table)
-      → OnErr rest ((early : ℕ) (start input : List ℕ) (w : Traffic) → HasRead layout early start input w e
+      → OnErr rest ((early : ℕ) (start input : List ℕ) (w : Traffic)
+      → HasRead layout early start input w e
       → IsBegun layout Alloc early start input w e1.out.items e1.table)
       → HasRead layout early start input w e → TakesFront e1.out.items w w'
       → IsBegun layout Write early start input w' [] e1.table

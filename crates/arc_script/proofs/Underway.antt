@@ -375,6 +375,26 @@ module _ {layout : ScriptLayout} {early : ℕ} {start input out held : List ℕ}
     };
   }
 
+  -- where nothing is held of a line, all lines are answered
+  pub none_behind : held ≡ [] → too_long ≡ false
+      → IsAnswered layout early start input writer out state
+  none_behind none short =
+      let same : held ≡ u.line = subst (λ f. Holds held f u.line) short u.holds in
+      record {
+        text = u.text;
+        taken = u.taken;
+        all = record {
+          lines = u.whole;
+          replies = u.replies;
+          cut =
+              whole_lines u.whole input u.each
+              (u.cut ∙ ap (λ xs. ended u.whole ++ xs) (sym same ∙ none));
+          run = u.run;
+          written = u.written;
+        };
+        settled = u.settled;
+      }
+
   -- whatever is read more, what was written and what is held begins the replies
   pub still_begun : (fault : ScriptError) (more : List ℕ)
       → IsBegun layout fault early start (input ++ more) writer out state

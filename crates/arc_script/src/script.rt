@@ -164,8 +164,10 @@ where
         × CarriesOutSaid L.named table.old (option_map line_command said) reply table.new) }
 {
     match said {
-        Some(Cmd::Show { window }) => push_answer(out, &table.show_in_place(window)),
         Some(command) => {
+            if let Cmd::Show { window } = command {
+                return push_answer(out, &table.show_in_place(window));
+            }
             let reply = table.step(rt, command);
             push_answer(out, &reply)
         }

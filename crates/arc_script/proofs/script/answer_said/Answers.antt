@@ -10,13 +10,13 @@ use Rattle.arc_script.proofs.Going.{on_ok_then}
 use Rattle.arc_script.proofs.States.{may_need, not_lends, shown_said}
 use Rattle.arc_script.proofs.script.answer_said.Goals as goal
 
-pub returns-in-Some-Show : goal.returns-in-Some-Show
-returns-in-Some-Show g c =
+pub returns-in-Show : goal.returns-in-Show
+returns-in-Show g c =
     let reply = line_reply (λ items. items.now) c.show_in_place.result in
     let does =
     shown_said g.L.NamedLayout.named g.met.L.NamedLayout.run_so
-    (c.in-Some-Show.is ∙ ap (λ command. Some command) c.in-Some-Show.field-0-is)
-    c.in-Some-Show.window-is c.show_in_place.ensures.carried c.show_in_place.ensures.lent in
+    (c.in-Some.is ∙ ap (λ command. Some command) c.in-Show.is)
+    c.in-Show.window-is c.show_in_place.ensures.carried c.show_in_place.ensures.lent in
     let push = c.push_answer in
     record {
       ok = on_ok_then push.result push.ensures.ok (λ wrote.
@@ -25,8 +25,8 @@ returns-in-Some-Show g c =
       broken = on_err push.result (Some reply, does);
     }
 
-pub returns-in-Some : goal.returns-in-Some
-returns-in-Some g c =
+pub returns-in_default : goal.returns-in_default
+returns-in_default g c =
     let table = c.args.table.now in
     let reply = line_reply vec_items c.step-reply.result in
     let does : CarriesOutSaid g.L.NamedLayout.named table (option_map line_command c.args.said)
@@ -36,9 +36,9 @@ returns-in-Some g c =
       subst (λ s. CarriesOut s table (line_command c.in-Some.command) reply
           c.step-reply.new.self) g.met.L.NamedLayout.run_so c.step-reply.ensures,
       may_need (line_command c.in-Some.command) reply
-          (not_lends c.in-Some.command c.in-Some.not-Show),
+          (not_lends c.in-Some.command c.in_default.not-Show),
     ) in
-    let push = c.push_answer-in-Some in
+    let push = c.push_answer-in_default in
     record {
       ok = on_ok_then push.result push.ensures.ok (λ wrote.
           record { answer = Some reply; does = does; appended = wrote });

@@ -24,12 +24,13 @@ returns-in_err-flush-clause-err g c =
     if_err_as _ c.from_residual.result _ Write c.from_residual.ensures.1 flush.write
     (λ early start input read.
     subst (IsBegun g.L.NamedLayout.named Write early start input w' []) (sym flush.windows)
-    (rest_then_stops rest.result early start input _ w' c.args.self.now rest.new.self rest.ensures.ok
-    rest.ensures.err read flush.err))
+    (rest_then_stops rest.result early start input _ w' c.args.self.now rest.new.self
+    rest.ensures.ok rest.ensures.err read flush.err))
 
 pub returns-clause-ok : goal.returns-clause-ok
 returns-clause-ok g c = λ early start input read.
     let w = g.W.Sink.traffic c.args.writer.now in
     let w' = g.W.Sink.traffic c.flush.new.writer in
-    subst (IsAnswered g.L.NamedLayout.named early start input w' []) (sym c.in_ok-flush.ensures.windows)
+    subst (IsAnswered g.L.NamedLayout.named early start input w' [])
+    (sym c.in_ok-flush.ensures.windows)
     (all_out w' (c.in_ok-answered.ensures.ok early start input w read) c.in_ok-flush.ensures.ok)

@@ -28,7 +28,8 @@ returns-then-not-branch-clause-ok g c =
     let run = c.in_ok-take_piece.ensures.ok _ _ c.pieces.invariant.running in
     let w = g.W.Sink.traffic c.args.writer.now in
     on_ok_then c.finish.result c.finish.ensures.ok (λ h.
-    exchange_answered _ _ w _ _ run.input run.given (h (feeds run.input) w.bytes run.input run.read))
+    exchange_answered _ _ w _ _ run.input run.given
+    (h (feeds run.input) w.bytes run.input run.read))
 
 pub returns-then-not-branch-clause-end : goal.returns-then-not-branch-clause-end
 returns-then-not-branch-clause-end g c =

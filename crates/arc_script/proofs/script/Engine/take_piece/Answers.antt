@@ -68,7 +68,8 @@ returns-in_ok-flush-in-Ok-feed-clause-taken g c =
 pub returns-in-Err-Write-clause-begun : goal.returns-in-Err-Write-clause-begun
 returns-in-Err-Write-clause-begun g c = λ r w run.
     run_stops_writing r _ _ w _ _ c.args.self.now c.feed.new.self _ _ run
-    (ap (λ t. t.bytes) c.in-Ok.ensures.told) (ap (λ t. t.last) c.in-Ok.ensures.told) c.in-Err-Write.field-0-is c.in-Err-Write.ensures.err
+    (ap (λ t. t.bytes) c.in-Ok.ensures.told) (ap (λ t. t.last) c.in-Ok.ensures.told)
+    c.in-Err-Write.field-0-is c.in-Err-Write.ensures.err
 
 pub returns-in_ok-flush-in-Err-clause-taken : goal.returns-in_ok-flush-in-Err-clause-taken
 returns-in_ok-flush-in-Err-clause-taken g c =
