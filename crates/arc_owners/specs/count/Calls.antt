@@ -115,7 +115,7 @@ module _ {H : Type 0} where
     pub kept : IsPrefix (history_of old) (history_of new)
     pub own : mine new ≡ mine old
     pub undisturbed : o.block.whole ≡ true → history_of new ≡ history_of old
-    pub alone : IsAlone o.number (seen new)
+    pub alone : IsAlone o.block.most o.number (seen new)
 
   -- Uniqueness was read. The answer is yes exactly where no other owner lived. On a lone word it is
   -- yes, and no entry is added.
@@ -123,7 +123,7 @@ module _ {H : Type 0} where
     pub before : List Line
     pub added : Appends o.block old new before
         (if is_counted o.block.began (entries_of before) then Alone o.number found ∷ [] else [])
-    pub exact : IsTrue found ↔ IsAlone o.number (entries_of before)
+    pub exact : IsTrue found ↔ IsAlone o.block.most o.number (entries_of before)
 
   -- No entry was added; or the exchange that promotes a lone word lost, where the pass didn't know
   -- that the word has a count.
@@ -169,7 +169,7 @@ module _ {H : Type 0} where
   pub record Leaves (o : Owner) (old new : Pass H) (last : Bool) : Type 0 where
     pub before : List Line
     pub added : Appends o.block old new before (Down o.number ∷ [])
-    pub exact : IsTrue last ↔ IsAlone o.number (entries_of before)
+    pub exact : IsTrue last ↔ IsAlone o.block.most o.number (entries_of before)
 
   -- this owner asked, was alone, and ended as the last one
   pub record TakesBlock (o : Owner) (old new : Pass H) : Type 0 where

@@ -82,7 +82,7 @@ IsNext most old next = old < 2 ^ 64 - 1 → next ≡ next_count most old
 -- this owner ended, and whether it was the last one
 abbrev pub Ends : BlockId → PassState → PassState → ℕ → Bool → Type 0
 Ends t p r o last = (before : List Line) × AddedTo t p.number p.lines (λ _. Down o) before r.lines
-    × (IsTrue last ↔ IsAlone o (entries_of before))
+    × (IsTrue last ↔ IsAlone t.most o (entries_of before))
 
 -- the pass sees the block's whole history, in which this owner lives alone; it added nothing, and
 -- under `Whole` it had seen it all
@@ -90,7 +90,8 @@ abbrev pub SeesSole : {H : Type 0} → OwnerToken H → PassState → PassState 
 SeesSole own p r =
     SamePass own.block p r × IsPrefix p.lines r.lines
     × (made_by p.number r.lines ≡ made_by p.number p.lines)
-    × (own.block.whole ≡ true → r.lines ≡ p.lines) × IsAlone own.owner (entries_of r.lines)
+    × (own.block.whole ≡ true → r.lines ≡ p.lines)
+    × IsAlone own.block.most own.owner (entries_of r.lines)
 
 -- a new pass of a block: it has seen these lines, and made nothing
 abbrev pub IsForkOf : BlockId → List Line → PassState → Type 0
