@@ -32,7 +32,7 @@ pub trait Mark: sealed::Sealed {
     /// The word of a new block, its first owner's right and the first pass. The block is lent to
     /// that owner, or not. Only this crate can call it, so only its counts have tokens of a mark.
     fn open(by: Internal, most: u64, lent: bool) -> (Word, OwnerToken<Self>, PassState)
-        requires { 1 ≤ most }
+        requires { 2 ≤ most }
         ensures { IsOpened most Self.whole lent result.0 result.1 result.2 };
 
     /// Shows that a pass exists that has seen what this one has seen. The pass is used up, so no

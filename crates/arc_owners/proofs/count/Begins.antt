@@ -77,15 +77,16 @@ first-leased : (l : Lease) (o : ℕ) (k : Lease) → get_or (first_state l).roll
 first-leased l zero k e = ap (λ (x : Bool × Lease). x.1) (sym e)
 first-leased l (suc o) k e = absurd (false≢true (ap (λ (x : Bool × Lease). x.0) e))
 
-first-fits : (t : BlockId) (l : Lease) → 1 ≤ t.most → t.most < 2 ^ 64 → Fits t (first_state l)
+first-fits : (t : BlockId) (l : Lease) → 2 ≤ t.most → t.most < 2 ^ 64 → Fits t (first_state l)
 unfolding live_owners owners_ever owners_ended
-first-fits t l one small = record {
+first-fits t l two small = record {
   legal = legal-nil t.most t.began;
   live = refl;
   ever = refl;
   made = first-made l;
   leased = first-leased l;
-  within = one;
+  within = (let e : 1 ≤ t.most = omega arith in e);
+  least = two;
   small = small;
 }
 
@@ -365,6 +366,7 @@ module _ {M : Type 1} {𝓤 : Ura M} (𝓛 : Logic 𝓤) where
           made = more-made a f;
           leased = f.leased;
           within = f.within;
+          least = f.least;
           small = f.small;
         } in
         -- [the pass; latest; seats; located; roll; tally; pool]

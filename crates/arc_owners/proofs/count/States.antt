@@ -85,6 +85,7 @@ fits-relet t a f o k l low is one = let same : living 0 (set a.roll o (true, l))
       made = f.made;
       leased = relet-leased t a f o k l low is one;
       within = subst (λ (ns : List ℕ). length ns ≤ t.most) (sym same) f.within;
+      least = f.least;
       small = f.small;
     }
 
@@ -126,6 +127,7 @@ module _ (t : BlockId) (a : State) (f : Fits t a) (p : ℕ) (ready : Bool)
     made = made-wrote e a.roll;
     leased = f.leased;
     within = f.within;
+    least = f.least;
     small = f.small;
   }
 
@@ -169,6 +171,7 @@ module _ (t : BlockId) (a : State) (f : Fits t a) (p : ℕ) (ready : Bool)
     leased = raised-leased;
     within = (let below : length (live_owners h) < t.most = may.3 in
         omega (arith, how_many-raised, ap length f.live));
+    least = f.least;
     small = f.small;
   }
 
@@ -213,6 +216,7 @@ module _ (t : BlockId) (a : State) (f : Fits t a) (p : ℕ) (ready : Bool)
     made = made-wrote e (lowered o);
     leased = lowered-leased o low;
     within = omega (arith, f.within, how_many-lowered o l is);
+    least = f.least;
     small = f.small;
   }
 

@@ -213,6 +213,7 @@ pub record FitsFor (most : ℕ) (began : Beginning) (a : State) : Type 0 where
   pub leased : (o : ℕ) (l : Lease) → slice_index_or a.roll o (false, no_lease) ≡ (true, l)
       → l ≡ a.lease
   pub within : how_many a.roll ≤ most
+  pub least : 2 ≤ most
   pub small : most < 2 ^ 64
 
 -- the state is true of the block

@@ -111,7 +111,7 @@ impl Word {
     /// The word of a new block, its one owner's right, and a pass. The block is lent to that owner,
     /// or not.
     pub(crate) fn open<H>(most: u64, whole: bool, lent: bool) -> (Word, OwnerToken<H>, PassState)
-        requires { 1 ≤ most }
+        requires { 2 ≤ most }
         ensures { IsOpened most whole lent result.0 result.1 result.2 }
     {
         let _ = (most, whole, lent);
