@@ -5,6 +5,7 @@ pub mod Calls
 pub mod Cells
 pub mod Ends
 pub mod Fields
+pub mod Lodgings
 pub mod Markers
 pub mod Moves
 pub mod OneCall

@@ -177,10 +177,10 @@ module _ {H : Type 0} (t : BlockId) (p r : Pass H) where
   }
 
 -- the first owner of a new block
-pub first_of : {K : Type 0} (most : ℕ) (whole lent : Bool) (t : BlockId) (r : OwnerToken K)
-    (p : PassState) → IsOpened most whole lent t r p
-    → IsFirst most whole Counted (record { block = r.block; number = r.owner; born = r.born })
-first_of most whole lent t r p so = let same : r.block ≡ t = so.3.1 in record {
+pub first_of : {K : Type 0} (most : ℕ) (began : Beginning) (whole lent : Bool) (t : BlockId)
+    (r : OwnerToken K) (p : PassState) → IsOpened most began whole lent t r p
+    → IsFirst most whole began (record { block = r.block; number = r.owner; born = r.born })
+first_of most began whole lent t r p so = let same : r.block ≡ t = so.3.1 in record {
   number = so.5;
   born = so.6;
   most = ap (λ (k : BlockId). k.most) same ∙ so.0;
@@ -205,10 +205,11 @@ sees_alone own p r so = record {
 }
 
 -- the first owner lives alone after nothing
-pub alone_first : {K : Type 0} (most : ℕ) (whole lent : Bool) (t : BlockId) (r : OwnerToken K)
-    (p : PassState) → IsOpened most whole lent t r p → LivesAlone r.owner (entries_of p.lines)
+pub alone_first : {K : Type 0} (most : ℕ) (began : Beginning) (whole lent : Bool) (t : BlockId)
+    (r : OwnerToken K) (p : PassState) → IsOpened most began whole lent t r p
+    → LivesAlone r.owner (entries_of p.lines)
 unfolding live_owners owners_ever owners_ended
-alone_first most whole lent t r p so =
+alone_first most began whole lent t r p so =
     ap (λ (ls : List Line). live_owners (entries_of ls)) so.9 ∙ ap (λ (n : ℕ). n ∷ []) (sym so.5)
 
 -- an owner that was dropped, where the mark has many passes

@@ -276,22 +276,22 @@ module _ {M : Type 1} {𝓤 : Ura M} (𝓛 : Logic 𝓤) (𝓜 : Model 𝓤 𝓛
         let out : ℕ → Fml = λ n. fsep (flft κ₀ q₀) (after n) in
         qed 𝓛 (‵ (word_shares t (block_ptr b o) κ₀) ∷ ‵ (flft κ₀ q₀) ∷ ‵ (T seen) ∷ ‵ R ∷ ‵ owed
         ∷ []) ∵ updating ! $
-        fpick ! (λ z. fsplit3 ! $ move ! (1 ∷ []) $ fpick ! (λ past. drop ! $
-        -- [the lifetimes; the word's invariant; the token; the pass; the right; what is owed]
+        fpick ! (λ z. fsplit ! $
+        -- [the lifetimes; the word's borrow; the token; the pass; the right; what is owed]
         move ! (0 ∷ 2 ∷ []) $ use2 𝓛 (later (some (λ (s : Share). ‵ (flft z.0 s)
         ⊛ raw (At.lft z.0 s -∗ H.⇛ (At.lft κ₀ q₀)))))
         (Lends-one 𝓛 𝓜 𝓡 κ₀ z.0 q₀) $ await ! tt $ pick ! (λ s. split ! $
         let held : ℕ → Fml = λ n. fsep (flft z.0 s) (after n) in
         let Back : Pr = At.lft z.0 s -∗ H.⇛ (At.lft κ₀ q₀) in
-        -- [the word's token; its way back; the word's invariant; the pass; the right; what is owed]
+        -- [the word's token; its way back; the word's borrow; the pass; the right; what is owed]
         move ! (2 ∷ 0 ∷ 3 ∷ 4 ∷ 5 ∷ []) $ group ! 5 $ use1 𝓛 (raw (Answers held))
-        (via 𝓤 _ (places.by_reference 𝓛 t p ready seen own l q owed op steps z.0 s z.1 b o past)
+        (via 𝓤 _ (places.by_reference 𝓛 t p ready seen own l q owed op steps z.0 s z.1 b o)
         (calls held)) $
         use2 𝓛 (raw (Answers out)) (carries held out Back (λ n. qed 𝓛 (‵ (held n) ∷ raw Back ∷ []) ∵
         updating ! $
         fsplit ! $ move ! (0 ∷ 2 ∷ []) $ use2 𝓛 (later (‵ (flft κ₀ q₀)))
         (apply∗ 𝓤 (At.lft z.0 s) (H.⇛ (At.lft κ₀ q₀))) $
-        await ! tt $ now ! $ fjoin ! $ done !)) $ now ! $ done !)))
+        await ! tt $ now ! $ fjoin ! $ done !)) $ now ! $ done !))
 
     -- the same of an owner that is borrowed itself, with a share of its right
     pub borrowed : (next : ℕ → ℕ) (entry : ℕ → List Line → Option Entry) (gain : Share → ℕ

@@ -3,7 +3,7 @@ use Rattle.std.specs.Prelude.{◌≡◌, ℕ, ◌+◌, ◌-◌, ◌^◌, ◌<◌
 use mathlib.Core.List.{IsPrefix}
 use Rattle.arc_owners.specs.declared.history.entry.Entry.{Entry}
 use Rattle.arc_owners.specs.declared.history.entry.Entry.TheVariants.{Down}
-use Rattle.arc_owners.specs.history.Histories.{Counted, IsAlone}
+use Rattle.arc_owners.specs.history.Histories.{Beginning, IsAlone}
 use Rattle.arc_owners.specs.declared.count.word.OwnerToken.{OwnerToken}
 use Rattle.arc_owners.specs.declared.count.word.PassState.{PassState}
 use Rattle.arc_owners.specs.declared.count.word.WordBorrow.{WordBorrow}
@@ -34,12 +34,12 @@ IsWithoutLifetime r w = (w.block ≡ r.block) × (w.owner ≡ r.owner) × (w.lea
 abbrev pub IsOf : BlockId → PassState → Type 0
 IsOf t p = (p.bound ≡ true) × (p.block ≡ t)
 
--- the word of a new block, its first owner, to whom it is lent or not, and a pass that has seen
--- nothing
-abbrev pub IsOpened : {H : Type 0} → ℕ → Bool → Bool → BlockId → OwnerToken H → PassState
-    → Type 0
-IsOpened most whole lent t r p =
-    (t.most ≡ most) × (t.began ≡ Counted) × (t.whole ≡ whole)
+-- the word of a new block, which begins with a count or lone, its first owner, to whom it is lent or
+-- not, and a pass that has seen nothing
+abbrev pub IsOpened : {H : Type 0} → ℕ → Beginning → Bool → Bool → BlockId → OwnerToken H
+    → PassState → Type 0
+IsOpened most began whole lent t r p =
+    (t.most ≡ most) × (t.began ≡ began) × (t.whole ≡ whole)
     × ((r.held ≡ true) × (r.block ≡ t) × (r.lease.is_lent ≡ lent)) × IsOf t p × (r.owner ≡ 0)
     × (r.born ≡ [])
     × (p.number ≡ 0) × (p.ready ≡ false) × (p.lines ≡ [])
