@@ -1,4 +1,5 @@
 pub mod AtType
+pub mod Bank
 pub mod Begins
 pub mod Blocks
 pub mod Calls
