@@ -276,7 +276,7 @@ module _ {M : Type 1} {𝓤 : Ura M} (𝓛 : Logic 𝓤) where
     abbrev N : Fml
     N = fnamed t.number J
 
-    still : (w : Bool) (seen ls : List Line) → (w ≡ true → seen ≡ ls) → ⟦ withheld t w seen ⟧
+    pub still : (w : Bool) (seen ls : List Line) → (w ≡ true → seen ≡ ls) → ⟦ withheld t w seen ⟧
         ⊢ ⟦ withheld t w ls ⟧
     still true seen ls e = subst (λ (x : List Line). ⟦ withheld t true seen ⟧
         ⊢ ⟦ withheld t true x ⟧) (e refl) (id⊢ 𝓤 _)
