@@ -7,6 +7,7 @@ pub mod Cells
 pub mod Ends
 pub mod Fields
 pub mod Lodgings
+pub mod LoneCalls
 pub mod LoneMoves
 pub mod Markers
 pub mod Moves

@@ -36,7 +36,7 @@ last-is front before x y e = let parts = same_from_push front before x y e in
     λ i. (parts.0 i, parts.1 i)
 
 -- lines of which this pass made none are those of others
-others : (p : ℕ) (ls : List Line) → made_by p ls ≡ [] → All (λ (l : Line). ¬ (l.0 ≡ p)) ls
+pub others : (p : ℕ) (ls : List Line) → made_by p ls ≡ [] → All (λ (l : Line). ¬ (l.0 ≡ p)) ls
 others p [] none = All-nil (λ (l : Line). ¬ (l.0 ≡ p))
 others p (l ∷ ls) none = elim (cases_Bool (eqb l.0 p)) [
   | inl own ↦ (let e : l.1 ∷ made_by p ls ≡ [] = subst
@@ -46,7 +46,7 @@ others p (l ∷ ls) none = elim (cases_Bool (eqb l.0 p)) [
       other none))
 ]
 
-none_own : (p : ℕ) (seen before : List Line) (a : IsPrefix seen before)
+pub none_own : (p : ℕ) (seen before : List Line) (a : IsPrefix seen before)
     → made_by p before ≡ made_by p seen → made_by p a.0 ≡ []
 none_own p seen before a own = append_cancel_left (made_by p seen) (made_by p a.0) []
     (sym (made-after p seen a.0) ∙ (ap (made_by p) a.1 ∙ (own ∙ sym (append-nil (made_by p seen)))))
