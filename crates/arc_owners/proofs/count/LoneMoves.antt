@@ -10,14 +10,14 @@ use base.Fraction.{full_share}
 use base.Share
 use base.Share.{quarter, three_quarters}
 use base.Stored.{coded_ℕ}
-use base.Logic.{ex, guard, upd, id⊢, upd_i}
-use base.Fml.{Share, Fml, ftrue, fsep, flft}
+use base.Logic.{guard, upd, id⊢, upd_i}
+use base.Fml.{Share, Fml, ftrue, fsep, fex, flft}
 use base.Growing.{latest, at_least, once}
 use types.Logic.{Logic}
 use types.Keyed.{ticket}
 use types.Growing.{latest_grows, latest_shows, latest_agrees, latest_cut, latest_glue, at_least_dup}
 use types.Kit.{‵, raw, ◌⊛◌, given, ◌$◌, ◌∵◌, !, qed, by, move, drop, split, split3, group, fsplit}
-use types.Kit.{fjoin, fpick, fpack, learn, check, show, frame, done, use1, use2, rewrite, suffices}
+use types.Kit.{fjoin, fpick, fpack, learn, check, frame, done, use1, use2, rewrite, suffices}
 use types.Kit.{settle}
 use denote.Steps.{nothing}
 use Rattle.arc_owners.specs.declared.history.entry.Entry.{Entry}
@@ -138,18 +138,27 @@ module _ {M : Type 1} {𝓤 : Ura M} (𝓛 : Logic 𝓤) (t : BlockId) where
         -- [the pass; latest; seats]
         move ! (1 ∷ 0 ∷ []) $ done !
 
-    -- what a pass has seen by a load of the cell that found this
-    abbrev pub SeesAll : Bool → Option (ℕ × ℕ) → List Line → Pr
-    SeesAll r x ls = guard 𝓤 (IsPrefix seen ls × (made_by p ls ≡ made_by p seen)
-        × (t.whole ≡ true → seen ≡ ls) × (is_counted t.began (entries_of ls) ≡ is_there x)
-        × IsLegal t.most t.began (entries_of ls) × Lives o (entries_of ls))
-        ⟦ pass_holds t p r ls ⟧
+    -- what a pass has seen by a load of the cell that found this: all of the history
+    abbrev pub IsAll : Option (ℕ × ℕ) → List Line → Type 0
+    IsAll x ls = IsPrefix seen ls × (made_by p ls ≡ made_by p seen) × (t.whole ≡ true → seen ≡ ls)
+        × (is_counted t.began (entries_of ls) ≡ is_there x)
+        × IsLegal t.most t.began (entries_of ls) × Lives o (entries_of ls)
+
+    abbrev pub sees_as : (List Line → Fml) → Option (ℕ × ℕ) → List Line → Fml
+    sees_as pass x ls = fsep (told (IsAll x ls)) (pass ls)
+
+    abbrev pub sees : (List Line → Fml) → Option (ℕ × ℕ) → Fml
+    sees pass x = fex (List Line) (sees_as pass x)
+
+    abbrev pub holding : Bool → List Line → Fml
+    holding r ls = pass_holds t p r ls
 
     pub sees_all : (q : Share) (r : Bool) (x : Option (ℕ × ℕ))
         → ⟦ cell_holds t x ⟧ ∗ ⟦ contents t ⟧ ∗ ⟦ pass_holds t p ready seen ⟧ ∗ ⟦ right t o l q ⟧
-        ⊢ upd 𝓤 (⟦ cell_holds t x ⟧ ∗ ⟦ contents t ⟧ ∗ ⟦ right t o l q ⟧ ∗ ex 𝓤 (SeesAll r x))
+        ⊢ upd 𝓤 (⟦ cell_holds t x ⟧ ∗ ⟦ contents t ⟧ ∗ ⟦ right t o l q ⟧
+        ∗ ⟦ sees (holding r) x ⟧)
     sees_all q r x = let C : Fml = cell_holds t x in let R : Fml = right t o l q in
-        let Z : Pr = ⟦ C ⟧ ∗ ⟦ contents t ⟧ ∗ ⟦ R ⟧ ∗ ex 𝓤 (SeesAll r x) in
+        let Z : Pr = ⟦ C ⟧ ∗ ⟦ contents t ⟧ ∗ ⟦ R ⟧ ∗ ⟦ sees (holding r) x ⟧ in
         qed 𝓛 (‵ C ∷ ‵ (contents t) ∷ ‵ (pass_holds t p ready seen) ∷ ‵ R ∷ []) ∵
         move ! (1 ∷ 2 ∷ 3 ∷ 0 ∷ []) $ by ! (opened 𝓛 t p ready seen o l q ⟦ C ⟧ (upd 𝓤 Z)
         (λ a so owner. let m : ℕ = how_many a.roll in let ls : List Line = a.lines in
@@ -173,28 +182,30 @@ module _ {M : Type 1} {𝓤 : Ura M} (𝓛 : Logic 𝓤) (t : BlockId) where
         (shuts 𝓛 t a' (fits-reseated t a so.fits p ready so.seat_is.0 r)) $
         -- [contents; pass; the cell's place; what lies there; right]
         move ! (2 ∷ 3 ∷ []) $ fjoin ! $ frame ! $ frame ! $ move ! (1 ∷ []) $ frame ! $
-        show ! (SeesAll r x) ls $ check ! (
+        nothing ! $ fpack ! (IsAll x ls) (λ _. ftrue) (
           so.seen_is.0,
           made_kept 𝓛 t p ready seen a so,
           so.seen_is.1,
           counted,
           so.fits.legal,
           lives t a so.fits p ready so.seat_is.0 o l owner.1,
-        ) $ done !)))
+        ) $ fjoin ! $ fpack ! (List Line) (sees_as (holding r) x) ls $ done !)))
 
-    abbrev Left : ℕ → (List Line → Option Entry) → (List Line → Fml) → Pr
-    Left n entry gain = ⟦ left t p seen (pass_holds t p ready) n entry gain ⟧
+    -- what a lost exchange leaves, however many live
+    abbrev pub lost_at : (List Line → Fml) → Share → ℕ → Fml
+    lost_at pass q n = left t p seen pass n (λ _. some (Joined o)) (λ _. right t o l q)
+
+    abbrev pub lost : (List Line → Fml) → Share → Fml
+    lost pass q = fex ℕ (lost_at pass q)
 
     -- the exchange is lost: the word has a count since another won
     pub joins : t.began ≡ Lone → (q : Share) (x : ℕ × ℕ)
         → ⟦ cell_holds t (some x) ⟧ ∗ ⟦ contents t ⟧ ∗ ⟦ pass_holds t p ready seen ⟧
         ∗ ⟦ right t o l q ⟧
-        ⊢ upd 𝓤 (⟦ cell_holds t (some x) ⟧ ∗ ⟦ contents t ⟧
-        ∗ ex 𝓤 (λ (n : ℕ). Left n (λ _. some (Joined o)) (λ _. right t o l q)))
+        ⊢ upd 𝓤 (⟦ cell_holds t (some x) ⟧ ∗ ⟦ contents t ⟧ ∗ ⟦ lost (pass_holds t p ready) q ⟧)
     joins lone q x = let C : Fml = cell_holds t (some x) in let R : Fml = right t o l q in
         let e : Entry = Joined o in
-        let Lost : ℕ → Pr = λ n. Left n (λ _. some e) (λ _. R) in
-        let Z : Pr = ⟦ C ⟧ ∗ ⟦ contents t ⟧ ∗ ex 𝓤 Lost in
+        let Z : Pr = ⟦ C ⟧ ∗ ⟦ contents t ⟧ ∗ ⟦ lost (pass_holds t p ready) q ⟧ in
         qed 𝓛 (‵ C ∷ ‵ (contents t) ∷ ‵ (pass_holds t p ready seen) ∷ ‵ R ∷ []) ∵
         move ! (1 ∷ 2 ∷ 3 ∷ 0 ∷ []) $ by ! (opened 𝓛 t p ready seen o l q ⟦ C ⟧ (upd 𝓤 Z)
         (λ a so owner. let m : ℕ = how_many a.roll in
@@ -229,8 +240,8 @@ module _ {M : Type 1} {𝓤 : Ura M} (𝓛 : Logic 𝓤) (t : BlockId) where
         (follows 𝓛 t p ready seen a so m refl e may f'.legal) $ fjoin ! $
         fpack ! (List Line) (left_by t p seen (pass_holds t p ready) m (λ _. some e) (λ _. R))
         a.lines $
-        move ! (2 ∷ 3 ∷ []) $ fjoin ! $ frame ! $ move ! (1 ∷ []) $ frame ! $
-        show ! Lost m $ done !)))
+        fpack ! ℕ (lost_at (pass_holds t p ready) q) m $
+        move ! (2 ∷ 3 ∷ []) $ fjoin ! $ move ! (0 ∷ 2 ∷ 1 ∷ []) $ done !)))
 
     abbrev pub promotion : List Line → Option Entry
     promotion before = some (Promote o (next_owner before))
@@ -238,16 +249,19 @@ module _ {M : Type 1} {𝓤 : Ura M} (𝓛 : Logic 𝓤) (t : BlockId) where
     abbrev pub promoted : Share → List Line → Fml
     promoted q before = fsep (right t o l q) (made_if t l true (next_owner before))
 
+    abbrev pub won : (List Line → Fml) → Share → Fml
+    won pass q = left t p seen pass 1 promotion (promoted q)
+
     -- the exchange is won: the count, of two owners, lies at this place
     pub promotes : l.is_lent ≡ true → (q : Share) (x : ℕ × ℕ)
         → ⟦ cell_holds t none ⟧ ∗ ⟦ contents t ⟧ ∗ ⟦ pass_holds t p ready seen ⟧
         ∗ ⟦ right t o l q ⟧
         ⊢ upd 𝓤 (⟦ placed t quarter (some x) ⟧ ∗ ⟦ behind t 2 ⟧
-        ∗ ⟦ at_least places t.place (some x) ⟧ ∗ ⟦ contents t ⟧ ∗ Left 1 promotion (promoted q))
+        ∗ ⟦ at_least places t.place (some x) ⟧ ∗ ⟦ contents t ⟧ ∗ ⟦ won (pass_holds t p ready) q ⟧)
     promotes lent q x = let C : Fml = cell_holds t none in let R : Fml = right t o l q in
         let here : Option (ℕ × ℕ) = some x in let K : Fml = at_least places t.place here in
         let Z : Pr = ⟦ placed t quarter here ⟧ ∗ ⟦ behind t 2 ⟧ ∗ ⟦ K ⟧ ∗ ⟦ contents t ⟧
-        ∗ Left 1 promotion (promoted q) in
+        ∗ ⟦ won (pass_holds t p ready) q ⟧ in
         qed 𝓛 (‵ C ∷ ‵ (contents t) ∷ ‵ (pass_holds t p ready seen) ∷ ‵ R ∷ []) ∵
         move ! (1 ∷ 2 ∷ 3 ∷ 0 ∷ []) $ by ! (opened 𝓛 t p ready seen o l q ⟦ C ⟧ (upd 𝓤 Z)
         (λ a so owner. let m : ℕ = how_many a.roll in let h : List Entry = entries_of a.lines in
@@ -339,10 +353,10 @@ module _ {M : Type 1} {𝓤 : Ura M} (𝓛 : Logic 𝓤) (t : BlockId) where
         → ⟦ cell_holds t none ⟧ ∗ ⟦ contents t ⟧ ∗ ⟦ pass_holds t p ready seen ⟧
         ∗ ⟦ right t o l quarter ⟧ ∗ ⟦ stake l ⟧
         ⊢ upd 𝓤 (⟦ cell_holds t none ⟧ ∗ ⟦ contents t ⟧ ∗ ⟦ claim_gain t o l true ⟧
-        ∗ ex 𝓤 (SeesAll r none))
+        ∗ ⟦ sees (holding r) none ⟧)
     claims_lone lent r = let C : Fml = cell_holds t none in let R : Fml = right t o l quarter in
         let k : Lease = taken l in let G : Fml = claim_gain t o l true in
-        let Z : Pr = ⟦ C ⟧ ∗ ⟦ contents t ⟧ ∗ ⟦ G ⟧ ∗ ex 𝓤 (SeesAll r none) in
+        let Z : Pr = ⟦ C ⟧ ∗ ⟦ contents t ⟧ ∗ ⟦ G ⟧ ∗ ⟦ sees (holding r) none ⟧ in
         qed 𝓛 (‵ C ∷ ‵ (contents t) ∷ ‵ (pass_holds t p ready seen) ∷ ‵ R ∷ ‵ (stake l) ∷ []) ∵
         move ! (1 ∷ 2 ∷ 3 ∷ 0 ∷ 4 ∷ []) $
         by ! (opened 𝓛 t p ready seen o l quarter (⟦ C ⟧ ∗ ⟦ stake l ⟧) (upd 𝓤 Z)
@@ -394,11 +408,11 @@ module _ {M : Type 1} {𝓤 : Ura M} (𝓛 : Logic 𝓤) (t : BlockId) where
         (fits-reseated t a so.fits p ready so.seat_is.0 r) o l k owner.0 owner.1 one)) $
         -- [contents; what is gained; pass; the cell's place; its quarter]
         move ! (3 ∷ 4 ∷ []) $ fjoin ! $ frame ! $ frame ! $ frame ! $
-        show ! (SeesAll r none) ls $ check ! (
+        nothing ! $ fpack ! (IsAll none ls) (λ _. ftrue) (
           so.seen_is.0,
           made_kept 𝓛 t p ready seen a so,
           so.seen_is.1,
           lone,
           so.fits.legal,
           there,
-        ) $ done !)))
+        ) $ fjoin ! $ fpack ! (List Line) (sees_as (holding r) none) ls $ done !)))

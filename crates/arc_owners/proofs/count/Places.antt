@@ -126,7 +126,7 @@ module _ {M : Type 1} {𝓤 : Ura M} (𝓛 : Logic 𝓤) (t : BlockId) where
     abbrev B : Fml
     B = pass_holds t p ready seen
 
-    resumes : (ls : List Line) → ⟦ N ⟧ ∗ ⟦ pass_holds t p ready ls ⟧ ⊢ ⟦ T ls ⟧
+    pub resumes : (ls : List Line) → ⟦ N ⟧ ∗ ⟦ pass_holds t p ready ls ⟧ ⊢ ⟦ T ls ⟧
     resumes ls = qed 𝓛 (‵ N ∷ ‵ (pass_holds t p ready ls) ∷ []) ∵
         move ! (1 ∷ []) $ fsplit ! $ move ! (2 ∷ 0 ∷ []) $ fjoin ! $ fjoin ! $ done !
 
