@@ -204,7 +204,7 @@ module _ {M : Type 1} {𝓤 : Ura M} (𝓛 : Logic 𝓤) (t : BlockId) (i b o : 
         split3 ! $ suffices ! _ (upd_i 𝓤 Z) $
         -- [what is known; the invariant; what is won; the place; the count's; the cell; the name;
         -- what is prepared]
-        move ! (6 ∷ 2 ∷ []) $ use2 𝓛 (‵ W') named_won $ move ! (7 ∷ []) $ fsplit ! $
+        move ! (6 ∷ 2 ∷ []) $ use2 𝓛 (‵ W') named_won $ move ! (6 ∷ []) $ fsplit ! $
         -- [the word; the receipt; what is won; what is known; the invariant; the place; the
         -- count's; the cell]
         move ! (0 ∷ 6 ∷ []) $ fjoin ! $ fpack ! ℕ (lies t x.0 x.1) 2 $ move ! (1 ∷ []) $
