@@ -75,7 +75,7 @@ few-after most began before (e ∷ rest) few legal lone = let more = before ++ e
 
 few-first : length (live_owners []) ≤ 1
 unfolding live_owners owners_ever owners_ended
-few-first = omega arith
+few-first = let e : 1 ≤ 1 = omega arith in e
 
 -- who lives on a lone word lives alone
 pub lone-one : (most : ℕ) (began : Beginning) (h : List Entry) (o : ℕ) → IsLegal most began h
