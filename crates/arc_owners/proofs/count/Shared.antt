@@ -6,7 +6,6 @@ use seplogic.Ra.Ura.{Ura}
 use base.Share
 use base.Share.{quarter}
 use base.Logic.{SProp, ent, sep, wand, ex, emp, id⊢, snd∗, never_e, upd_i}
-use base.FractionLaws.{Counts}
 use base.Fml.{Lft, Share, Fml, Incl-refl, ftrue, fsep, fseps, fwand, fupd, fdead, flft, fbor}
 use base.Fml.{fshr_bor, fnamed}
 use base.Growing.{latest, at_least}
@@ -36,6 +35,7 @@ use Rattle.arc_owners.specs.count.Invariant.{right_without, right_shown, told}
 use Rattle.arc_owners.specs.count.Invariant.{right_shares, trace_owns, trace_shares, end_tokens}
 use Rattle.arc_owners.specs.count.Invariant.{stake, word_borrow_as, word_borrow, Borrowing, places}
 use Rattle.arc_owners.specs.count.Invariant.{place_coded, pointed, cell_at, borrowed, leads}
+use Rattle.arc_owners.specs.count.Invariant.{IsStake}
 use Rattle.arc_owners.proofs.count.Cells.{row_keyless, cell_cut, cell_joins}
 
 pooled_keyless : (y : Bool) (l : Lease) (n : ℕ) → Keyless (pooled y l n)
@@ -213,7 +213,7 @@ module _ {M : Type 1} {𝓤 : Ura M} (𝓛 : Logic 𝓤) (t : BlockId) where
         ∷ []) {P = H.⇛ (sep 𝓤 ⟦ fshr_bor κ R ⟧ (lfts 𝓛 ts))} (updating ! $
         bor_fracture ! tt R quarter $ now ! $ done !)
 
-    part_back : (κ : Lft) (e : Share) → Counts 64 e 1
+    part_back : (κ : Lft) (e : Share) → IsStake e
         → ent 𝓤 ⟦ ftrue ⟧ ⟦ fwand (fsep (fdead κ) (fseps (flft (l.lifetime ∷ []) e ∷ [])))
         (fupd (part 64 l.lifetime)) ⟧
     unfolding fseps
@@ -272,9 +272,9 @@ module _ {M : Type 1} {𝓤 : Ura M} (𝓛 : Logic 𝓤) (t : BlockId) where
     -- so has a `&` to one whose part of the lifetime is elsewhere
     pub without_lends : (born : List Line) (e : Share) (λ' : Lft)
         → Lends 𝓛 (right_without t o l born e) (right_shown t o l born) λ'
-    without_lends born e λ' = Lends-both 𝓛 (known t born) (fsep (R quarter) (told (Counts 64 e 1)))
+    without_lends born e λ' = Lends-both 𝓛 (known t born) (fsep (R quarter) (told (IsStake e)))
         (said (known t born)) (one R) λ' (lends_twice 𝓛 (known t born) (known_twice born) λ')
-        (Lends-first 𝓛 (R quarter) (told (Counts 64 e 1)) (one R) λ' (fractured λ'))
+        (Lends-first 𝓛 (R quarter) (told (IsStake e)) (one R) λ' (fractured λ'))
 
   pub trace_lends : (b : Bool) (p : ℕ) (ready : Bool) (seen : List Line) (λ' : Lft)
       → Lends 𝓛 (trace_owns b t p ready seen) (said (trace_shares b t seen)) λ'

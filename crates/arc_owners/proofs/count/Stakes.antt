@@ -2,7 +2,6 @@
 -- given that up once the step is done: the word may then be gone. Assumes `Logic`.
 use Rattle.std.proofs.Common.{◌≡◌, ℕ, ◌<◌, Bool, true, List, [], ◌∷◌, refl, sym}
 use seplogic.Ra.Ura.{Ura}
-use base.FractionLaws.{Counts}
 use base.Share.{quarter}
 use base.Logic.{upd, never, never_e, via, fst∗, upd_i, apply∗}
 use base.Fml.{Lft, Share, Fml, flft, fbor, fnamed}
@@ -13,6 +12,7 @@ use types.Kit.{frame, assume, done, use1, rewrite, suffices, settle}
 use denote.RawPtr.{Ptr, block_ptr, null_ptr}
 use Rattle.core.specs.Sync.RawAtomic.{asks, always}
 use Rattle.arc_owners.specs.count.Invariant.{BlockId, Line, Lease, right, staked, stake, contents}
+use Rattle.arc_owners.specs.count.Invariant.{IsStake}
 use Rattle.arc_owners.specs.count.Invariant.{behind, word_borrow_as, word_borrow, Borrowing}
 use Rattle.arc_owners.specs.count.Invariant.{pass_holds, trace_owns}
 use Rattle.arc_owners.proofs.count.Signs.{signs}
@@ -46,7 +46,7 @@ module _ {M : Type 1} {𝓤 : Ura M} (𝓛 : Logic 𝓤) (t : BlockId) (p : ℕ)
   abbrev R : Fml
   R = right t own l quarter
 
-  as_stake : (e : Share) → Counts 64 e 1 → At.lft κ e ⊢ ⟦ stake l ⟧
+  as_stake : (e : Share) → IsStake e → At.lft κ e ⊢ ⟦ stake l ⟧
   as_stake e c = qed 𝓛 (‵ (flft κ e) ∷ []) ∵ use1 𝓛 (‵ (staked true l))
       (part_in 64 𝓛 l.lifetime e c) $
       rewrite ! 0 (λ (y : Bool). ‵ (staked y l)) (sym lent) refl $ done !

@@ -236,6 +236,10 @@ abbrev pub pool : Lease → ℕ → Fml
 pool l zero = ftrue
 pool l (suc n) = pooled l.is_lent l n
 
+-- why a share of the lifetime may be an owner's: it is one of the parts that are counted
+abbrev pub IsStake : Share → Type 0
+IsStake e = Counts 64 e 1
+
 -- what an owner has of the lifetime
 abbrev pub staked : Bool → Lease → Fml
 staked true l = part 64 l.lifetime
@@ -353,7 +357,7 @@ share_owns t o l born = fsep (known t born) (fsep (right t o l quarter) (stake l
 -- share of the lifetime that part is
 abbrev pub right_without : BlockId → ℕ → Lease → List Line → Share → Fml
 right_without t o l born e = fsep (known t born)
-    (fsep (right t o l quarter) (told (Counts 64 e 1)))
+    (fsep (right t o l quarter) (told (IsStake e)))
 
 -- what a pass of a block has: the invariant, what it has seen, and its seat, with what it has made
 -- of that
