@@ -17,7 +17,8 @@ use types.Logic.{Logic}
 use types.Keyed.{ticket}
 use types.Growing.{latest_grows, latest_shows, latest_agrees, latest_cut, latest_glue, at_least_dup}
 use types.Kit.{‵, raw, ◌⊛◌, given, ◌$◌, ◌∵◌, !, qed, by, move, drop, split, split3, group, fsplit}
-use types.Kit.{fjoin, fpick, fpack, learn, check, frame, done, use1, use2, rewrite, suffices}
+use types.Kit.{fjoin, fpick, fpack, learn, check, frame, assume, done, use1, use2, rewrite}
+use types.Kit.{suffices}
 use types.Kit.{settle}
 use denote.Steps.{nothing}
 use Rattle.arc_owners.specs.declared.history.entry.Entry.{Entry}
@@ -51,10 +52,11 @@ unfolding once
 none-first y = tt
 
 module _ {M : Type 1} {𝓤 : Ura M} (𝓛 : Logic 𝓤) (t : BlockId) where
-  open signs 𝓛 use {Pr, ◌⊢◌, ◌∗◌, ⟦◌⟧}
+  open signs 𝓛 use {Pr, ◌⊢◌, ◌∗◌, ◌-∗◌, ⟦◌⟧}
 
   infix 26 ◌⊢◌
   infixr 35 ◌∗◌
+  infixr 30 ◌-∗◌
   abbrev located_as : List Line → Option (ℕ × ℕ) → Fml
   located_as ls x = fsep (latest places three_quarters t.place x)
       (told (is_counted t.began (entries_of ls) ≡ is_there x))
@@ -348,18 +350,20 @@ module _ {M : Type 1} {𝓤 : Ura M} (𝓛 : Logic 𝓤) (t : BlockId) where
         -- [what is left; contents; the word's; what is known; the cell's place]
         move ! (4 ∷ 2 ∷ 3 ∷ 1 ∷ 0 ∷ []) $ done !))))
 
-    -- an owner takes the block back whose word is lone: it is alone, and no entry is added
+    -- an owner takes the block back whose word is lone, for its part of the lifetime: it is alone, and
+    -- no entry is added
     pub claims_lone : l.is_lent ≡ true → (r : Bool)
         → ⟦ cell_holds t none ⟧ ∗ ⟦ contents t ⟧ ∗ ⟦ pass_holds t p ready seen ⟧
-        ∗ ⟦ right t o l quarter ⟧ ∗ ⟦ stake l ⟧
-        ⊢ upd 𝓤 (⟦ cell_holds t none ⟧ ∗ ⟦ contents t ⟧ ∗ ⟦ claim_gain t o l true ⟧
-        ∗ ⟦ sees (holding r) none ⟧)
+        ∗ ⟦ right t o l quarter ⟧
+        ⊢ upd 𝓤 (⟦ cell_holds t none ⟧ ∗ (⟦ stake l ⟧ -∗ (⟦ contents t ⟧
+        ∗ ⟦ claim_gain t o l true ⟧ ∗ ⟦ sees (holding r) none ⟧)))
     claims_lone lent r = let C : Fml = cell_holds t none in let R : Fml = right t o l quarter in
         let k : Lease = taken l in let G : Fml = claim_gain t o l true in
-        let Z : Pr = ⟦ C ⟧ ∗ ⟦ contents t ⟧ ∗ ⟦ G ⟧ ∗ ⟦ sees (holding r) none ⟧ in
-        qed 𝓛 (‵ C ∷ ‵ (contents t) ∷ ‵ (pass_holds t p ready seen) ∷ ‵ R ∷ ‵ (stake l) ∷ []) ∵
-        move ! (1 ∷ 2 ∷ 3 ∷ 0 ∷ 4 ∷ []) $
-        by ! (opened 𝓛 t p ready seen o l quarter (⟦ C ⟧ ∗ ⟦ stake l ⟧) (upd 𝓤 Z)
+        let Z : Pr = ⟦ C ⟧ ∗ (⟦ stake l ⟧ -∗ (⟦ contents t ⟧ ∗ ⟦ G ⟧
+        ∗ ⟦ sees (holding r) none ⟧)) in
+        qed 𝓛 (‵ C ∷ ‵ (contents t) ∷ ‵ (pass_holds t p ready seen) ∷ ‵ R ∷ []) ∵
+        move ! (1 ∷ 2 ∷ 3 ∷ 0 ∷ []) $
+        by ! (opened 𝓛 t p ready seen o l quarter ⟦ C ⟧ (upd 𝓤 Z)
         (λ a so owner. let m : ℕ = how_many a.roll in let ls : List Line = a.lines in
         let h : List Entry = entries_of ls in
         let leased : l ≡ a.lease = so.fits.leased o l owner.1 in
@@ -369,45 +373,43 @@ module _ {M : Type 1} {𝓤 : Ura M} (𝓛 : Logic 𝓤) (t : BlockId) where
         let there : Lives o h = lives t a so.fits p ready so.seat_is.0 o l owner.1 in
         qed 𝓛 (‵ (latest_of 𝓛 t ls) ∷ ‵ (withheld t t.whole seen) ∷ ‵ (rolled 𝓛 t a.roll) ∷ ‵ R
         ∷ ‵ (seated 𝓛 t a.seats) ∷ ‵ (seat 𝓛 t p ready (made_by p seen)) ∷ ‵ (located t ls)
-        ∷ ‵ (tally t m) ∷ ‵ (pool a.lease m) ∷ ‵ C ∷ ‵ (stake l) ∷ []) ∵
+        ∷ ‵ (tally t m) ∷ ‵ (pool a.lease m) ∷ ‵ C ∷ []) ∵
         move ! (9 ∷ []) $ fsplit ! $ move ! (0 ∷ 8 ∷ []) $
         use2 𝓛 (given (is_counted t.began h ≡ false) (‵ (placed t quarter none)
         ⊛ ‵ (located t ls))) (located_is none ls) $ learn ! (λ lone. split ! $
         let one : m ≡ 1 = sym (ap length so.fits.live)
         ∙ ap length (lone-one t.most t.began h o so.fits.legal lone there) in
         -- [the cell's place; located; its quarter of the count; latest; withheld; roll; right;
-        -- seats; seat; tally; pool; stake]
+        -- seats; seat; tally; pool]
         move ! (3 ∷ 4 ∷ 7 ∷ 8 ∷ []) $ group ! 4 $
         use1 𝓛 (raw (upd 𝓤 (⟦ latest_of 𝓛 t ls ⟧ ∗ ⟦ pass_holds t p r ls ⟧
         ∗ ⟦ seated 𝓛 t a₁.seats ⟧))) (catches r a so) $
         settle 𝓛 Z (‵ (latest_of 𝓛 t ls) ⊛ ‵ (pass_holds t p r ls) ⊛ ‵ (seated 𝓛 t a₁.seats)) $
         split3 ! $
-        -- [latest; pass; seats; the cell's place; located; its quarter; roll; right; tally; pool;
-        -- stake]
+        -- [latest; pass; seats; the cell's place; located; its quarter; roll; right; tally; pool]
         move ! (6 ∷ 7 ∷ []) $ use2 𝓛 (raw (upd 𝓤 (⟦ rolled 𝓛 t roll' ⟧
         ∗ ⟦ right t o k quarter ⟧)))
         (row_writes lease_coded 𝓛 t.rights no_lease a.roll o l k owner.0 owner.1) $
         settle 𝓛 Z (‵ (rolled 𝓛 t roll') ⊛ ‵ (right t o k quarter)) $ split ! $
         suffices ! _ (upd_i 𝓤 Z) $
-        -- [roll; right; latest; pass; seats; the cell's place; located; its quarter; tally; pool;
-        -- stake]
-        move ! (9 ∷ 10 ∷ []) $ rewrite ! 0 (λ (z : Lease × ℕ). ‵ (pool z.0 z.1))
+        -- [roll; right; latest; pass; seats; the cell's place; located; its quarter; tally; pool]
+        move ! (5 ∷ 7 ∷ []) $ fjoin ! $ frame ! $ assume ! (‵ (stake l)) $
+        -- [stake; roll; right; latest; pass; seats; located; tally; pool]
+        move ! (8 ∷ 0 ∷ []) $ rewrite ! 0 (λ (z : Lease × ℕ). ‵ (pool z.0 z.1))
         (λ i. (sym leased i, one i)) refl $
         use2 𝓛 (‵ (flft (l.lifetime ∷ []) full_share) ⊛ ‵ (ticket l.key 0))
         (pool_last 𝓛 t l lent) $ split ! $ fjoin ! $
-        -- [the end; roll; right; latest; pass; seats; the cell's place; located; its quarter;
-        -- tally]
+        -- [the end; roll; right; latest; pass; seats; located; tally]
         nothing ! $ fjoin ! $ move ! (2 ∷ 0 ∷ []) $ fjoin ! $ nothing ! $
         fpack ! (0 ≡ 0) (λ _. ftrue) refl $ use1 𝓛 (‵ (pool k 1)) (id⊢ 𝓤 _) $
         rewrite ! 0 (λ (z : ℕ). ‵ (pool k z)) (sym (same ∙ one)) refl $
-        rewrite ! 9 (λ (z : ℕ). ‵ (tally t z)) (sym same) refl $
-        -- [pool; what is gained; roll; latest; pass; seats; the cell's place; located; its quarter;
-        -- tally]
-        move ! (3 ∷ 7 ∷ 2 ∷ 5 ∷ 9 ∷ 0 ∷ []) $ group ! 6 $ use1 𝓛 (‵ (contents t))
+        rewrite ! 7 (λ (z : ℕ). ‵ (tally t z)) (sym same) refl $
+        -- [pool; what is gained; roll; latest; pass; seats; located; tally]
+        move ! (3 ∷ 6 ∷ 2 ∷ 5 ∷ 7 ∷ 0 ∷ []) $ group ! 6 $ use1 𝓛 (‵ (contents t))
         (shuts 𝓛 t (relet a₁ o k) (fits-relet t a₁
         (fits-reseated t a so.fits p ready so.seat_is.0 r) o l k owner.0 owner.1 one)) $
-        -- [contents; what is gained; pass; the cell's place; its quarter]
-        move ! (3 ∷ 4 ∷ []) $ fjoin ! $ frame ! $ frame ! $ frame ! $
+        -- [contents; what is gained; pass]
+        frame ! $ frame ! $
         nothing ! $ fpack ! (IsAll none ls) (λ _. ftrue) (
           so.seen_is.0,
           made_kept 𝓛 t p ready seen a so,
