@@ -9,6 +9,7 @@ pub mod Fields
 pub mod Lodgings
 pub mod LoneCalls
 pub mod LoneMoves
+pub mod LonePartings
 pub mod LoneSteps
 pub mod Markers
 pub mod Moves

@@ -36,7 +36,7 @@ abbrev pub target : Ptr → Option (ℕ × ℕ)
 target null_ptr = none
 target (block_ptr b o) = some (b, o)
 
-target-pointer : (x : Option (ℕ × ℕ)) → target (pointer x) ≡ x
+pub target-pointer : (x : Option (ℕ × ℕ)) → target (pointer x) ≡ x
 target-pointer none = refl
 target-pointer (some x) = refl
 
@@ -79,7 +79,7 @@ module _ {M : Type 1} {𝓤 : Ura M} (𝓛 : Logic 𝓤) (t : BlockId) (i b o : 
   known_at none = ftrue
   known_at (some x) = at_least places t.place (some x)
 
-  knows : (x : Option (ℕ × ℕ)) → ⟦ cell_holds t x ⟧ ⊢ ⟦ cell_holds t x ⟧ ∗ ⟦ known_at x ⟧
+  pub knows : (x : Option (ℕ × ℕ)) → ⟦ cell_holds t x ⟧ ⊢ ⟦ cell_holds t x ⟧ ∗ ⟦ known_at x ⟧
   knows none = qed 𝓛 (‵ (cell_holds t none) ∷ []) ∵ nothing ! $ move ! (1 ∷ 0 ∷ []) $ done !
   knows (some x) = qed 𝓛 (‵ (cell_holds t (some x)) ∷ []) ∵ fsplit ! $
       use1 𝓛 (‵ (placed t quarter (some x)) ⊛ ‵ (at_least places t.place (some x)))
@@ -95,7 +95,7 @@ module _ {M : Type 1} {𝓤 : Ura M} (𝓛 : Logic 𝓤) (t : BlockId) (i b o : 
   abbrev pub loaded : Option (ℕ × ℕ) → Fml
   loaded x = fsep R (fsep (known_at x) (sees 𝓛 t p ready seen own l (T (ready_at x)) x))
 
-  with_name : (r : Bool) (x : Option (ℕ × ℕ))
+  pub with_name : (r : Bool) (x : Option (ℕ × ℕ))
       → ⟦ N ⟧ ∗ ⟦ sees 𝓛 t p ready seen own l (holding 𝓛 t p ready seen own l r) x ⟧
       ⊢ ⟦ sees 𝓛 t p ready seen own l (T r) x ⟧
   with_name r x = let H : List Line → Fml = holding 𝓛 t p ready seen own l r in

@@ -46,7 +46,7 @@ module _ {M : Type 1} {𝓤 : Ura M} (𝓛 : Logic 𝓤) (t : BlockId) (p : ℕ)
   abbrev R : Fml
   R = right t own l quarter
 
-  as_stake : (e : Share) → IsStake e → At.lft κ e ⊢ ⟦ stake l ⟧
+  pub as_stake : (e : Share) → IsStake e → At.lft κ e ⊢ ⟦ stake l ⟧
   as_stake e c = qed 𝓛 (‵ (flft κ e) ∷ []) ∵ use1 𝓛 (‵ (staked true l))
       (part_in 64 𝓛 l.lifetime e c) $
       rewrite ! 0 (λ (y : Bool). ‵ (staked y l)) (sym lent) refl $ done !
