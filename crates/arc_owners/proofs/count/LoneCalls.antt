@@ -1,13 +1,13 @@
 -- What the steps on the cell of a lone word leave, as contracts say it.
 use Rattle.std.proofs.Common.{if◌then◌else◌, inl, ◌≡◌, ℕ, Bool, true, List, [], ◌∷◌, ◌++◌, refl}
-use Rattle.std.proofs.Common.{sym, ap, ◌∙◌, subst}
+use Rattle.std.proofs.Common.{sym, ◌∙◌, subst}
 use Rattle.std.specs.Prelude.{IsTrue}
 use Rattle.std.proofs.lemmas.List.{append-nil, append_cancel_left}
 use Rattle.arc_owners.specs.declared.history.entry.Entry.TheVariants.{Up, Alone, Promote, Joined}
 use Rattle.arc_owners.specs.declared.count.tokens.Pass.{Pass}
 use Rattle.arc_owners.specs.declared.count.word.OwnerToken.{OwnerToken}
 use Rattle.arc_owners.specs.history.Histories.{IsAlone}
-use Rattle.arc_owners.specs.count.Invariant.{BlockId, Line, entries_of, next_owner}
+use Rattle.arc_owners.specs.count.Invariant.{Line, entries_of, next_owner}
 use Rattle.arc_owners.specs.count.Steps.{SamePass, Wrote, Looked, Promoted}
 use Rattle.arc_owners.specs.count.Calls.{Owner, Appends, Asks, Looks, Joins, MakesAnother}
 use Rattle.arc_owners.proofs.history.LoneWords.{lone-one}

@@ -27,11 +27,11 @@ use Rattle.arc_owners.specs.history.Histories.{Lone, is_counted, Lives, LivesAlo
 use Rattle.arc_owners.specs.history.Histories.{IsLegal}
 use Rattle.arc_owners.specs.count.Invariant.{BlockId, Line, entries_of, made_by, withheld, right}
 use Rattle.arc_owners.specs.count.Invariant.{history_at_least, lines_order, authority, places}
-use Rattle.arc_owners.specs.count.Invariant.{is_there, has_place, located, told, Lease, lease_coded}
+use Rattle.arc_owners.specs.count.Invariant.{is_there, located, told, Lease, lease_coded}
 use Rattle.arc_owners.specs.count.Invariant.{no_lease, seat_coded, fresh_seat, counted_as, tally}
 use Rattle.arc_owners.specs.count.Invariant.{pool, stake, how_many, State, Fits, contents, behind}
-use Rattle.arc_owners.specs.count.Invariant.{pass_holds, next_owner, end_tokens, taken, claim_gain}
-use Rattle.arc_owners.specs.count.Invariant.{placed, pointed, cell_holds}
+use Rattle.arc_owners.specs.count.Invariant.{pass_holds, next_owner, taken, claim_gain}
+use Rattle.arc_owners.specs.count.Invariant.{placed, cell_holds}
 use Rattle.arc_owners.proofs.history.LoneWords.{lone-one, counted-promoted}
 use Rattle.arc_owners.proofs.history.Steps.{counted-won}
 use Rattle.arc_owners.proofs.count.Signs.{signs}

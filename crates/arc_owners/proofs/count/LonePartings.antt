@@ -2,7 +2,7 @@
 -- leaves the pass as it was where the word has a count. The first opens the cell with the owner's
 -- own part of the lifetime: the borrow shuts before the block's invariant, for which that part is
 -- wanted. Assumes `Logic`.
-use Rattle.std.proofs.Common.{◌≡◌, ℕ, ◌<◌, Bool, true, List, [], ◌∷◌, refl, sym, arith}
+use Rattle.std.proofs.Common.{◌≡◌, ℕ, ◌<◌, Bool, true, List, [], ◌∷◌, refl, arith}
 use mathlib.Core.Option.{Option, none, some}
 use mathlib.Core.List.{Mem, mem-cons, not-mem-nil}
 use mathlib.Core.HLevel.{⊥_prop}
@@ -12,7 +12,7 @@ use base.Share.{quarter}
 use base.Logic.{ex, guard, upd, upd_i, ex_i, apply∗}
 use base.Fml.{Lft, Share, Fml, ftrue, fsep, flft, fbor, fnamed}
 use types.Logic.{Logic}
-use types.Kit.{‵, raw, ◌⊛◌, some as any, ◌$◌, ◌∵◌, !, qed, by, move, drop, split, split3, join, group}
+use types.Kit.{‵, raw, ◌⊛◌, some as any, ◌$◌, ◌∵◌, !, qed, by, move, split, split3, join, group}
 use types.Kit.{fsplit, fjoin, fpick, fpack, pick, frame, assume, show, check, done, use1, use2, use3}
 use types.Kit.{rewrite, suffices, settle}
 use denote.RawPtr.{Ptr, block_ptr}
@@ -27,7 +27,7 @@ use Rattle.arc_owners.proofs.count.Signs.{signs}
 use Rattle.arc_owners.proofs.count.Places.{pauses, resumes}
 use Rattle.arc_owners.proofs.count.Stakes.{as_stake}
 use Rattle.arc_owners.proofs.count.LoneMoves.{sees, holding, claims_lone}
-use Rattle.arc_owners.proofs.count.LoneSteps.{target, target-pointer, known_at, knows, with_name}
+use Rattle.arc_owners.proofs.count.LoneSteps.{target, known_at, knows, with_name}
 
 module _ {M : Type 1} {𝓤 : Ura M} (𝓛 : Logic 𝓤) (i j b o : ℕ) (apart : ¬ (j ≡ i)) (κ : Lft)
     (e : Share) (I J : Fml) (C : Type 0) (was new : C → Ptr) (tells after : C → Fml) where

@@ -8,7 +8,7 @@ use mathlib.Core.Option.{Option, none, some}
 use seplogic.Ra.Ura.{Ura}
 use base.Share.{quarter}
 use base.Logic.{ex, upd, upd_i}
-use base.Fml.{Lft, Share, Fml, ftrue, fsep, fex, flft, fbor, fnamed}
+use base.Fml.{Lft, Share, Fml, ftrue, fsep, flft, fbor, fnamed}
 use base.Growing.{at_least}
 use types.Logic.{Logic}
 use types.Growing.{latest_shows}
@@ -23,9 +23,8 @@ use Rattle.core.proofs.raw_atomic.Asked.{PtrLiesWith, borrowed_ptr_with, alike_n
 use Rattle.arc_owners.specs.declared.history.entry.Entry.TheVariants.{Joined}
 use Rattle.arc_owners.specs.history.Histories.{Lone}
 use Rattle.arc_owners.specs.count.Invariant.{BlockId, Line, Lease, right, contents, pass_holds}
-use Rattle.arc_owners.specs.count.Invariant.{trace_owns, places, told, behind, lies, placed, pointer}
-use Rattle.arc_owners.specs.count.Invariant.{receipt, pointed, cell_holds, cell_lies, cell_at}
-use Rattle.arc_owners.specs.count.Invariant.{counting}
+use Rattle.arc_owners.specs.count.Invariant.{trace_owns, places, behind, lies, placed, pointer}
+use Rattle.arc_owners.specs.count.Invariant.{receipt, cell_holds, cell_lies, cell_at}
 use Rattle.arc_owners.proofs.count.Signs.{signs}
 use Rattle.arc_owners.proofs.count.Places.{resumes, outside}
 use Rattle.arc_owners.proofs.count.LoneMoves.{sees, sees_as, holding, sees_all, lost_at, lost, joins}
@@ -36,7 +35,7 @@ abbrev pub target : Ptr → Option (ℕ × ℕ)
 target null_ptr = none
 target (block_ptr b o) = some (b, o)
 
-pub target-pointer : (x : Option (ℕ × ℕ)) → target (pointer x) ≡ x
+target-pointer : (x : Option (ℕ × ℕ)) → target (pointer x) ≡ x
 target-pointer none = refl
 target-pointer (some x) = refl
 

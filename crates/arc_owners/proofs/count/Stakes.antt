@@ -4,10 +4,10 @@ use Rattle.std.proofs.Common.{◌≡◌, ℕ, ◌<◌, Bool, true, List, [], ◌
 use seplogic.Ra.Ura.{Ura}
 use base.Share.{quarter}
 use base.Logic.{upd, never, never_e, via, fst∗, upd_i, apply∗}
-use base.Fml.{Lft, Share, Fml, flft, fbor, fnamed}
+use base.Fml.{Lft, Share, Fml, flft, fnamed}
 use types.Logic.{Logic}
 use types.RcWeak.{part_in}
-use types.Kit.{‵, raw, ◌⊛◌, ◌$◌, ◌∵◌, !, qed, by, move, drop, split, split3, group, fsplit, fpick}
+use types.Kit.{‵, raw, ◌⊛◌, ◌$◌, ◌∵◌, !, qed, by, move, split, split3, group, fpick}
 use types.Kit.{frame, assume, done, use1, rewrite, suffices, settle}
 use denote.RawPtr.{Ptr, block_ptr, null_ptr}
 use Rattle.core.specs.Sync.RawAtomic.{asks, always}
