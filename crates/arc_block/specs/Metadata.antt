@@ -1,8 +1,8 @@
 -- A caller's buffer that a block keeps, and the metadata that lies in it.
-use Rattle.std.specs.Prelude.{◌≡◌, ℕ, ◌+◌, Bool, List, length, Option, Some, None}
+use Rattle.std.specs.Prelude.{◌≡◌, ℕ, ◌+◌, List, length, Option, Some, None}
 use Rattle.arc_buffer.specs.Slice.{sub}
 use Rattle.arc_block.specs.Block.{Sort, native, vector, buffer, raw}
-use Rattle.arc_block.specs.Block.{BlockInfo}
+use Rattle.arc_block.specs.Block.{BlockInfo, IsBuffer}
 use Rattle.arc_block.specs.Given.{Given, buffer_of}
 use Rattle.arc_block.specs.Place.{Place, nowhere, static_data, on_block}
 use Rattle.arc_block.specs.Place.{offset_at, buffer_at}
@@ -27,8 +27,8 @@ module _ {T B M : Type 0} (list : B → List T) (places : B → ℕ) where
   FitsGiven None info items = ¬ IsCallers info.sort
   FitsGiven (Some held) info items = IsCallers info.sort × (list held.buffer ≡ items)
       × (info.full ≡ Some (length items))
-      × ((writable : Bool) → info.sort ≡ buffer writable
-      → (held.writable ≡ writable) × (info.size ≡ places held.buffer))
+      × (IsBuffer info.sort
+      → (info.sort ≡ buffer held.writable) × (info.size ≡ places held.buffer))
 
 module _ {T B M X : Type 0} (list : B → List T) (metadata : B → X) where
   -- the metadata is that of the buffer that was given, which has these items
