@@ -30,6 +30,22 @@ module _ {T B M : Type 0} (list : B → List T) (places : B → ℕ) where
       × (IsBuffer info.sort
       → (info.sort ≡ buffer held.writable) × (info.size ≡ places held.buffer))
 
+  -- The same of items that are a part of the block's, from an offset on.
+  abbrev pub FitsPart : Option (Given B M) → BlockInfo (Given B M) → (offset : ℕ) → List T
+      → Type 0
+  FitsPart None info offset items = ¬ IsCallers info.sort
+  FitsPart (Some held) info offset items = IsCallers info.sort
+      × (sub (list held.buffer) offset (offset + length items) ≡ items)
+      × (info.full ≡ Some (length (list held.buffer)))
+      × (IsBuffer info.sort
+      → (info.sort ≡ buffer held.writable) × (info.size ≡ places held.buffer))
+
+  -- at a place
+  abbrev pub FitsGivenAt : {N : Type 0} → Place N (Given B M) → List T → Type 0
+  FitsGivenAt nowhere items = Unit {0}
+  FitsGivenAt static_data items = Unit {0}
+  FitsGivenAt (on_block block offset facts) items = FitsPart facts.given facts offset items
+
 module _ {T B M X : Type 0} (list : B → List T) (metadata : B → X) where
   -- the metadata is that of the buffer that was given, which has these items
   pub record IsOwnMetadata (given : Option (Given B M)) (items : List T) (value : X)

@@ -6,6 +6,7 @@ use Rattle.arc_buffer.specs.Slice.{sub}
 use Rattle.arc_block.specs.Block.{Sort, native, vector, raw}
 use Rattle.arc_block.specs.Block.{IsBuffer, BlockInfo, BlockView, native_facts, raw_info}
 use Rattle.arc_block.specs.Given.{Given, given_as}
+use Rattle.arc_block.specs.Metadata.{FitsGiven}
 use Rattle.arc_block.specs.Layouts.{LayoutFacts, holds_block}
 use Rattle.arc_block.specs.Place.{Place, nowhere, static_data, on_block, IsOnBlock, made_place}
 use Rattle.arc_block.specs.Natives.{NativeView, native_info, IsAmong}
@@ -46,6 +47,16 @@ raw_view list buffer = record { items = list buffer; given = given_as false buff
 -- what a window stands on
 abbrev pub StandsBy : Type 0 → Type 0 → Type 0
 StandsBy T M = Storage T (NativeView T) (BlockView T M) (RawView T M)
+
+-- what a caller gave fits what the window stands on
+abbrev pub FitsStorage : {T B M : Type 0} → (list : B → List T) → (places : B → ℕ)
+    → StandsBy T (Given B M) → Type 0
+FitsStorage list places (Nothing none) = Unit {0}
+FitsStorage list places (Static items) = Unit {0}
+FitsStorage list places (Native block) = Unit {0}
+FitsStorage list places (Block block) =
+    FitsGiven list places block.facts.given block.facts block.items
+FitsStorage list places (Raw shared) = list shared.given.buffer ≡ shared.items
 
 -- The part from start to end of what a window stands on. Of a native block these are the numbers of
 -- places, of others those of items.

@@ -46,6 +46,13 @@ impl<T, B: Buffer<T> + Drop, M: Drop, A: Allocator> SharedBuffer<T, B, M, A> {
         }
     }
 
+    /// The items are the buffer's. Does nothing: its contract is the law.
+    pub(crate) fn known_given(&self)
+        ensures { B.list self.now.given.buffer ≡ self.now.items }
+    {
+        let _ = &self.shared;
+    }
+
     /// How many items there are.
     pub(crate) fn len(&self) -> usize
         ensures { result ≡ length self.now.items }

@@ -32,7 +32,8 @@ size-full len more static_data = refl
 size-full len more (on_block block offset info) = refl
 
 -- and whatever its buffer is
-size-bare : {N B M : Type 0} (place : Place N (Given B M)) → size_at (bare_place place) ≡ size_at place
+size-bare : {N B M : Type 0} (place : Place N (Given B M))
+    → size_at (bare_place place) ≡ size_at place
 size-bare nowhere = refl
 size-bare static_data = refl
 size-bare (on_block block offset info) = refl

@@ -6,7 +6,7 @@ ghost use Rattle.std.specs.Arc.{arc_value};
 ghost use Rattle.arc_owners.specs.count.Calls.{IsPassOfNone};
 ghost use Rattle.arc_block.specs.Block.{buffer_info, raw_info};
 ghost use Rattle.arc_block.specs.Given.{given_as};
-ghost use Rattle.arc_block.specs.Metadata.{IsMetadataAt, IsOnCallers};
+ghost use Rattle.arc_block.specs.Metadata.{FitsGivenAt, IsMetadataAt, IsOnCallers};
 ghost use Rattle.arc_block.specs.Place.{on_block, buffer_at, metadata_at, size_at};
 ghost use Rattle.arc_block.specs.Table.{reader};
 ghost use Rattle.arc_parts.specs.Window.{IsBufferWhole, IsRawWhole, window_of};
@@ -136,6 +136,20 @@ impl<S: Slice, B: Buffer<S::Item> + Drop, M: Drop, A: Allocator + Copy, H: Mark>
             start: 0,
             end,
             alloc,
+        }
+    }
+
+    /// What is known of a caller's buffer on which the parts stand, behind an `Arc` or not, fits the
+    /// buffer: the items are a part of its own, and the block has its places. Does nothing: its
+    /// contract is the law.
+    #[tactic(auto, using(crate::proofs::GivenParts::parts_fit))]
+    pub fn known_given(&self)
+        ensures { FitsGivenAt B.list B.places self.now.place self.now.items }
+    {
+        match &self.on {
+            Storage::Block(block) => block.known_given(),
+            Storage::Raw(shared) => shared.known_given(),
+            _ => {}
         }
     }
 

@@ -5,7 +5,7 @@ ghost use Rattle.std.specs.Prelude.{IfOk, IfErr, IfSome, IfNone, is_some};
 ghost use Rattle.std.specs.Arc.{arc_value};
 ghost use Rattle.arc_owners.specs.count.Calls.{IsPassOfNone};
 ghost use Rattle.arc_block.specs.Block.{buffer_info};
-ghost use Rattle.arc_block.specs.Metadata.{IsMetadataAt, IsOnCallers};
+ghost use Rattle.arc_block.specs.Metadata.{FitsGivenAt, IsMetadataAt, IsOnCallers};
 ghost use Rattle.arc_block.specs.Given.{given_as};
 ghost use Rattle.arc_block.specs.Place.{nowhere, buffer_at, metadata_at};
 ghost use Rattle.arc_parts.specs.Window.{IsBufferWhole, IsRawWhole};
@@ -155,6 +155,15 @@ impl<
             Ok(parts) => Ok(Self::from_parts(parts)),
             Err(back) => Err(back),
         }
+    }
+
+    /// What is known of a caller's buffer on which the window stands, behind an `Arc` or not, fits
+    /// the buffer: the items are a part of its own, and the block has its places. Does nothing: its
+    /// contract is the law.
+    pub fn known_given(&self)
+        ensures { FitsGivenAt B.list B.places self.now.place self.now.items }
+    {
+        self.parts.known_given();
     }
 
     /// The metadata that the window's block was made with, or `None`.
