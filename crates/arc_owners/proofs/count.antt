@@ -3,6 +3,7 @@ pub mod Bank
 pub mod Begins
 pub mod Blocks
 pub mod Calls
+pub mod CellBorrows
 pub mod Cells
 pub mod Ends
 pub mod Fields

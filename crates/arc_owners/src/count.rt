@@ -1,6 +1,7 @@
 //! The count of a block's owners: its word, the atomic steps on it, and what owners and passes have
 //! of it.
 
+pub(crate) mod cell;
 mod counted;
 pub(crate) mod owner_without_lifetime;
 mod passes;

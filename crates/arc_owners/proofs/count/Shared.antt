@@ -34,8 +34,8 @@ use Rattle.arc_owners.specs.count.Invariant.{tokens, right, contents, known, beh
 use Rattle.arc_owners.specs.count.Invariant.{right_without, right_shown, told}
 use Rattle.arc_owners.specs.count.Invariant.{right_shares, trace_owns, trace_shares, end_tokens}
 use Rattle.arc_owners.specs.count.Invariant.{stake, word_borrow_as, word_borrow, Borrowing, places}
-use Rattle.arc_owners.specs.count.Invariant.{place_coded, pointed, cell_at, borrowed, leads}
-use Rattle.arc_owners.specs.count.Invariant.{IsStake}
+use Rattle.arc_owners.specs.count.Invariant.{place_coded, pointed, cell_holds, cell_at, borrowed}
+use Rattle.arc_owners.specs.count.Invariant.{leads, IsStake}
 use Rattle.arc_owners.proofs.count.Cells.{row_keyless, cell_cut, cell_joins}
 
 pooled_keyless : (y : Bool) (l : Lease) (n : ℕ) → Keyless (pooled y l n)
@@ -128,9 +128,12 @@ pointed_keyless t (some x) = (
   ((λ k. entry_keyless (halved place_coded) t.receipts k _), λ n. (tt, behind_keyless t n)),
 )
 
-pub cell_keyless : (t : BlockId) (b o : ℕ) → Keyless (cell_at t b o)
+pub held_keyless : (t : BlockId) (x : Option (ℕ × ℕ)) → Keyless (cell_holds t x)
 unfolding latest
-cell_keyless t b o = λ x. (tt, (tt, pointed_keyless t x))
+held_keyless t x = (tt, pointed_keyless t x)
+
+pub cell_keyless : (t : BlockId) (b o : ℕ) → Keyless (cell_at t b o)
+cell_keyless t b o = λ x. (tt, held_keyless t x)
 
 borrowed_keyless : (t : BlockId) (b o : ℕ) (w : Option (ℕ × ℕ)) → Keyless (borrowed t b o w)
 borrowed_keyless t b o none = λ n. (tt, behind_keyless t n)

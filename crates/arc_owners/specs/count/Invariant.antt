@@ -430,6 +430,20 @@ abbrev pub word_shares : BlockId → Ptr → Lft → Fml
 word_shares t (block_ptr b o) κ = fex (Lft × Borrowing) (lent t b o κ)
 word_shares t null_ptr κ = ffalse
 
+-- the same of a cell
+abbrev pub cell_borrow_as : BlockId → ℕ → ℕ → Lft → ℕ → Fml
+cell_borrow_as t b o κ j = fsep (told (t.number < j)) (fnamed j (fbor κ (cell_at t b o)))
+
+abbrev pub cell_borrow_for : BlockId → ℕ → ℕ → Lft → Fml
+cell_borrow_for t b o κ = fex ℕ (cell_borrow_as t b o κ)
+
+abbrev pub cell_lent : BlockId → ℕ → ℕ → Lft → Lft × ℕ → Fml
+cell_lent t b o κ z = fsep (before κ z.0) (cell_borrow_as t b o z.0 z.1)
+
+abbrev pub cell_shares : BlockId → Ptr → Lft → Fml
+cell_shares t (block_ptr b o) κ = fex (Lft × ℕ) (cell_lent t b o κ)
+cell_shares t null_ptr κ = ffalse
+
 -- the word lies at this place for as long as the block is lent
 abbrev pub word_borrow : BlockId → Ptr → ℕ → Fml
 word_borrow t (block_ptr b o) a = word_borrow_for t b o (a ∷ [])
