@@ -38,8 +38,8 @@ impl Cell {
     pub(crate) fn open<H>(most: u64, whole: bool, lent: bool) -> (Cell, OwnerToken<H>, PassState)
         ghost bank: { ℕ × ℕ }
         requires { 2 ≤ most }
-        ensures opened { IsOpened most Lone whole lent result.0 result.1 result.2 }
-        ensures bank { (result.0.bank ≡ bank.0) × (result.0.receipts ≡ bank.1) }
+        ensures { IsOpened most Lone whole lent result.0 result.1 result.2
+            × (result.0.bank ≡ bank.0) × (result.0.receipts ≡ bank.1) }
     {
         let _ = (most, whole, lent);
         (

@@ -120,14 +120,18 @@ open_spec 𝓤 𝓛 𝓜 𝓡 wired T L =
     returns ! (look_at ! 0 refl) $ free_all ! refl $ keep ! (2 ∷ 0 ∷ 1 ∷ []) $
     by ! (ends 𝓛 En hs c y v (t, right', trace') (tt, (tt, (tt, tt))) (tt, (tt, (tt, tt)))
     (fact_i 𝓤 _ (emp 𝓤) (
-      so.0,
-      so.1,
-      so.2,
-      (refl, refl, so.3),
-      (refl, refl),
-      refl,
-      refl,
-      refl,
-      refl,
-      refl,
+      (
+        so.0,
+        so.1,
+        so.2,
+        (refl, refl, so.3),
+        (refl, refl),
+        refl,
+        refl,
+        refl,
+        refl,
+        refl,
+      ),
+      so.4,
+      so.5,
     ))))))))
