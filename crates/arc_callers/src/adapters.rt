@@ -1,10 +1,15 @@
 //! What std and the kit's crates do with windows of every sort: they compare, hash, print, lend,
 //! read and write.
+use arc_slice::buffer::Plain;
 use arc_slice::inlined::{SmallArcBytes, SmallArcStr, SmallBytes, SmallStr};
+use arc_slice::layout::DefaultLayoutMut;
+use arc_slice::role::{CopyWriterParts, RoleOf};
 use arc_slice::{
-    ArcByteText, ArcBytes, ArcBytesMut, ArcBytesShared, ArcStr, ArcStrMut, ArcStrShared,
+    ArcByteText, ArcBytes, ArcBytesMut, ArcBytesShared, ArcStr, ArcStrMut, ArcStrShared, Open,
+    WriteWindow,
 };
 use bytes::{Buf, BufMut};
+use std::alloc::Global;
 use std::cmp::Ordering;
 use std::convert::{AsSlice, AsStr};
 use std::fmt::{self, Debug, Display, LowerHex, UpperHex};
@@ -197,6 +202,65 @@ pub fn written_by_one(
         fmt::Write::write_str(several, text).is_ok(),
     ];
     (done, several.remaining_mut())
+}
+
+/// Puts numbers of each size into a writer of either role, the highest byte first, each if there
+/// are places for it.
+pub fn put_high_first<R: RoleOf<Plain<u8>, Vec<u8>, (), Global, Open>>(
+    window: &mut WriteWindow<Plain<u8>, DefaultLayoutMut, R>,
+) -> [bool; 13]
+where
+    R::Parts: CopyWriterParts<Plain<u8>, Vec<u8>, (), Global, Open>,
+{
+    [
+        window.put_i8(-1).is_ok(),
+        window.put_u16(1).is_ok(),
+        window.put_i16(-1).is_ok(),
+        window.put_u32(1).is_ok(),
+        window.put_i32(-1).is_ok(),
+        window.put_u64(1).is_ok(),
+        window.put_i64(-1).is_ok(),
+        window.put_u128(1).is_ok(),
+        window.put_i128(-1).is_ok(),
+        window.put_f32(1.5).is_ok(),
+        window.put_f64(1.5).is_ok(),
+        window.put_uint(1, 3).is_ok(),
+        window.put_int(-1, 3).is_ok(),
+    ]
+}
+
+/// Puts the same numbers, the lowest byte first.
+pub fn put_low_first<R: RoleOf<Plain<u8>, Vec<u8>, (), Global, Open>>(
+    window: &mut WriteWindow<Plain<u8>, DefaultLayoutMut, R>,
+) -> [bool; 12]
+where
+    R::Parts: CopyWriterParts<Plain<u8>, Vec<u8>, (), Global, Open>,
+{
+    [
+        window.put_u16_le(1).is_ok(),
+        window.put_i16_le(-1).is_ok(),
+        window.put_u32_le(1).is_ok(),
+        window.put_i32_le(-1).is_ok(),
+        window.put_u64_le(1).is_ok(),
+        window.put_i64_le(-1).is_ok(),
+        window.put_u128_le(1).is_ok(),
+        window.put_i128_le(-1).is_ok(),
+        window.put_f32_le(1.5).is_ok(),
+        window.put_f64_le(1.5).is_ok(),
+        window.put_uint_le(1, 3).is_ok(),
+        window.put_int_le(-1, 3).is_ok(),
+    ]
+}
+
+/// Puts numbers into a sole writer and into one of several.
+pub fn numbers_put(
+    writer: &mut ArcBytesMut,
+    several: &mut ArcBytesShared,
+) -> ([[bool; 13]; 2], [[bool; 12]; 2]) {
+    (
+        [put_high_first(writer), put_high_first(several)],
+        [put_low_first(writer), put_low_first(several)],
+    )
 }
 
 /// The sum of a reader's bytes, by a loop over them.

@@ -2,6 +2,7 @@
 //! cut, turned into windows of another kind, and ended. Cuts into parts are in `words`, `frames`
 //! and `queue`.
 ghost use Rattle.std.specs.Prelude.{◌≡◌, [], drop, take, IfOk, IfErr, OnOk};
+ghost use Rattle.std.specs.Str.{IsUtf8};
 ghost use Rattle.arc_block.specs.Place.{IsOnBlock, static_data};
 
 use arc_slice::buffer::Owned;
@@ -73,6 +74,13 @@ pub fn seen<'a>(window: &ArcBytes, text: &'a ArcStr) -> (usize, bool, &'a str, b
         window.is_unique(),
         window.max_owners(),
     )
+}
+
+/// The bytes of a window of text are UTF-8. The call does nothing: its contract is the law.
+pub fn known(text: &ArcStr)
+    ensures { ∥ IsUtf8 text.now.items ∥₁ }
+{
+    text.known_held();
 }
 
 /// Another window with the same bytes, for someone else.

@@ -1,7 +1,7 @@
 //! Calls of one of several writers with a pass of the window's block.
 ghost use Rattle.std.specs.Prelude.{◌≡◌, ◌≤◌, ◌++◌, ◌∷◌, [], length, take, drop};
 ghost use Rattle.std.specs.Prelude.{IfOk, IfErr, IfSome, OnOk, Err};
-ghost use Rattle.std.specs.Int.{w16, from_be_bytes};
+ghost use Rattle.std.specs.Int.{w16, from_be_bytes, to_be_bytes};
 ghost use Rattle.std.specs.Box.{boxed_slice_items};
 ghost use Rattle.arc_parts.specs.Shared.{IsOneBlock};
 
@@ -31,8 +31,8 @@ pub fn split_and_joined(rt: &impl Wait, window: &mut ArcBytesShared) -> Option<b
     }
 }
 
-/// The number that the window begins with. Then the window behind it is joined to it: after the read
-/// it is still known that both stand on one block.
+/// The number that the window begins with. Then the window behind it is joined to it: after the
+/// read it is still known that both stand on one block.
 pub fn number_and_joined(
     window: &mut ArcBytesShared,
     behind: ArcBytesShared,
@@ -46,6 +46,44 @@ pub fn number_and_joined(
     window.known_after_reads();
     let mut pass = window.pass();
     (number, window.try_unsplit_as(behind, &mut pass))
+}
+
+/// Puts a number behind the window's bytes. Then the window behind it is joined to it: after the
+/// put it is still known that both stand on one block. That window comes back where the number
+/// doesn't fit, and where they can't be joined.
+pub fn number_put_and_joined(
+    window: &mut ArcBytesShared,
+    behind: ArcBytesShared,
+    number: u16,
+) -> Result<(), ArcBytesShared>
+    requires { IsOneBlock window.old.place behind.place }
+    ensures joined { OnOk result (window.new.items
+        ≡ (window.old.items ++ to_be_bytes w16 number) ++ behind.items) }
+    ensures back { IfErr result (λ back. back ≡ behind) }
+{
+    match window.put_u16(number) {
+        Ok(()) => {
+            window.known_after_writes();
+            let mut pass = window.pass();
+            window.try_unsplit_as(behind, &mut pass)
+        }
+        Err(_) => Err(behind),
+    }
+}
+
+/// Splits the window in the middle of its places, puts a number into the front, and joins both
+/// again: `None` where the split is refused, else whether both were joined.
+pub fn split_put_and_joined(
+    rt: &impl Wait,
+    window: &mut ArcBytesShared,
+    number: u16,
+) -> Option<bool> {
+    let at = window.capacity() / 2;
+    let mut pass = window.pass();
+    match window.try_split_off_as(rt, at, &mut pass) {
+        Ok(back) => Some(number_put_and_joined(window, back, number).is_ok()),
+        Err(_) => None,
+    }
 }
 
 /// Hands out the first half of the places.

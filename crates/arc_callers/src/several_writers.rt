@@ -54,6 +54,7 @@ pub fn known(window: &ArcBytesShared)
     window.known_kind();
     window.known_uncounted();
     window.known_idle();
+    window.known_held();
 }
 
 /// How many owners the window's block may have.

@@ -1,14 +1,15 @@
 //! Calls of sole writers with a pass of the window's block.
-ghost use Rattle.std.specs.Prelude.{◌≡◌, ◌≤◌, ◌++◌, length, take, IfOk, IfErr, OnOk};
+ghost use Rattle.std.specs.Prelude.{◌≡◌, ◌<◌, ◌≤◌, ◌++◌, length, take, IfOk, IfErr, OnErr, OnOk};
 ghost use Rattle.std.specs.Int.{w16, from_be_bytes};
 ghost use Rattle.arc_parts.specs.Steps.{IsPassAt};
+ghost use Rattle.arc_write.specs.Within.{spare_places};
 ghost use Rattle.std.specs.Box.{boxed_slice_items};
 
 use arc_slice::error::{AllocError, TryReserveError};
 use arc_slice::layout::{DefaultLayout, DefaultLayoutMut, VecLayout};
 use arc_slice::{ArcBytes, ArcBytesMut, ArcStrMut, Open, Pass, Whole};
 use bytes::Buf;
-use std::alloc::Global;
+use std::alloc::{self, Global};
 use std::boxed::BoxedSlice;
 
 /// Bytes of a block that has one pass.
@@ -37,6 +38,23 @@ pub fn number_and_end(mut window: WholeBytesMut, pass: &mut Pass<Whole>) -> u16
     window.known_after_reads();
     window.release_as(pass);
     number
+}
+
+/// Puts a number behind the window's bytes, after which the window ends: after the put the pass is
+/// still one of its block.
+pub fn number_put_and_end(
+    mut window: WholeBytesMut,
+    number: u16,
+    pass: &mut Pass<Whole>,
+) -> Result<(), alloc::AllocError>
+    requires { IsPassAt window.place pass.old }
+    ensures ok { OnOk result (2 ≤ spare_places window) }
+    ensures err { OnErr result (spare_places window < 2) }
+{
+    let put = window.put_u16(number);
+    window.known_after_writes();
+    window.release_as(pass);
+    put
 }
 
 /// A window with so many places, one over so many zeros, and one over a copy, each with a pass of

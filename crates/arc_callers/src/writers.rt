@@ -101,6 +101,7 @@ pub fn known(window: &ArcBytesMut)
 {
     window.known_place();
     window.known_idle();
+    window.known_held();
 }
 
 /// How many owners the window's block may have.

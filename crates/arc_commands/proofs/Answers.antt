@@ -531,4 +531,10 @@ module _ {T M : Type 0} (setting : Setting T) (places : ℕ) (t : Table T M) (c 
 
   pub answer_step : Step setting t c (answer setting no_shortage places t c).0
       (answer setting no_shortage places t c).1
-  answer_step = record { places = places; enough = enough; answered = ample answer_told }
+  answer_step = record {
+    short = shortage (answer setting no_shortage places t c).0 c;
+    told = refl;
+    places = places;
+    enough = enough;
+    answered = ample answer_told;
+  }

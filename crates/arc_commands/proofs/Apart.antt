@@ -22,7 +22,7 @@ use Rattle.arc_commands.specs.Several.{are_apart}
 use Rattle.arc_commands.specs.Commands.{ListCmd, ListReply}
 use Rattle.arc_commands.specs.Fits.{EndsAt, HasPlaces, HasSharedPlaces, LieWithin, RowFits, RowsFit}
 use Rattle.arc_commands.specs.Changes.{Setting, Shortage}
-use Rattle.arc_commands.specs.Step.{shortage, Step, Run, answer}
+use Rattle.arc_commands.specs.Step.{Step, Run, answer}
 use Rattle.arc_commands.specs.Step.{count_brought}
 use Rattle.arc_commands.proofs.Answers.{answer_each}
 use Rattle.arc_commands.proofs.Blocks.{begins, moved-to, only-here, only-lone, put-there}
@@ -397,7 +397,7 @@ module _ {T M : Type 0} where
         → Apart new.rows
     step-apart t c r new step agree fit apart =
         subst (λ (o : ListReply T M × Table T M). Apart o.1.rows) step.answered
-        (answer-apart (shortage r c) step.places t c step.enough agree fit apart)
+        (answer-apart step.short step.places t c step.enough agree fit apart)
 
     pub step_lawful : (t : Table T M) (c : ListCmd T M) (r : ListReply T M) (new : Table T M)
         → Step setting t c r new → IsLawful setting.drops t → IsLawful setting.drops new

@@ -16,7 +16,7 @@ use Rattle.arc_block.proofs.Lists.{get-set, get-set_other, push-cases, set-cases
 use Rattle.arc_commands.specs.Blocks.{SaysOf, RowsAgree, is_sole}
 use Rattle.arc_commands.specs.Changes.{Setting, Shortage, no_shortage, may_write, may_write_at}
 use Rattle.arc_commands.specs.Changes.{may_write_sort}
-use Rattle.arc_commands.specs.Step.{shortage, Step, Run, answer}
+use Rattle.arc_commands.specs.Step.{Step, Run, answer}
 use Rattle.arc_commands.specs.Step.{around_of, founded, with_block, count_brought}
 use Rattle.arc_commands.proofs.Lists.{there}
 use Rattle.arc_commands.specs.Commands.{ListCmd, ListReply}
@@ -655,7 +655,7 @@ module _ {T M : Type 0} where
         → Step setting t c r new → RowsAgree t → RowsAgree new
     step_agrees t c r new step agree =
         subst (λ (o : ListReply T M × Table T M). RowsAgree o.1) step.answered
-        (answer-agrees (shortage r c) step.places t c step.enough agree)
+        (answer-agrees step.short step.places t c step.enough agree)
 
     pub run_agrees : (t : Table T M) (cs : List (ListCmd T M)) (rs : List (ListReply T M))
         (new : Table T M) → Run setting t cs rs new → RowsAgree t → RowsAgree new

@@ -13,7 +13,7 @@ use Rattle.arc_commands.specs.Fits.{RowFits, RowsFit}
 use Rattle.arc_commands.specs.Blocks.{RowsAgree}
 use Rattle.arc_commands.specs.Changes.{Setting, Shortage}
 use Rattle.arc_commands.specs.Several.{are_apart}
-use Rattle.arc_commands.specs.Step.{shortage, Step, Run, answer}
+use Rattle.arc_commands.specs.Step.{Step, Run, answer}
 use Rattle.arc_commands.specs.Step.{count_brought}
 use Rattle.arc_commands.specs.Commands.{ListCmd, ListReply}
 use Rattle.arc_commands.proofs.Among.{IsOneSize, joined-fits}
@@ -98,7 +98,7 @@ module _ {T M : Type 0} (setting : Setting T) where
       → RowsFit setting.drops new
   step_fits t c r new step agree fit =
       subst (λ (o : ListReply T M × Table T M). RowsFit setting.drops o.1) step.answered
-      (answer-fits (shortage r c) step.places t c step.enough agree fit)
+      (answer-fits step.short step.places t c step.enough agree fit)
 
   pub run_fits : (t : Table T M) (cs : List (ListCmd T M))
       (rs : List (ListReply T M)) (new : Table T M) → Run setting t cs rs new → RowsAgree t

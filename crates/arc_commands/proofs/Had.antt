@@ -14,7 +14,7 @@ use Rattle.arc_commands.specs.Several.{join_answer}
 use Rattle.arc_commands.specs.Step.{Step, answer, answer_any, answer_row, around_of, changed}
 use Rattle.arc_commands.specs.Step.{founded, has_call, is_allowed, is_for, is_for_both, joined}
 use Rattle.arc_commands.specs.Step.{row_by}
-use Rattle.arc_commands.specs.Step.{shortage, window_of}
+use Rattle.arc_commands.specs.Step.{window_of}
 use Rattle.arc_commands.specs.declared.command.Cmd.TheVariants as command
 use Rattle.arc_commands.specs.declared.command.Reply.TheVariants as reply
 use Rattle.arc_commands.proofs.Answers.{put-back}
@@ -133,4 +133,4 @@ module _ {T M : Type 0} where
         → is_had setting c ≡ false → Step setting t c r new
         → ((r ≡ reply.Kind) ⊎ (r ≡ reply.NoWindow)) × (new ≡ t)
     step-had t c r new is step =
-        subst (IsKind t) step.answered (had-kind (shortage r c) step.places t c is)
+        subst (IsKind t) step.answered (had-kind step.short step.places t c is)

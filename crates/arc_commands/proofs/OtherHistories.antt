@@ -12,8 +12,8 @@ use Rattle.arc_block.specs.Table.{Row, Table, row_at}
 use Rattle.arc_block.proofs.Lists.{get-front, get-set_other}
 use Rattle.arc_commands.specs.Additions.{Standing, Adds, AddsBy, AddsTo, AddsAt, Raises, Founds}
 use Rattle.arc_commands.specs.Additions.{MayBegin, Takes, RowAdds, MakerAdds, with_stand, stand_in}
-use Rattle.arc_commands.specs.Additions.{raised, asked, refused, ended, AddsOn, JoinAdds, Joins}
-use Rattle.arc_commands.specs.Additions.{MovesAndJoins}
+use Rattle.arc_commands.specs.Additions.{raised, asked, refused, ended, AddsOn, JoinAdds}
+use Rattle.arc_commands.specs.Additions.{GivesItself, GivesOther, MovesAndGives}
 use Rattle.arc_commands.specs.Changes.{Setting}
 use Rattle.arc_commands.specs.Commands.{ListCmd, ListReply}
 use Rattle.arc_commands.specs.Others.{OtherHistoriesStay}
@@ -73,9 +73,11 @@ module _ {H : Type 0} where
         at-stay here ended adds.2 new adds.4 n pass apart
         (at-stay here (asked true) old adds.2 adds.3 n pass apart at)
 
-    joins-stay : (handed_out : Bool) → Joins here there made old new handed_out
-        → PassesStay here old new
-    joins-stay handed_out adds = raises-stay here adds.0 old new adds.1
+    other-stay : GivesOther here there made old new → PassesStay here old new
+    other-stay adds = raises-stay here adds.other old new adds.raises
+
+    itself-stay : GivesItself here there made old new → PassesStay here old new
+    itself-stay adds = raises-stay here there old new adds.raises
 
     -- a block more has a number that no pass had
     on-new : (stand : Stand) (between begun : List (Pass H)) → Founds stand between begun → (n : ℕ)
@@ -86,7 +88,7 @@ module _ {H : Type 0} where
         ap (λ (s : ℕ × Owner). s.0) (same_Some (number, owner) (n, o) is) in
         absurd (omega (arith, founds.0, same, less))
 
-    moves-stay : MovesAndJoins here there made old new → PassesStay here old new
+    moves-stay : MovesAndGives here there made old new → PassesStay here old new
     moves-stay m n pass apart at =
         let one : slice_get m.between n ≡ Some pass =
         at-stay here ended old m.between m.left n pass apart at in
@@ -97,11 +99,12 @@ module _ {H : Type 0} where
         (slice_get_within m.between n pass one)) two
 
     row-stay : {T M : Type 0} (setting : Setting T) (row : Row T M) (c : ListCmd T M)
-        (r : ListReply T M) → RowAdds here there made old new setting row c r
+        (r : ListReply T M) → RowAdds setting row c r here there made old new
         → PassesStay here old new
     row-stay =
         row_adds_each (record {
-          joins = joins-stay;
+          other = other-stay;
+          itself = itself-stay;
           moves = moves-stay;
           asks = λ alone adds. at-stay here (asked alone) old new adds.2;
           refuses = λ e adds. at-stay here (refused e) old new adds.2;
@@ -131,7 +134,7 @@ module _ {H : Type 0} where
 
     on-stay : (i : ℕ) → window_of c ≡ Some i → (here : Option (Row T M))
         → MatchOption here (new ≡ old) (λ row. (there : Stand) × (made : Option Stand)
-        × RowAdds (stand_in old i) there made old.passes new.passes setting row c r
+        × RowAdds setting row c r (stand_in old i) there made old.passes new.passes
         × (new.stands ≡ with_stand (slice_set old.stands i there) made))
         → OtherHistoriesStay c old new
     on-stay i on None adds = record {

@@ -9,7 +9,7 @@ use Rattle.arc_commands.specs.Others.{NoneIsOn, OtherRowsStay, RowStays}
 use Rattle.arc_commands.specs.Changes.{Setting, Shortage, no_shortage, of_table, of_clones}
 use Rattle.arc_commands.specs.Changes.{of_blocks, of_buffer, of_growth, Change}
 use Rattle.arc_commands.specs.Several.{join_answer}
-use Rattle.arc_commands.specs.Step.{shortage, Step, Run, answer_by, answer_on, joined}
+use Rattle.arc_commands.specs.Step.{Step, Run, answer_by, answer_on, joined}
 use Rattle.arc_commands.specs.Step.{answer_any, around_of, changed, founded, is_for_both, other_of}
 use Rattle.arc_commands.specs.Step.{row_by, window_of, with_row}
 use Rattle.arc_commands.specs.declared.command.Reply.TheVariants as reply
@@ -95,7 +95,7 @@ module _ {T M : Type 0} where
         → Step setting t c r new → OtherRowsStay c t new
     step-stays t c r new step j apart row at =
         subst (λ (o : ListReply T M × Table T M). slice_get o.1.rows j ≡ Some row) step.answered
-        (both-stay setting (shortage r c) step.places t c (window_of c) (other_of c) j
+        (both-stay setting step.short step.places t c (window_of c) (other_of c) j
         (λ same. apart (inl same)) (λ same. apart (inr same)) row at)
 
     pub run-stays : (t : Table T M) (cs : List (ListCmd T M)) (rs : List (ListReply T M))

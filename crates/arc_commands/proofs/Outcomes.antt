@@ -34,7 +34,7 @@ use Rattle.arc_commands.specs.Changes.{of_blocks}
 use Rattle.arc_commands.specs.Changes.{of_buffer, of_growth, is_unique_at, is_free}
 use Rattle.arc_commands.specs.Changes.{taken_as, after_move, room_made, asking_block, filled}
 use Rattle.arc_commands.specs.Changes.{reclaimed, begun, room_of, Around, Change, is_now, with_made}
-use Rattle.arc_commands.specs.Changes.{gone, parted, split, may_write, truncated, asking}
+use Rattle.arc_commands.specs.Changes.{gone, with_new_part, split_row, may_write, truncated, asking}
 use Rattle.arc_commands.specs.Changes.{is_wanting}
 use Rattle.arc_commands.specs.Changes.{with_owner, part_of, cut_row, off_part, to_part, in_range}
 use Rattle.arc_commands.specs.Commands.{ListCmd, ListReply}
@@ -255,17 +255,14 @@ module _ {T M : Type 0} (setting : Setting T) (short : Shortage) (around : Aroun
       either (is_wanting of_clones wants place) (is_now (reply.Owner AllocError) row) outcome
       (same (reply.Owner AllocError) (inr (inl is))) after
 
-  parted_each : (part kept made : Row T M) → Holds (with_made around kept made)
-      → Holds (parted setting short around row part kept made)
-  parted_each part kept made after =
+  new_part_each : (part : Row T M) (outcome : Outcome) → Holds outcome
+      → Holds (with_new_part setting short around row part outcome)
+  new_part_each part outcome after =
       let full : Outcome = is_now (reply.Owner CountFull) row in
       let fills = around.full && is_some (block_of part.place) in
-      asking_each short refl
-      (with_owner setting short around row part (with_made around kept made))
-      (wanting_each short refl setting.clone_wants part.place
-      (if fills then full else with_made around kept made)
-      (either fills full (with_made around kept made) (same (reply.Owner CountFull) (inl refl))
-      after))
+      asking_each short refl (with_owner setting short around row part outcome)
+      (wanting_each short refl setting.clone_wants part.place (if fills then full else outcome)
+      (either fills full outcome (same (reply.Owner CountFull) (inl refl)) after))
 
   -- two parts of a row that is read
   read-parts : (kept made : Row T M) → is_writer row.role ≡ false → IsPart row kept
@@ -293,23 +290,19 @@ module _ {T M : Type 0} (setting : Setting T) (short : Shortage) (around : Aroun
   one-is true one other h k = h
   one-is false one other h k = k
 
-  one-fits : (b : Bool) (one other : Row T M) → KeepsPart setting.drops row one
-      → KeepsPart setting.drops row other → KeepsPart setting.drops row (if b then one else other)
-  one-fits true one other h k = h
-  one-fits false one other h k = k
-
   itself : IsPart row row
   itself = (stays-same row.place, refl)
 
   split_each : (out : Bool) (cut part : Row T M) → is_writer row.role ≡ false → IsPart row cut
       → IsPart row part → KeepsPart setting.drops row cut → KeepsPart setting.drops row part
-      → Holds (split setting short around out row cut part)
+      → Holds (split_row setting short around out cut part row)
   split_each out cut part reads one other fits fits-too =
-      parted_each part (if out then part else cut) (if out then row else part)
-      (read-parts (if out then part else cut) (if out then row else part) reads
-      (one-is out part cut other one) (one-is out row part itself other)
-      (one-fits out part cut fits-too fits)
-      (one-fits out row part (part-itself setting.drops row) fits-too))
+      let swapped = with_made around part row in
+      let parted = with_made around cut part in
+      new_part_each part (if out then swapped else parted)
+      (either out swapped parted
+      (read-parts part row reads other itself fits-too (part-itself setting.drops row))
+      (read-parts cut part reads one other fits fits-too))
 
   off_is : (at : ℕ) → IsPart row (off_part setting.layout.has_static row at)
   off_is at =
@@ -685,7 +678,7 @@ module _ {T M : Type 0} (setting : Setting T) (short : Shortage) (around : Aroun
       → Holds (answer_row setting short around c row)
   row_each (Clone i) e is has =
       let keeps = part-itself setting.drops row in
-      parted_each row row row
+      new_part_each row (with_made around row row)
       (read-parts row row (reads-only (Clone i) (λ places. refl) (λ places. refl) is) itself
       itself keeps keeps)
   row_each (Sub i start end) e is has =
@@ -693,8 +686,9 @@ module _ {T M : Type 0} (setting : Setting T) (short : Shortage) (around : Aroun
       let only = reads-only (Sub i start end) (λ places. refl) (λ places. refl) is in
       in_range_each (range_answer setting.boundary row.items start end) _ (λ ok.
       let ranged = in-range setting.boundary row.items start end ok in
-      parted_each part row part (read-parts row part only itself (part_is start end)
-      (part-itself setting.drops row) (part-part setting row only start end ranged.0 ranged.1)))
+      new_part_each part (with_made around row part)
+      (read-parts row part only itself (part_is start end) (part-itself setting.drops row)
+      (part-part setting row only start end ranged.0 ranged.1)))
   row_each (Off i at) e is has =
       either-of (is_several row.role) (split_off_change setting short around at row) _
       (λ several. split_off_each several at) (λ none.

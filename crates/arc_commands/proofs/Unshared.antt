@@ -13,7 +13,6 @@ use Rattle.arc_commands.specs.Changes.{Setting, Shortage}
 use Rattle.arc_commands.specs.Commands.{ListCmd, ListReply}
 use Rattle.arc_commands.specs.Step.{Step, answer, count_brought}
 use Rattle.arc_commands.specs.Step.{is_for, is_for_several}
-use Rattle.arc_commands.specs.Step.{shortage}
 use Rattle.arc_commands.specs.declared.command.Cmd.TheVariants as command
 use Rattle.arc_commands.specs.declared.command.Reply.TheVariants as reply
 use Rattle.arc_commands.proofs.Answers.{answer_each}
@@ -107,7 +106,7 @@ module _ {T M : Type 0} where
         → Step setting t c r new → NoneOfSeveral t → NoneOfSeveral new
     step-unshared t c r new step old =
         subst (λ (o : ListReply T M × Table T M). NoneOfSeveral o.1) step.answered
-        (answer-unshared (shortage r c) step.places t c step.enough old)
+        (answer-unshared step.short step.places t c step.enough old)
 
     -- ---- commands for several writers
 
@@ -129,4 +128,4 @@ module _ {T M : Type 0} where
         → is_for_several c ≡ true → Step setting t c r new
         → ((r ≡ reply.Kind) ⊎ (r ≡ reply.NoWindow)) × (new ≡ t)
     step-kind t c r new is step =
-        subst (IsKind t) step.answered (answer-kind (shortage r c) step.places t c is)
+        subst (IsKind t) step.answered (answer-kind step.short step.places t c is)

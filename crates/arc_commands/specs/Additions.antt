@@ -65,6 +65,11 @@ abbrev pub with_stand : List Stand → Option Stand → List Stand
 with_stand stands None = stands
 with_stand stands (Some stand) = stands ++ stand ∷ []
 
+-- What a command on a window does: from where it stood, and the passes of the blocks, to where it
+-- stands then, where a window stands that was made, if one was, and the passes then.
+abbrev pub Effect : Type 0 → Type 1
+Effect H = (here there : Stand) → (made : Option Stand) → (old new : List (Pass H)) → Type 0
+
 module _ {H : Type 0} where
   -- An owner of the block with this number added entries to the block's history, and nothing came
   -- before them that the block's one pass hadn't seen. The other passes stay.
@@ -110,147 +115,177 @@ module _ {H : Type 0} where
   MayBegin None there old new = Founds there old new
   MayBegin (Some here) there old new = (there ≡ Some here) × (new ≡ old)
 
-  -- A command on a window that stood here. Then it stands there, and where a window was made, that
-  -- stands there.
-  module _ (here there : Stand) (made : Option Stand) (old new : List (Pass H)) where
-    -- the window added entries, and stands where it stood
-    abbrev pub Enters : (Owner → List Entry → List Entry) → Type 0
-    Enters entries = (there ≡ here) × (made ≡ None) × AddsAt here entries old new
+  -- ---- what a command on a window does
 
-    -- A window was made beside it. But where the window itself is handed out, what was made stands
-    -- under its number.
-    abbrev pub Joins : Bool → Type 0
-    Joins handed_out = (other : Stand) × Raises here other old new
-        × (there ≡ (if handed_out then other else here))
-        × (made ≡ Some (if handed_out then here else other))
+  -- nothing was added
+  abbrev pub AddsNone : Effect H
+  AddsNone here there made old new = (there ≡ here) × (made ≡ None) × (new ≡ old)
 
-    -- it stands where it stood, or on a new block
-    abbrev pub Stays : Type 0
-    Stays = MayBegin here there old new × (made ≡ None)
+  -- the window added entries, and stands where it stood
+  abbrev pub Enters : (Owner → List Entry → List Entry) → Effect H
+  Enters entries here there made old new =
+      (there ≡ here) × (made ≡ None) × AddsAt here entries old new
 
-    -- the window has gone, and added entries
-    abbrev pub Goes : (Owner → List Entry → List Entry) → Type 0
-    Goes entries = (there ≡ None) × (made ≡ None) × AddsAt here entries old new
+  -- it stands where it stood, or on a new block
+  abbrev pub Stays : Effect H
+  Stays here there made old new = MayBegin here there old new × (made ≡ None)
 
-    -- nothing was added
-    abbrev pub AddsNone : Type 0
-    AddsNone = (there ≡ here) × (made ≡ None) × (new ≡ old)
+  -- the window has gone, and added entries
+  abbrev pub Goes : (Owner → List Entry → List Entry) → Effect H
+  Goes entries here there made old new =
+      (there ≡ None) × (made ≡ None) × AddsAt here entries old new
 
-    -- the window asked whether it is alone, and was, and has gone
-    abbrev pub Takes : Type 0
-    Takes = (there ≡ None) × (made ≡ None) × (between : List (Pass H))
-        × AddsAt here (asked true) old between × AddsAt here ended between new
+  -- the window has gone, which stood on nothing
+  abbrev pub GoesFromNothing : Effect H
+  GoesFromNothing here there made old new =
+      (here ≡ None) × (there ≡ None) × (made ≡ None) × (new ≡ old)
 
-    -- a reader asked so, and a sole writer, who is alone, only ended
-    abbrev pub TakesAs : (sole : Bool) → Type 0
-    TakesAs true = Goes ended
-    TakesAs false = Takes
+  -- ---- windows that are handed out
 
-    -- where only the count decides, it was asked, and said no; else nothing was added
-    abbrev pub AsksIf : (decides : Bool) → Type 0
-    AsksIf true = Enters (asked false)
-    AsksIf false = AddsNone
+  -- Another window was made beside it, and handed out. The window stands where it stood.
+  pub record GivesOther (here there : Stand) (made : Option Stand) (old new : List (Pass H))
+      : Type 0 where
+    pub other : Stand
+    pub raises : Raises here other old new
+    pub stays : there ≡ here
+    pub handed_out : made ≡ Some other
 
-    -- The window ended as an owner of a vector, and is the first owner of a new block, on which
-    -- another was made.
-    pub record MovesAndJoins : Type 0 where
-      pub between : List (Pass H)
-      pub begun_with : List (Pass H)
-      pub other : Stand
-      pub left : AddsAt here ended old between
-      pub stands : is_some there ≡ true
-      pub begins : Founds there between begun_with
-      pub raises : Raises there other begun_with new
-      pub joins : is_some other ≡ true
-      pub handed_out : made ≡ Some other
+  -- The window itself was handed out. Another was made beside it, and stands under its number.
+  pub record GivesItself (here there : Stand) (made : Option Stand) (old new : List (Pass H))
+      : Type 0 where
+    pub raises : Raises here there old new
+    pub handed_out : made ≡ Some here
 
-    -- A window was split, which of a reader may hand out the window itself. One of several writers
-    -- of a vector moves to a new block first.
-    abbrev pub Splits : (several on_vector handed_out : Bool) → Type 0
-    Splits false on_vector handed_out = Joins handed_out
-    Splits true false handed_out = Joins false
-    Splits true true handed_out = MovesAndJoins
+  -- The window ended as an owner of a vector, and is the first owner of a new block. There another
+  -- window was made beside it, and handed out.
+  pub record MovesAndGives (here there : Stand) (made : Option Stand) (old new : List (Pass H))
+      : Type 0 where
+    pub between : List (Pass H)
+    pub begun_with : List (Pass H)
+    pub other : Stand
+    pub left : AddsAt here ended old between
+    pub stands : is_some there ≡ true
+    pub begins : Founds there between begun_with
+    pub raises : Raises there other begun_with new
+    pub joins : is_some other ≡ true
+    pub handed_out : made ≡ Some other
 
-    -- where the count is asked first, it said that the window is alone, or that it isn't
-    abbrev pub AsksFirst : (asks alone : Bool) → Type 0
-    AsksFirst true alone = Enters (asked alone)
-    AsksFirst false alone = AddsNone
+  -- A window was split. One that is read gives another, or at an end itself. One of several writers
+  -- gives another; from a vector it moves first.
+  abbrev pub Splits : (several on_vector at_end : Bool) → Effect H
+  Splits false on_vector false = GivesOther
+  Splits false on_vector true = GivesItself
+  Splits true false at_end = GivesOther
+  Splits true true at_end = MovesAndGives
 
-    -- room was made
-    abbrev pub HasMade : (asks : Bool) → Type 0
-    HasMade true = Enters (asked true)
-    HasMade false = Stays
+  -- ---- questions to the count
 
-    -- None was made: beside another owner, as the count said, or after it said that there is none.
-    abbrev pub HasRefused : (asks : Bool) → TryReserveError → Type 0
-    HasRefused asks reserve.NotUnique = AsksFirst asks false
-    HasRefused asks reserve.AllocError = AsksFirst asks true
-    HasRefused asks reserve.Unsupported = AsksFirst asks true
-    HasRefused asks reserve.CapacityOverflow = AsksFirst asks true
+  -- the window asked whether it is alone, with either answer
+  abbrev pub AsksEither : Effect H
+  AsksEither here there made old new =
+      (alone : Bool) × Enters (asked alone) here there made old new
 
-    -- Whether no other owner has a part of a block of this sort, and somebody may have: the count
-    -- was asked, which said no. A caller's buffer may say no though the owner is alone, and of an
-    -- `Arc` nobody was asked.
-    abbrev pub AsksInVain : Sort → Type 0
-    AsksInVain native = Enters (asked false)
-    AsksInVain vector = Enters (asked false)
-    AsksInVain (buffer writable) = (alone : Bool) × Enters (asked alone)
-    AsksInVain raw = AddsNone
+  -- where only the count decides, it was asked, and said no; else nothing was added
+  abbrev pub AsksIf : (decides : Bool) → Effect H
+  AsksIf true = Enters (asked false)
+  AsksIf false = AddsNone
 
-    abbrev pub AsksInVainAt : {N M : Type 0} → Place N M → Type 0
-    AsksInVainAt nowhere = AddsNone
-    AsksInVainAt static_data = AddsNone
-    AsksInVainAt (on_block block offset info) = AsksInVain info.sort
+  -- where the count is asked first, it said that the window is alone, or that it isn't
+  abbrev pub AsksFirst : (asks alone : Bool) → Effect H
+  AsksFirst true alone = Enters (asked alone)
+  AsksFirst false alone = AddsNone
 
-    -- What a command on such a row adds, by what it is answered. A split that leaves nothing hands
-    -- out the window itself
-    abbrev pub RowAdds : {T M : Type 0} → Setting T → Row T M → ListCmd T M
-        → ListReply T M → Type 0
-    RowAdds setting row (Clone i) (reply.New number) = Joins false
-    RowAdds setting row (Sub i start end) (reply.New number) = Joins false
-    RowAdds setting row (Off i at) (reply.New number) =
-        Splits (is_several row.role) (is_vector_at row.place) (at == 0)
-    RowAdds setting row (To i at) (reply.New number) =
-        Splits (is_several row.role) (is_vector_at row.place) (at == length row.items)
-    RowAdds setting row (Clone i) (reply.Owner e) = Enters (refused e)
-    RowAdds setting row (Sub i start end) (reply.Owner e) = Enters (refused e)
-    RowAdds setting row (Off i at) (reply.Owner e) = Enters (refused e)
-    RowAdds setting row (To i at) (reply.Owner e) = Enters (refused e)
-    RowAdds setting row (Uniq i) reply.Yes = Enters (asked true)
-    RowAdds setting row (Uniq i) reply.No = AsksInVainAt row.place
-    RowAdds setting row (Mut i) reply.Ok = Enters (asked true)
-    RowAdds setting row (Mut i) reply.Refused =
-        AsksIf (is_writable_at setting.writes_any row.place)
-    RowAdds setting row (Unique i) reply.Ok = Enters (asked true)
-    RowAdds setting row (Unique i) reply.Refused = AsksIf (is_on_block row.place)
-    RowAdds setting row (Res i additional) reply.Ok = HasMade (asks_first row additional)
-    RowAdds setting row (Push i item) reply.Ok = HasMade (asks_first row 1)
-    RowAdds setting row (Ext i items) reply.Ok = HasMade (asks_first row (length items))
-    RowAdds setting row (Res i additional) (reply.Reserve e) =
-        HasRefused (asks_first row additional) e
-    RowAdds setting row (Push i item) (reply.Reserve e) = HasRefused (asks_first row 1) e
-    RowAdds setting row (Ext i items) (reply.Reserve e) =
-        HasRefused (asks_first row (length items)) e
-    RowAdds setting row (Rec i additional) reply.Yes = AsksFirst (asks_first row additional) true
-    RowAdds setting row (Rec i additional) reply.No =
-        (alone : Bool) × AsksFirst (asks_first row additional) alone
-    RowAdds setting row (Freeze i) reply.Ok = Stays
-    RowAdds setting row (Drop i) reply.Ok = Goes ended
-    RowAdds setting row (Take i) (reply.Vec items) = TakesAs (is_sole row.role)
-    RowAdds setting row (TakeBox i) (reply.Boxed items) = Takes
-    RowAdds setting row (TakeBuf i) (reply.Buffer items) = TakesAs (is_sole row.role)
-    RowAdds setting row (TakeRaw i) (reply.Raw items) = Takes
-    RowAdds setting row (Take i) reply.Refused =
-        AsksIf (is_vector_part setting.drops row.place (length row.items))
-    RowAdds setting row (TakeBox i) reply.Refused =
-        AsksIf (is_box_whole row.place (length row.items))
-    RowAdds setting row (TakeBuf i) reply.Refused =
-        AsksIf (is_buffer_whole row.place (length row.items))
-    RowAdds setting row (TakeRaw i) reply.Refused =
-        AsksIf (is_raw_whole row.place (length row.items))
-    RowAdds setting row (TakeStatic i) (reply.Static items) =
-        (here ≡ None) × (there ≡ None) × (made ≡ None) × (new ≡ old)
-    RowAdds setting row command reply = AddsNone
+  -- the same, with either answer
+  abbrev pub AsksFirstEither : (asks : Bool) → Effect H
+  AsksFirstEither asks here there made old new =
+      (alone : Bool) × AsksFirst asks alone here there made old new
+
+  -- Whether no other owner has a part of a block of this sort, and somebody may have: the count
+  -- was asked, which said no. A caller's buffer may say no though the owner is alone, and of an
+  -- `Arc` nobody was asked.
+  abbrev pub AsksInVain : Sort → Effect H
+  AsksInVain native = Enters (asked false)
+  AsksInVain vector = Enters (asked false)
+  AsksInVain (buffer writable) = AsksEither
+  AsksInVain raw = AddsNone
+
+  abbrev pub AsksInVainAt : {N M : Type 0} → Place N M → Effect H
+  AsksInVainAt nowhere = AddsNone
+  AsksInVainAt static_data = AddsNone
+  AsksInVainAt (on_block block offset info) = AsksInVain info.sort
+
+  -- the window asked whether it is alone, and was, and has gone
+  abbrev pub Takes : Effect H
+  Takes here there made old new = (there ≡ None) × (made ≡ None) × (between : List (Pass H))
+      × AddsAt here (asked true) old between × AddsAt here ended between new
+
+  -- a reader asked so, and a sole writer, who is alone, only ended
+  abbrev pub TakesAs : (sole : Bool) → Effect H
+  TakesAs true = Goes ended
+  TakesAs false = Takes
+
+  -- ---- room
+
+  -- room was made
+  abbrev pub HasMade : (asks : Bool) → Effect H
+  HasMade true = Enters (asked true)
+  HasMade false = Stays
+
+  -- None was made: beside another owner, as the count said, or after it said that there is none.
+  abbrev pub HasRefused : (asks : Bool) → TryReserveError → Effect H
+  HasRefused asks reserve.NotUnique = AsksFirst asks false
+  HasRefused asks reserve.AllocError = AsksFirst asks true
+  HasRefused asks reserve.Unsupported = AsksFirst asks true
+  HasRefused asks reserve.CapacityOverflow = AsksFirst asks true
+
+  -- ---- each command and reply
+
+  -- What a command on such a row does, by what it is answered.
+  abbrev pub RowAdds : {T M : Type 0} → Setting T → Row T M → ListCmd T M → ListReply T M
+      → Effect H
+  RowAdds setting row (Clone i) (reply.New number) = GivesOther
+  RowAdds setting row (Sub i start end) (reply.New number) = GivesOther
+  RowAdds setting row (Off i at) (reply.New number) =
+      Splits (is_several row.role) (is_vector_at row.place) (at == 0)
+  RowAdds setting row (To i at) (reply.New number) =
+      Splits (is_several row.role) (is_vector_at row.place) (at == length row.items)
+  RowAdds setting row (Clone i) (reply.Owner e) = Enters (refused e)
+  RowAdds setting row (Sub i start end) (reply.Owner e) = Enters (refused e)
+  RowAdds setting row (Off i at) (reply.Owner e) = Enters (refused e)
+  RowAdds setting row (To i at) (reply.Owner e) = Enters (refused e)
+  RowAdds setting row (Uniq i) reply.Yes = Enters (asked true)
+  RowAdds setting row (Uniq i) reply.No = AsksInVainAt row.place
+  RowAdds setting row (Mut i) reply.Ok = Enters (asked true)
+  RowAdds setting row (Mut i) reply.Refused =
+      AsksIf (is_writable_at setting.writes_any row.place)
+  RowAdds setting row (Unique i) reply.Ok = Enters (asked true)
+  RowAdds setting row (Unique i) reply.Refused = AsksIf (is_on_block row.place)
+  RowAdds setting row (Res i additional) reply.Ok = HasMade (asks_first row additional)
+  RowAdds setting row (Push i item) reply.Ok = HasMade (asks_first row 1)
+  RowAdds setting row (Ext i items) reply.Ok = HasMade (asks_first row (length items))
+  RowAdds setting row (Res i additional) (reply.Reserve e) =
+      HasRefused (asks_first row additional) e
+  RowAdds setting row (Push i item) (reply.Reserve e) = HasRefused (asks_first row 1) e
+  RowAdds setting row (Ext i items) (reply.Reserve e) =
+      HasRefused (asks_first row (length items)) e
+  RowAdds setting row (Rec i additional) reply.Yes = AsksFirst (asks_first row additional) true
+  RowAdds setting row (Rec i additional) reply.No = AsksFirstEither (asks_first row additional)
+  RowAdds setting row (Freeze i) reply.Ok = Stays
+  RowAdds setting row (Drop i) reply.Ok = Goes ended
+  RowAdds setting row (Take i) (reply.Vec items) = TakesAs (is_sole row.role)
+  RowAdds setting row (TakeBox i) (reply.Boxed items) = Takes
+  RowAdds setting row (TakeBuf i) (reply.Buffer items) = TakesAs (is_sole row.role)
+  RowAdds setting row (TakeRaw i) (reply.Raw items) = Takes
+  RowAdds setting row (Take i) reply.Refused =
+      AsksIf (is_vector_part setting.drops row.place (length row.items))
+  RowAdds setting row (TakeBox i) reply.Refused =
+      AsksIf (is_box_whole row.place (length row.items))
+  RowAdds setting row (TakeBuf i) reply.Refused =
+      AsksIf (is_buffer_whole row.place (length row.items))
+  RowAdds setting row (TakeRaw i) reply.Refused =
+      AsksIf (is_raw_whole row.place (length row.items))
+  RowAdds setting row (TakeStatic i) (reply.Static items) = GoesFromNothing
+  RowAdds setting row command reply = AddsNone
 
   -- what is added by a command that makes a window of what it brings: it stands on nothing, or as
   -- the first owner of a new block
@@ -272,7 +307,7 @@ module _ {H : Type 0} where
       × MakerAdds c reply made old.passes new.passes × (new.stands ≡ with_stand old.stands made)
   AddsBy setting t old c reply new (Some i) = MatchOption (row_at t i) (new ≡ old) (λ row.
       (there : Stand) × (made : Option Stand)
-      × RowAdds (stand_in old i) there made old.passes new.passes setting row c reply
+      × RowAdds setting row c reply (stand_in old i) there made old.passes new.passes
       × (new.stands ≡ with_stand (slice_set old.stands i there) made))
 
   -- what is added by a join of two windows, of which this is the other: it has ended

@@ -367,19 +367,25 @@ abbrev pub to_part : {T M : Type 0} → (has_static : Bool) → Row T M → ℕ 
 to_part has_static row at =
     if at == length row.items then part_of has_static row at at else part_of has_static row 0 at
 
--- A part is made as one owner more: the window keeps one row, and another one is made.
-abbrev pub parted : {T M : Type 0} → Setting T → Shortage → Around → (row part kept made : Row T M)
-    → Change T M
-parted setting short around row part kept made =
-    asking short row (with_owner setting short around row part (with_made around kept made))
+-- a part of a row is made, as one owner more, and then this comes of it
+abbrev pub with_new_part : {T M : Type 0} → Setting T → Shortage → Around → (row part : Row T M)
+    → Change T M → Change T M
+with_new_part setting short around row part change =
+    asking short row (with_owner setting short around row part change)
 
--- The same of a split. The part that was made is handed out, and the other stays; or the row itself
--- is handed out, and what was made stays under its number.
-abbrev pub split : {T M : Type 0} → Setting T → Shortage → Around → Bool → (row cut part : Row T M)
+-- a part is made beside the row, which stays
+abbrev pub part_beside : {T M : Type 0} → Setting T → Shortage → Around → (part row : Row T M)
     → Change T M
-split setting short around handed_out row cut part =
-    parted setting short around row part (if handed_out then part else cut)
-    (if handed_out then row else part)
+part_beside setting short around part row =
+    with_new_part setting short around row part (with_made around row part)
+
+-- A part is made, and the row is cut. Where the split is at the end that leaves nothing, the row
+-- itself is handed out, and the part stays under its number.
+abbrev pub split_row : {T M : Type 0} → Setting T → Shortage → Around → (at_end : Bool)
+    → (cut part row : Row T M) → Change T M
+split_row setting short around at_end cut part row =
+    with_new_part setting short around row part
+    (if at_end then with_made around part row else with_made around cut part)
 
 -- where a writer has room for so many items more; a first block has places for so many
 abbrev pub room_of : {N T M : Type 0} → Setting T → RowOf N T M → ℕ → RoomFrom

@@ -18,9 +18,9 @@ use Rattle.arc_commands.specs.Changes.{buffer_row, cut_row, filled, frozen, gone
 use Rattle.arc_commands.specs.Changes.{is_box_whole, is_buffer_whole, is_full, is_now}
 use Rattle.arc_commands.specs.Changes.{is_raw_whole, is_unique_at, is_vector_part, made_row}
 use Rattle.arc_commands.specs.Changes.{may_write, no_shortage, of_blocks, of_buffer, of_clones}
-use Rattle.arc_commands.specs.Changes.{of_growth, of_table, off_part, part_of, parted, raw_row}
-use Rattle.arc_commands.specs.Changes.{reclaimed, room_of, small_row, split, static_row, taken_as}
-use Rattle.arc_commands.specs.Changes.{to_part, truncated, vector_row, writer_row}
+use Rattle.arc_commands.specs.Changes.{of_growth, of_table, off_part, part_beside, part_of, raw_row}
+use Rattle.arc_commands.specs.Changes.{reclaimed, room_of, small_row, split_row, static_row}
+use Rattle.arc_commands.specs.Changes.{taken_as, to_part, truncated, vector_row, writer_row}
 use Rattle.arc_commands.specs.Changes.{written_buffer_row}
 use Rattle.arc_commands.specs.Several.{filled_shared, join_answer, reclaimed_shared, shared_change}
 use Rattle.arc_commands.specs.Several.{split_off_change, split_to_change, unique_change}
@@ -37,7 +37,7 @@ use Rattle.arc_commands.specs.declared.command.Cmd.TheVariants.{Vec, Raw, Buf, M
 use Rattle.arc_commands.specs.declared.command.Cmd.TheVariants.{Take, TakeBox, TakeBuf, TakeRaw}
 use Rattle.arc_commands.specs.declared.command.Reply.TheVariants as reply
 
--- where it was refused, and what a buffer said, as the reply to a command tells
+-- what the reply to a command tells was refused, or what a buffer said
 abbrev pub shortage : {T M : Type 0} → ListReply T M → ListCmd T M → Shortage
 shortage reply.Alloc command = of_table
 shortage (reply.Owner AllocError) command = of_clones
@@ -127,21 +127,20 @@ written setting short around items additional row =
 -- the range, what it asks for, and then what it does. A join is on two rows (`answer_two`).
 abbrev pub answer_row : {T M : Type 0} → Setting T → Shortage → Around → ListCmd T M
     → Row T M → Change T M
-answer_row setting short around (Clone i) row = parted setting short around row row row row
+answer_row setting short around (Clone i) row = part_beside setting short around row row
 answer_row setting short around (Sub i start end) row =
     in_range (range_answer setting.boundary row.items start end) row
-    (let part = part_of setting.layout.has_static row start end in
-    parted setting short around row part row part)
+    (part_beside setting short around (part_of setting.layout.has_static row start end) row)
 answer_row setting short around (Off i at) row =
     if is_several row.role then split_off_change setting short around at row else
     in_range (edge_answer setting.boundary row.items at) row
-    (split setting short around (at == 0) row (cut_row row 0 at)
-    (off_part setting.layout.has_static row at))
+    (split_row setting short around (at == 0) (cut_row row 0 at)
+    (off_part setting.layout.has_static row at) row)
 answer_row setting short around (To i at) row =
     if is_several row.role then split_to_change setting short around at row else
     in_range (edge_answer setting.boundary row.items at) row
-    (split setting short around (at == length row.items) row (cut_row row at (length row.items))
-    (to_part setting.layout.has_static row at))
+    (split_row setting short around (at == length row.items) (cut_row row at (length row.items))
+    (to_part setting.layout.has_static row at) row)
 answer_row setting short around (Uniq i) row =
     is_now (if is_unique_at short around.alone row.place then reply.Yes else reply.No) row
 answer_row setting short around (Show i) row = asking short row (is_now (reply.Items row.items) row)
@@ -388,14 +387,17 @@ abbrev pub answer : {T M : Type 0} → Setting T → Shortage → (places : ℕ)
 answer setting short places t c =
     answer_on setting short places t c (window_of c) (other_of c)
 
--- From old, the table may give this reply to the command and go on to new: it is the answer, where
--- memory was refused as the reply tells, and a vector or a buffer that the command brings, or a
--- buffer that makes room for what it writes, has so many places. What is refused changes nothing.
+-- From old, the table may give this reply to the command and go on to new: these are the answer,
+-- where something was refused so, which the reply tells, and a vector or a buffer that the command
+-- brings, or a buffer that makes room for what it writes, has so many places. What is refused
+-- changes nothing.
 pub record Step {T M : Type 0} (setting : Setting T) (old : Table T M) (c : ListCmd T M)
     (reply : ListReply T M) (new : Table T M) : Type 0 where
+  pub short : Shortage
+  pub told : short ≡ shortage reply c
   pub places : ℕ
   pub enough : count_brought c ≤ places
-  pub answered : answer setting (shortage reply c) places old c ≡ (reply, new)
+  pub answered : answer setting short places old c ≡ (reply, new)
 
 -- the table may give these replies to these commands, one after another
 abbrev pub Run : {T M : Type 0} → Setting T → Table T M → List (ListCmd T M)

@@ -1,5 +1,7 @@
 //! Windows that a command makes of what it brings.
-ghost use Rattle.std.specs.Prelude.{◌≡◌, ◌<◌, ◌≤◌, IfErr, IfOk, Some, true, is_some, length};
+ghost use Rattle.std.specs.Prelude.{◌≡◌, ◌<◌, ◌≤◌, IfErr, IfOk, IfSome, Some, true, is_some};
+ghost use Rattle.std.specs.Prelude.{length, ℕ};
+ghost use Rattle.std.specs.Option.{option_map};
 ghost use Rattle.std.specs.Vec.{vec_capacity};
 ghost use Rattle.arc_parts.specs.Writers.{IsNewWriter, idle_writer};
 ghost use Rattle.arc_commands.specs.Additions.{Founds};
@@ -8,11 +10,12 @@ ghost use Rattle.std.specs.Arc.{arc_value};
 ghost use Rattle.arc_commands.specs.Changes.{made_row, vector_row, writer_row};
 ghost use Rattle.arc_commands.specs.Changes.{buffer_row, raw_row, written_buffer_row};
 ghost use Rattle.arc_commands.specs.declared.command.Cmd.TheVariants as command;
-ghost use Rattle.arc_makers.specs.Makers.{Makes};
+ghost use Rattle.arc_makers.specs.Makers.{HasOwnPlaces, Makes, WrapsPlaces};
 ghost use Rattle.arc_slots.specs.Slots.{row_of, stand_of};
 
 use arc_block::layout::{Layout, LayoutMut, stands_on_nothing};
 use arc_buffer::buffer::{Buffer, BufferMut};
+use arc_buffer::kinds::Wraps;
 use arc_commands::command::{Cmd, Reply};
 use arc_kinds::kinds::{
     CallsOf, Commands, SmallOf, TableCmd, TableReply, TableUnder, ZeroOf, known_legal, vec_of,
@@ -163,6 +166,15 @@ where
     Ok(Slot { window, block })
 }
 
+/// The vector that a list of a command wraps. Takes no memory.
+fn wrapped<S: Commands<A>, A: Allocator>(items: S::Items) -> Vec<S::Item, A>
+    ensures wraps { S.Items.wraps items result }
+    ensures list { result.items ≡ S.items_in items }
+    ensures legal { ∥ S.is_legal result.items ∥₁ }
+{
+    items.into_inner()
+}
+
 /// A window that is read, over a vector.
 fn over_vec<S: Commands<A>, L: Layout, B: BufferMut<S::Item> + Drop, M: Drop, A: Allocator + Copy>(
     alloc: A,
@@ -177,6 +189,9 @@ where
     ensures made { Makes ⟦<S as TableUnder<L, A>>⟧.setting next (command.Vec (S.items_in items))
         passes.old.of_blocks.items (seen_reply S.items_in S.items_in_box B.list result.0) result.1
         passes.new.of_blocks.items }
+    ensures places { IfSome (option_map row_of result.1) (λ row. (n : ℕ)
+        × WrapsPlaces S.Items.wraps items n × (row ≡ vector_row L.STATIC S.DROPS
+        (length passes.old.of_blocks.items) (S.items_in items) n)) }
     ensures room { is_some result.1 ≡ true → has_room ≡ true }
 {
     if !L::ANY {
@@ -188,7 +203,7 @@ where
     if passes.reserve_for(true).is_err() {
         return (Reply::Alloc, None);
     }
-    match vector(alloc, vec_of::<S, A>(items), passes) {
+    match vector(alloc, wrapped::<S, A>(items), passes) {
         Ok(slot) => (Reply::New(next), Some(slot)),
         Err(_) => (Reply::Alloc, None),
     }
@@ -259,6 +274,8 @@ where
     ensures made { Makes ⟦<S as TableUnder<L, A>>⟧.setting next
         (command.Buf (B.list given) metadata) passes.old.of_blocks.items
         (seen_reply S.items_in S.items_in_box B.list result.0) result.1 passes.new.of_blocks.items }
+    ensures places { IfSome (option_map row_of result.1) (λ row. row ≡ buffer_row
+        (length passes.old.of_blocks.items) (B.list given) (B.places given) metadata) }
     ensures room { is_some result.1 ≡ true → has_room ≡ true }
 {
     if !S::Calls::any_list() {
@@ -337,6 +354,8 @@ where
     ensures made { Makes ⟦<S as TableUnder<L, A>>⟧.setting next
         (command.MBuf (B.list given) metadata) passes.old.of_blocks.items
         (seen_reply S.items_in S.items_in_box B.list result.0) result.1 passes.new.of_blocks.items }
+    ensures places { IfSome (option_map row_of result.1) (λ row. row ≡ written_buffer_row
+        (length passes.old.of_blocks.items) (B.list given) (B.places given) metadata) }
     ensures room { is_some result.1 ≡ true → has_room ≡ true }
 {
     if !S::Calls::any_list() {
@@ -645,6 +664,9 @@ where
     ensures made { Makes ⟦<S as TableUnder<L, A>>⟧.setting next
         (map_command S.items_in S.static_in B.list command) passes.old.of_blocks.items
         (seen_reply S.items_in S.items_in_box B.list result.0) result.1 passes.new.of_blocks.items }
+    ensures places { HasOwnPlaces (WrapsPlaces S.Items.wraps) S.items_in B.list B.places
+        ⟦<S as TableUnder<L, A>>⟧.setting (length passes.old.of_blocks.items) command
+        (option_map row_of result.1) }
     ensures room { is_some result.1 ≡ true → has_room ≡ true }
 {
     match command {

@@ -56,6 +56,13 @@ with_capacity (sole_writer before) capacity = sole_writer capacity
 with_capacity (one_writer_of_several before) capacity = one_writer_of_several capacity
 with_capacity role capacity = role
 
+-- How many places of a block are full once so many items more stand from a place on, where so many
+-- were. Some of these may lie behind that place: only the items past them are full places more.
+abbrev pub full_with : (from more full : ℕ) → ℕ
+full_with from more full =
+    let behind = full - from in
+    full + (more - behind)
+
 module _ {N M : Type 0} where
   -- where a writer of so many items, which stands here, has room for more of them
   abbrev pub room_at : (drops : Bool) → (first item_size : ℕ) → Place N M → (len additional : ℕ)
@@ -72,13 +79,12 @@ module _ {N M : Type 0} where
   with_size places (on_block block offset info) =
       on_block block offset (record info { size = places })
 
-  -- The same place, once so many items more stand behind so many: those of them that stand past
-  -- the block's full places are full places more.
+  -- the same place, once so many items more stand behind so many
   abbrev pub with_full : (len more : ℕ) → Place N M → Place N M
   with_full len more nowhere = nowhere
   with_full len more static_data = static_data
   with_full len more (on_block block offset info) = on_block block offset (record info {
-    full = option_map (λ full. full + (more - (full - (offset + len)))) info.full;
+    full = option_map (full_with (offset + len) more) info.full;
   })
 
 module _ {N T M : Type 0} where

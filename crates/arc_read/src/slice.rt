@@ -109,6 +109,15 @@ impl<
         let ArcSlice { parts, of: _ } = self;
         parts
     }
+
+    /// The window's layout holds what the window stands on, and its list is legal for the kind.
+    /// Does nothing: its contract is the law.
+    pub fn known_held(&self)
+        ensures held { IsHeld (layout_facts L.Layout) self.now.place }
+        ensures legal { ∥ S.is_legal self.now.items ∥₁ }
+    {
+        let _ = &self.parts;
+    }
 }
 
 const _: () = prove!(size_of::<ArcSlice<Plain<u8>>>() == 40);

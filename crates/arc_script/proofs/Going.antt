@@ -1,6 +1,7 @@
 -- How the engine's calls follow one another.
-use Rattle.std.proofs.Common.{◌≡◌, ℕ, Bool, false, List, [], ◌∷◌, ◌++◌, Result, Ok, Err, OnErr}
-use Rattle.std.proofs.Common.{OnOk, IfErr, IsErrAnd, refl, sym, ap, ◌∙◌, subst, append_assoc, arith}
+use Rattle.std.proofs.Common.{◌≡◌, ℕ, ◌≤◌, ◌+◌, Bool, false, List, [], ◌∷◌, ◌++◌, Result, Ok, Err}
+use Rattle.std.proofs.Common.{OnErr, OnOk, IfErr, IsErrAnd, length, refl, sym, ap, ◌∙◌, subst}
+use Rattle.std.proofs.Common.{append_assoc, arith}
 use Rattle.std.proofs.lemmas.List.{append-nil}
 use Rattle.arc_commands.specs.State.{empty_state}
 use Rattle.arc_script.specs.declared.layout.NamedLayout as Named
@@ -8,7 +9,7 @@ use Rattle.arc_block.specs.declared.layout.Layout as Layout
 use Rattle.arc_script.specs.declared.layout.ScriptLayout.{ScriptLayout}
 use Rattle.arc_script.specs.State.{ByteState}
 use Rattle.arc_forms.specs.Text.{line_feed}
-use Rattle.arc_script.specs.Script.{HasNoFeed, OfWholeLines}
+use Rattle.arc_script.specs.Script.{HasNoFeed, OfWholeLines, feeds}
 use Rattle.arc_script.specs.Traffic.{Traffic, Exchanges, NoFault, TakesFront}
 use Rattle.arc_script.specs.Underway.{Holds, Ends, MayEnd, IsUnderway, IsAnswered, IsBegun}
 use Rattle.arc_script.specs.Underway.{IsThrough, IsBrokenOff}
@@ -19,7 +20,9 @@ use Rattle.arc_script.specs.declared.script.ScriptError.{ScriptError}
 use Rattle.arc_script.specs.declared.script.ScriptError.TheVariants.{Read, Write, Alloc}
 use Rattle.arc_script.proofs.Underway.{nothing_read, more_held, line_ended, went_out, begun_out}
 use Rattle.arc_script.proofs.Underway.{begun_front, answered_begun, still_begun, line_broken}
-use Rattle.arc_script.proofs.Underway.{begun_nothing, whole_answered}
+use Rattle.arc_script.proofs.Underway.{all_settled, begun_cut, begun_nothing, stand_many}
+use Rattle.arc_script.proofs.Underway.{whole_answered}
+use Rattle.arc_script.proofs.Splits.{feeds-append}
 
 -- what holds whatever is answered
 pub on_ok : {T E P : Type 0} (r : Result T E) → P → OnOk r P
@@ -35,49 +38,52 @@ in_place held bytes line too_long none holds =
 module _ {layout : ScriptLayout} {L A W : Type 0} {N : Named.Ghosts L W}
     {G : Layout.Ghosts L W} {K : Layout.Ghosts W W} where
   -- the same windows, out, line and flag make the same state
-  pub same_state : (start input : List ℕ) (w : Traffic) (e : Engine L A W N G K) (out held : List ℕ)
-      (state : ByteState) (too_long : Bool) → e.out.items ≡ out → e.table ≡ state
-      → e.line.items ≡ held → e.too_long ≡ too_long
-      → IsUnderway layout start input w out state held too_long → HasRead layout start input w e
-  same_state start input w e out held state too_long same_out same_windows same_line same_flag u =
+  pub same_state : (early : ℕ) (start input : List ℕ) (w : Traffic) (e : Engine L A W N G K)
+      (out held : List ℕ) (state : ByteState) (too_long : Bool) → e.out.items ≡ out
+      → e.table ≡ state → e.line.items ≡ held → e.too_long ≡ too_long
+      → IsUnderway layout early start input w out state held too_long
+      → HasRead layout early start input w e
+  same_state early start input w e out held state too_long same_out same_windows same_line
+      same_flag u =
       subst
-      (λ f. IsUnderway layout start input w e.out.items e.table e.line.items f)
+      (λ f. IsUnderway layout early start input w e.out.items e.table e.line.items f)
       (sym same_flag)
-      (subst (λ l. IsUnderway layout start input w e.out.items e.table l too_long)
+      (subst (λ l. IsUnderway layout early start input w e.out.items e.table l too_long)
       (sym same_line)
-      (subst (λ s. IsUnderway layout start input w e.out.items s held too_long) (sym same_windows)
-      (subst (λ o. IsUnderway layout start input w o state held too_long) (sym same_out) u)))
+      (subst (λ s. IsUnderway layout early start input w e.out.items s held too_long)
+      (sym same_windows)
+      (subst (λ o. IsUnderway layout early start input w o state held too_long) (sym same_out) u)))
 
   -- the same windows and out make the same beginning
-  same_begun : (fault : ScriptError) (start input : List ℕ) (w : Traffic) (e : Engine L A W N G K)
-      (out : List ℕ) (state : ByteState) → e.out.items ≡ out → e.table ≡ state
-      → IsBegun layout fault start input w out state → IsBegun layout fault start input w
-      e.out.items e.table
-  same_begun fault start input w e out state same_out same_windows b =
-      subst (λ o. IsBegun layout fault start input w o e.table) (sym same_out)
-      (subst (λ s. IsBegun layout fault start input w out s) (sym same_windows) b)
+  same_begun : (fault : ScriptError) (early : ℕ) (start input : List ℕ) (w : Traffic)
+      (e : Engine L A W N G K) (out : List ℕ) (state : ByteState) → e.out.items ≡ out
+      → e.table ≡ state → IsBegun layout fault early start input w out state
+      → IsBegun layout fault early start input w e.out.items e.table
+  same_begun fault early start input w e out state same_out same_windows b =
+      subst (λ o. IsBegun layout fault early start input w o e.table) (sym same_out)
+      (subst (λ s. IsBegun layout fault early start input w out s) (sym same_windows) b)
 
   -- it stops before it has written more
   pub stops_now : (fault : ScriptError) (bytes : List ℕ) (w : Traffic) (e e1 : Engine L A W N G K)
       → e1.table ≡ e.table → e1.out.items ≡ e.out.items → Stops layout bytes w w e e1 fault
-  stops_now fault bytes w e e1 same_windows same_out start input more read =
-      same_begun fault start (input ++ (bytes ++ more)) w e1 e.out.items e.table same_out
+  stops_now fault bytes w e e1 same_windows same_out early start input more read =
+      same_begun fault early start (input ++ (bytes ++ more)) w e1 e.out.items e.table same_out
       same_windows (still_begun read fault (bytes ++ more))
 
   -- it stops while its replies go out
   pub stops_out : (bytes : List ℕ) (w w' : Traffic) (e e1 : Engine L A W N G K)
       → TakesFront e.out.items w w' → e1.out.items ≡ [] → e1.table ≡ e.table
       → Stops layout bytes w w' e e1 Write
-  stops_out bytes w w' e e1 front none same start input more read =
-      same_begun Write start (input ++ (bytes ++ more)) w' e1 [] e.table none same
+  stops_out bytes w w' e e1 front none same early start input more read =
+      same_begun Write early start (input ++ (bytes ++ more)) w' e1 [] e.table none same
       (begun_front (still_begun read Write (bytes ++ more)) w' front)
 
   -- it stops at a line feed
   pub stops_at_line : (w : Traffic) (e e1 : Engine L A W N G K)
       → MayEnd layout e.line.items e.too_long e.table e1.table → e1.out.items ≡ e.out.items
       → Stops layout (line_feed ∷ []) w w e e1 Alloc
-  stops_at_line w e e1 may same_out start input more read =
-      subst (λ o. IsBegun layout Alloc start (input ++ (line_feed ∷ [] ++ more)) w o e1.table)
+  stops_at_line w e e1 may same_out early start input more read =
+      subst (λ o. IsBegun layout Alloc early start (input ++ (line_feed ∷ [] ++ more)) w o e1.table)
       (sym same_out) (line_broken read e1.table more may)
 
   -- it stops, and what it holds goes out
@@ -85,45 +91,45 @@ module _ {layout : ScriptLayout} {L A W : Type 0} {N : Named.Ghosts L W}
       (e e1 e2 : Engine L A W N G K) → Stops layout bytes w w1 e e1 fault
       → w'.bytes ≡ w1.bytes ++ e1.out.items
       → e2.out.items ≡ [] → e2.table ≡ e1.table → Stops layout bytes w w' e e2 fault
-  stops_and_out fault bytes w w1 w' e e1 e2 stops out none same start input more read =
-      same_begun fault start (input ++ (bytes ++ more)) w' e2 [] e1.table none same
-      (begun_out (stops start input more read) w' out)
+  stops_and_out fault bytes w w1 w' e e1 e2 stops out none same early start input more read =
+      same_begun fault early start (input ++ (bytes ++ more)) w' e2 [] e1.table none same
+      (begun_out (stops early start input more read) w' out)
 
   -- or a front of it
   pub stops_and_front : (fault : ScriptError) (bytes : List ℕ) (w w1 w' : Traffic)
       (e e1 e2 : Engine L A W N G K) → Stops layout bytes w w1 e e1 fault
       → TakesFront e1.out.items w1 w'
       → e2.out.items ≡ [] → e2.table ≡ e1.table → Stops layout bytes w w' e e2 Write
-  stops_and_front fault bytes w w1 w' e e1 e2 stops front none same start input more read =
-      same_begun Write start (input ++ (bytes ++ more)) w' e2 [] e1.table none same
-      (begun_front (stops start input more read) w' front)
+  stops_and_front fault bytes w w1 w' e e1 e2 stops front none same early start input more read =
+      same_begun Write early start (input ++ (bytes ++ more)) w' e2 [] e1.table none same
+      (begun_front (stops early start input more read) w' front)
 
   -- it has read some bytes, and stops within others
   pub stops_later : (fault : ScriptError) (piece front rest : List ℕ) (w w1 w2 : Traffic)
       (e e1 e2 : Engine L A W N G K) → piece ≡ front ++ rest → Reads layout front w w1 e e1
       → Stops layout rest w1 w2 e1 e2 fault → Stops layout piece w w2 e e2 fault
-  stops_later fault piece front rest w w1 w2 e e1 e2 parts reads stops start input more read =
-      subst (λ xs. IsBegun layout fault start xs w2 e2.out.items e2.table)
+  stops_later fault piece front rest w w1 w2 e e1 e2 parts reads stops early start input more read =
+      subst (λ xs. IsBegun layout fault early start xs w2 e2.out.items e2.table)
       (append_assoc input front (rest ++ more) ∙ ap (λ xs. input ++ xs)
       (sym (append_assoc front rest more) ∙ ap (λ xs. xs ++ more) (sym parts)))
-      (stops start (input ++ front) more (reads start input read))
+      (stops early start (input ++ front) more (reads early start input read))
 
   -- it stops within the front of some bytes
   pub stops_longer : (fault : ScriptError) (piece front rest : List ℕ) (w w' : Traffic)
       (e e1 : Engine L A W N G K) → piece ≡ front ++ rest → Stops layout front w w' e e1 fault
       → Stops layout piece w w' e e1 fault
-  stops_longer fault piece front rest w w' e e1 parts stops start input more read =
-      subst (λ xs. IsBegun layout fault start (input ++ xs) w' e1.out.items e1.table)
+  stops_longer fault piece front rest w w' e e1 parts stops early start input more read =
+      subst (λ xs. IsBegun layout fault early start (input ++ xs) w' e1.out.items e1.table)
       (sym (append_assoc front rest more) ∙ ap (λ xs. xs ++ more) (sym parts))
-      (stops start input (rest ++ more) read)
+      (stops early start input (rest ++ more) read)
 
   -- it has read some bytes, and then others
   pub reads_on : (front more : List ℕ) (w w1 w2 : Traffic) (e e1 e2 : Engine L A W N G K)
       → Reads layout front w w1 e e1 → Reads layout more w1 w2 e1 e2
       → Reads layout (front ++ more) w w2 e e2
-  reads_on front more w w1 w2 e e1 e2 one other start input read =
-      subst (λ xs. HasRead layout start xs w2 e2) (append_assoc input front more)
-      (other start (input ++ front) (one start input read))
+  reads_on front more w w1 w2 e e1 e2 one other early start input read =
+      subst (λ xs. HasRead layout early start xs w2 e2) (append_assoc input front more)
+      (other early start (input ++ front) (one early start input read))
 
   -- it holds more of a line
   pub reads_held : (w : Traffic) (e e1 : Engine L A W N G K) (bytes : List ℕ) → HasNoFeed bytes
@@ -131,8 +137,8 @@ module _ {layout : ScriptLayout} {L A W : Type 0} {N : Named.Ghosts L W}
       → Holds e1.line.items e1.too_long (line ++ bytes))
       → e1.table ≡ e.table → e1.out.items ≡ e.out.items
       → Reads layout bytes w w e e1
-  reads_held w e e1 bytes plain holds same_windows same_out start input read =
-      same_state start (input ++ bytes) w e1 _ _ _ _ same_out same_windows refl refl
+  reads_held w e e1 bytes plain holds same_windows same_out early start input read =
+      same_state early start (input ++ bytes) w e1 _ _ _ _ same_out same_windows refl refl
       (more_held read e1.line.items e1.too_long bytes plain holds)
 
   -- it answers the line
@@ -140,8 +146,8 @@ module _ {layout : ScriptLayout} {L A W : Type 0} {N : Named.Ghosts L W}
       → Ends layout e.line.items e.too_long e.table e1.table e.out.items
       e1.out.items
       → (e1.line.items ≡ []) × (e1.too_long ≡ false) → Reads layout (line_feed ∷ []) w w e e1
-  reads_feed w e e1 ends empty start input read =
-      same_state start (input ++ line_feed ∷ []) w e1 _ _ _ _ refl refl empty.0 empty.1
+  reads_feed w e e1 ends empty early start input read =
+      same_state early start (input ++ line_feed ∷ []) w e1 _ _ _ _ refl refl empty.0 empty.1
       (line_ended read e1.table e1.out.items ends)
 
   -- its replies have gone out
@@ -149,9 +155,9 @@ module _ {layout : ScriptLayout} {L A W : Type 0} {N : Named.Ghosts L W}
       → (w'.bytes ≡ w.bytes ++ e.out.items) × (e1.out.items ≡ [])
       → e1.table ≡ e.table
       → (e1.line.items ≡ e.line.items) × (e1.too_long ≡ e.too_long) → Reads layout [] w w' e e1
-  reads_out w w' e e1 out same_windows same_line start input read =
-      subst (λ xs. HasRead layout start xs w' e1) (sym (append-nil input))
-      (same_state start input w' e1 _ _ _ _ out.1 same_windows same_line.0 same_line.1
+  reads_out w w' e e1 out same_windows same_line early start input read =
+      subst (λ xs. HasRead layout early start xs w' e1) (sym (append-nil input))
+      (same_state early start input w' e1 _ _ _ _ out.1 same_windows same_line.0 same_line.1
       (went_out read w' out.0))
 
   -- it holds the end of a line, and answers it
@@ -170,26 +176,27 @@ module _ {layout : ScriptLayout} {L A W : Type 0} {N : Named.Ghosts L W}
       → Ends layout bytes false e.table e1.table e.out.items e1.out.items
       → (e1.line.items ≡ e.line.items) × (e1.too_long ≡ e.too_long)
       → Reads layout (bytes ++ line_feed ∷ []) w w e e1
-  reads_in_place w e e1 bytes plain none ends same start input read =
+  reads_in_place w e e1 bytes plain none ends same early start input read =
       let held =
       more_held read bytes false bytes plain
       (λ line. in_place e.line.items bytes line e.too_long none) in
-      subst (λ xs. HasRead layout start xs w e1) (append_assoc input bytes (line_feed ∷ []))
-      (same_state start ((input ++ bytes) ++ line_feed ∷ []) w e1 _ _ _ _ refl refl
+      subst (λ xs. HasRead layout early start xs w e1) (append_assoc input bytes (line_feed ∷ []))
+      (same_state early start ((input ++ bytes) ++ line_feed ∷ []) w e1 _ _ _ _ refl refl
       (same.0 ∙ none.0) (same.1 ∙ none.1) (line_ended held e1.table e1.out.items ends))
 
   -- or stops there
   pub stops_in_place : (w : Traffic) (e e1 : Engine L A W N G K) (bytes : List ℕ) → HasNoFeed bytes
       → (e.line.items ≡ []) × (e.too_long ≡ false) → MayEnd layout bytes false e.table e1.table
       → e1.out.items ≡ e.out.items → Stops layout (bytes ++ line_feed ∷ []) w w e e1 Alloc
-  stops_in_place w e e1 bytes plain none may same_out start input more read =
+  stops_in_place w e e1 bytes plain none may same_out early start input more read =
       let held =
       more_held read bytes false bytes plain
       (λ line. in_place e.line.items bytes line e.too_long none) in
-      subst (λ xs. IsBegun layout Alloc start xs w e1.out.items e1.table)
+      subst (λ xs. IsBegun layout Alloc early start xs w e1.out.items e1.table)
       (append_assoc input bytes (line_feed ∷ more)
       ∙ ap (λ xs. input ++ xs) (sym (append_assoc bytes (line_feed ∷ []) more)))
-      (subst (λ o. IsBegun layout Alloc start ((input ++ bytes) ++ (line_feed ∷ [] ++ more)) w o
+      (subst
+      (λ o. IsBegun layout Alloc early start ((input ++ bytes) ++ (line_feed ∷ [] ++ more)) w o
       e1.table)
       (sym same_out) (line_broken held e1.table more may))
 
@@ -221,10 +228,10 @@ module _ {layout : ScriptLayout} {L A W : Type 0} {N : Named.Ghosts L W}
 
   -- it stops at the end, before it has written more
   pub begun_at_end : (fault : ScriptError) (w : Traffic) (e : Engine L A W N G K)
-      (start input : List ℕ)
-      → HasRead layout start input w e → IsBegun layout fault start input w e.out.items e.table
-  begun_at_end fault w e start input read =
-      subst (λ xs. IsBegun layout fault start xs w e.out.items e.table) (append-nil input)
+      (early : ℕ) (start input : List ℕ) → HasRead layout early start input w e
+      → IsBegun layout fault early start input w e.out.items e.table
+  begun_at_end fault w e early start input read =
+      subst (λ xs. IsBegun layout fault early start xs w e.out.items e.table) (append-nil input)
       (still_begun read fault [])
 
   -- it has read a piece in two parts
@@ -246,42 +253,66 @@ more_parts piece front rest line behind parts cut =
     parts ∙ ap (λ xs. front ++ xs) (line_parts line behind rest cut)
     ∙ sym (append_assoc front (line ++ line_feed ∷ []) behind)
 
--- what was read and what was written go together
-pub exchange_begun : {layout : ScriptLayout} (fault : ScriptError) (r r' w w' : Traffic)
-    (state : ByteState)
-    (input : List ℕ) → r'.bytes ≡ r.bytes ++ input → IsBegun layout fault w.bytes input w' [] state
-    → Exchanges (IsBrokenOff layout fault state) r r' w w'
-exchange_begun fault r r' w w' state input given b = record {
+-- more than so many are at least so many
+pub no_fewer : (some more : ℕ) → some ≤ some + more
+no_fewer some more = omega arith
+
+raised : (all early whole last : ℕ) → all ≤ early + last → early ≤ whole → all ≤ whole + last
+raised all early whole last enough many = omega (arith, enough, many)
+
+summed : (all first here there : ℕ) → all ≡ first + here → there ≡ here → all ≤ first + there
+summed all first here there sum same = omega (arith, sum, same)
+
+-- What was read and what was written go together, where so many first replies were taken: at least
+-- one for each line that had ended before the reader's last call.
+pub exchange_begun : {layout : ScriptLayout} {early : ℕ} (fault : ScriptError)
+    (r r' w w' : Traffic) (state : ByteState) (input : List ℕ) → r'.bytes ≡ r.bytes ++ input
+    → IsBegun layout fault early w.bytes input w' [] state → feeds input ≤ early + feeds r'.last
+    → Exchanges (IsBrokenOff layout fault r'.last state) r r' w w'
+exchange_begun {early = early} fault r r' w w' state input given b enough = record {
   input = input;
   text = b.text;
   given = given;
   taken = b.taken;
-  fit = (b.left, b.lacking, b.begins, b.lacks);
+  fit = record {
+    lines = b.lines;
+    left = b.left;
+    whole = b.whole;
+    others = b.others;
+    part = b.part;
+    cut = b.cut;
+    run = b.run;
+    written = sym (append-nil b.text) ∙ b.written;
+    lacks = b.lacks;
+    early = raised (feeds input) early (length b.whole) (feeds r'.last) enough
+        (stand_many b.settled);
+  };
 }
 
+-- lines end in what was read before, or in the last call
+ends_in : (input bytes last : List ℕ) → last ≡ bytes
+    → feeds (input ++ bytes) ≤ feeds input + feeds last
+ends_in input bytes last is =
+    summed (feeds (input ++ bytes)) (feeds input) (feeds bytes) (feeds last)
+    (feeds-append input bytes) (ap (λ (xs : List ℕ). feeds xs) is)
+
 -- where a write failed, what is held then is lacking too
-unwritten : {layout : ScriptLayout} (start input : List ℕ) (w : Traffic) (out : List ℕ)
-    (state : ByteState) → IsBegun layout Write start input w out state
-    → IsBegun layout Write start input w [] state
-unwritten start input w out state b = record {
-  text = b.text;
-  left = b.left;
-  lacking = out ++ b.lacking;
-  taken = b.taken;
-  begins = b.begins;
-  lacks = tt;
-}
+unwritten : {layout : ScriptLayout} {early : ℕ} (start input : List ℕ) (w : Traffic)
+    (out : List ℕ) (state : ByteState) → IsBegun layout Write early start input w out state
+    → IsBegun layout Write early start input w [] state
+unwritten start input w out state b = begun_cut b w [] out refl (sym (append-nil w.bytes))
 
 module _ {layout : ScriptLayout} {L A W : Type 0} {N : Named.Ghosts L W}
     {G : Layout.Ghosts L W} {K : Layout.Ghosts W W} where
   -- a run that stops without reading more
   pub run_stops_now : (fault : ScriptError) (r r1 r2 w w1 : Traffic) (e : Engine L A W N G K)
       → IsRunning layout r r1 w w1 e → r2.bytes ≡ r1.bytes
-      → Exchanges (IsBrokenOff layout fault e.table) r r2 w w1
+      → Exchanges (IsBrokenOff layout fault r2.last e.table) r r2 w w1
   run_stops_now fault r r1 r2 w w1 e run same =
       exchange_begun fault r r2 w w1 e.table run.input (same ∙ run.given)
-      (subst (λ o. IsBegun layout fault w.bytes run.input w1 o e.table) run.none_held
-      (begun_at_end fault w1 e w.bytes run.input run.read))
+      (subst (λ o. IsBegun layout fault (feeds run.input) w.bytes run.input w1 o e.table)
+      run.none_held (begun_at_end fault w1 e (feeds run.input) w.bytes run.input run.read))
+      (no_fewer (feeds run.input) (feeds r2.last))
 
   -- then each whole line is answered
   pub run_answered : (r r1 r2 w w1 : Traffic) (e : Engine L A W N G K)
@@ -298,27 +329,32 @@ module _ {layout : ScriptLayout} {L A W : Type 0} {N : Named.Ghosts L W}
   -- a run that stops within the bytes that it has read
   pub run_stops : (fault : ScriptError) (r r1 r2 w w1 w2 : Traffic) (e e1 : Engine L A W N G K)
       (bytes : List ℕ) → IsRunning layout r r1 w w1 e → r2.bytes ≡ r1.bytes ++ bytes
-      → Stops layout bytes w1 w2 e e1 fault → e1.out.items ≡ []
-      → Exchanges (IsBrokenOff layout fault e1.table) r r2 w w2
-  run_stops fault r r1 r2 w w1 w2 e e1 bytes run more stops none =
+      → r2.last ≡ bytes → Stops layout bytes w1 w2 e e1 fault → e1.out.items ≡ []
+      → Exchanges (IsBrokenOff layout fault r2.last e1.table) r r2 w w2
+  run_stops fault r r1 r2 w w1 w2 e e1 bytes run more last stops none =
+      let early = feeds run.input in
       exchange_begun fault r r2 w w2 e1.table (run.input ++ bytes)
       (more ∙ ap (λ xs. xs ++ bytes) run.given ∙ append_assoc r.bytes run.input bytes)
-      (subst (λ o. IsBegun layout fault w.bytes (run.input ++ bytes) w2 o e1.table) none
-      (subst (λ xs. IsBegun layout fault w.bytes (run.input ++ xs) w2 e1.out.items e1.table)
-      (append-nil bytes) (stops w.bytes run.input [] run.read)))
+      (subst (λ o. IsBegun layout fault early w.bytes (run.input ++ bytes) w2 o e1.table) none
+      (subst (λ xs. IsBegun layout fault early w.bytes (run.input ++ xs) w2 e1.out.items e1.table)
+      (append-nil bytes) (stops early w.bytes run.input [] run.read)))
+      (ends_in run.input bytes r2.last last)
 
   -- a run that stops there because a write failed, whatever is held
   pub run_stops_writing : (r r1 r2 w w1 w2 : Traffic) (e e1 : Engine L A W N G K)
       (bytes : List ℕ) (fault : ScriptError) → IsRunning layout r r1 w w1 e
-      → r2.bytes ≡ r1.bytes ++ bytes → fault ≡ Write → Stops layout bytes w1 w2 e e1 fault
-      → Exchanges (IsBrokenOff layout Write e1.table) r r2 w w2
-  run_stops_writing r r1 r2 w w1 w2 e e1 bytes fault run more is stops =
+      → r2.bytes ≡ r1.bytes ++ bytes → r2.last ≡ bytes → fault ≡ Write
+      → Stops layout bytes w1 w2 e e1 fault
+      → Exchanges (IsBrokenOff layout Write r2.last e1.table) r r2 w w2
+  run_stops_writing r r1 r2 w w1 w2 e e1 bytes fault run more last is stops =
+      let early = feeds run.input in
       let lost = subst (Stops layout bytes w1 w2 e e1) is stops in
       exchange_begun Write r r2 w w2 e1.table (run.input ++ bytes)
       (more ∙ ap (λ xs. xs ++ bytes) run.given ∙ append_assoc r.bytes run.input bytes)
       (unwritten w.bytes (run.input ++ bytes) w2 e1.out.items e1.table
-      (subst (λ xs. IsBegun layout Write w.bytes (run.input ++ xs) w2 e1.out.items e1.table)
-      (append-nil bytes) (lost w.bytes run.input [] run.read)))
+      (subst (λ xs. IsBegun layout Write early w.bytes (run.input ++ xs) w2 e1.out.items e1.table)
+      (append-nil bytes) (lost early w.bytes run.input [] run.read)))
+      (ends_in run.input bytes r2.last last)
 
   -- a run that goes on
   pub run_goes_on : (r r1 r2 w w1 w2 : Traffic) (e e1 : Engine L A W N G K) (bytes : List ℕ)
@@ -328,7 +364,7 @@ module _ {layout : ScriptLayout} {L A W : Type 0} {N : Named.Ghosts L W}
   run_goes_on r r1 r2 w w1 w2 e e1 bytes run more failures clean reads none = record {
     input = run.input ++ bytes;
     given = more ∙ ap (λ xs. xs ++ bytes) run.given ∙ append_assoc r.bytes run.input bytes;
-    read = reads w.bytes run.input run.read;
+    read = all_settled (reads (feeds run.input) w.bytes run.input run.read) none;
     none_held = none;
     failures = failures ∙ run.failures;
     clean = (clean.0 ∙ run.clean.0, clean.1 ∙ run.clean.1);
@@ -341,7 +377,7 @@ module _ {layout : ScriptLayout} {L A W : Type 0} {N : Named.Ghosts L W}
     input = [];
     given = sym (append-nil r.bytes);
     read =
-        same_state w.bytes [] w e [] [] e.table false none_out refl none_held.0
+        same_state (feeds []) w.bytes [] w e [] [] e.table false none_out refl none_held.0
         none_held.1 (nothing_read w e.table none_made);
     none_held = none_out;
     failures = refl;
@@ -349,31 +385,33 @@ module _ {layout : ScriptLayout} {L A W : Type 0} {N : Named.Ghosts L W}
   }
 
   -- whatever has come of the last line, a write fails then
-  pub rest_then_stops : {T F : Type 0} (rest : Result T F) (start input : List ℕ) (w w' : Traffic)
-      (e e1 : Engine L A W N G K) → OnOk rest ((start input : List ℕ) (w : Traffic)
-      → HasRead layout start input w e
-      → IsAnswered layout start input w e1.out.items e1.table)
-      → OnErr rest ((start input : List ℕ) (w : Traffic) → HasRead layout start input w e
-      → IsBegun layout Alloc start input w e1.out.items e1.table)
-      → HasRead layout start input w e → TakesFront e1.out.items w w'
-      → IsBegun layout Write start input w' [] e1.table
-  rest_then_stops (Ok done) start input w w' e e1 answered begun read front =
-      begun_front (answered_begun Write (answered start input w read)) w' front
-  rest_then_stops (Err fault) start input w w' e e1 answered begun read front =
-      begun_front (begun start input w read) w' front
+  pub rest_then_stops : {T F : Type 0} (rest : Result T F) (early : ℕ) (start input : List ℕ)
+      (w w' : Traffic) (e e1 : Engine L A W N G K)
+      → OnOk rest ((early : ℕ) (start input : List ℕ) (w : Traffic)
+      → HasRead layout early start input w e
+      → IsAnswered layout early start input w e1.out.items e1.table)
+      → OnErr rest ((early : ℕ) (start input : List ℕ) (w : Traffic)
+      → HasRead layout early start input w e
+      → IsBegun layout Alloc early start input w e1.out.items e1.table)
+      → HasRead layout early start input w e → TakesFront e1.out.items w w'
+      → IsBegun layout Write early start input w' [] e1.table
+  rest_then_stops (Ok done) early start input w w' e e1 answered begun read front =
+      begun_front (answered_begun Write (answered early start input w read)) w' front
+  rest_then_stops (Err fault) early start input w w' e e1 answered begun read front =
+      begun_front (begun early start input w read) w' front
 
 -- nothing was read and nothing written
-pub nothing_exchanged : {layout : ScriptLayout} (fault : ScriptError) (r w : Traffic)
+pub nothing_exchanged : (layout : ScriptLayout) (fault : ScriptError) (r w : Traffic)
     (state : ByteState)
-    → state ≡ empty_state → Exchanges (IsBrokenOff layout fault state) r r w w
-nothing_exchanged fault r w state empty =
+    → state ≡ empty_state → Exchanges (IsBrokenOff layout fault r.last state) r r w w
+nothing_exchanged layout fault r w state empty =
     exchange_begun fault r r w w state [] (sym (append-nil r.bytes))
-    (begun_nothing fault w state empty)
+    (begun_nothing fault w state empty) (no_fewer 0 (feeds r.last))
 
 -- a run that has answered all
-pub exchange_answered : {layout : ScriptLayout} (r r' w w' : Traffic) (state : ByteState)
-    (input : List ℕ)
-    → r'.bytes ≡ r.bytes ++ input → IsAnswered layout w.bytes input w' [] state
+pub exchange_answered : {layout : ScriptLayout} {early : ℕ} (r r' w w' : Traffic)
+    (state : ByteState) (input : List ℕ)
+    → r'.bytes ≡ r.bytes ++ input → IsAnswered layout early w.bytes input w' [] state
     → Exchanges (IsThrough layout state) r r' w w'
 exchange_answered r r' w w' state input given a =
     record { input = input; text = a.text; given = given; taken = a.taken; fit = a.all }

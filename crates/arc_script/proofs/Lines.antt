@@ -1,27 +1,65 @@
 -- Each line has an answer, and each list of lines a run.
 use Rattle.std.proofs.Common.{◌≡◌, ◌≢◌, ℕ, Bool, not, eqb, true, List, [], ◌∷◌, ◌++◌, Option, Some}
-use Rattle.std.proofs.Common.{None, refl, sym, ap, ◌∙◌, append_assoc, arith}
-use Rattle.std.specs.Prelude.{map}
+use Rattle.std.proofs.Common.{None, false, refl, sym, ap, ◌∙◌, append_assoc, arith}
+use Rattle.std.specs.Prelude.{map, if◌then◌else◌}
+use Rattle.std.specs.Option.{option_map_or}
 use Rattle.std.specs.List.{list_all, AllByRecursion}
 use Rattle.std.proofs.lemmas.Bool.{eqb-false, not-true}
 use Rattle.std.proofs.lemmas.List.{map-append}
 use Rattle.std.proofs.lemmas.List.Concat.{flat_map-append}
 use Rattle.std.proofs.lemmas.List.Elements.{All-contains, recursion_from_All}
-use Rattle.arc_block.specs.Table.{empty_table}
+use Rattle.arc_block.specs.Table.{Row, empty_table, row_at}
 use Rattle.arc_forms.specs.Commands.{ByteCmd, ByteReply}
 use Rattle.arc_commands.specs.RunOf.{RunOf}
-use Rattle.arc_commands.specs.Changes.{no_shortage}
-use Rattle.arc_commands.specs.Step.{answer, count_brought}
+use Rattle.arc_commands.specs.Changes.{Setting, is_now, no_shortage}
+use Rattle.arc_commands.specs.Step.{answer, answer_any, answer_row, around_of, changed}
+use Rattle.arc_commands.specs.Step.{count_brought, is_allowed}
+use Rattle.arc_commands.specs.declared.command.Cmd.TheVariants.{Show}
+use Rattle.arc_commands.specs.declared.command.Reply.TheVariants as reply
 use Rattle.arc_forms.specs.Text.{line_feed, answer_text}
 use Rattle.arc_script.specs.declared.layout.ScriptLayout.{ScriptLayout}
+use Rattle.arc_script.specs.declared.script.ScriptError.{ScriptError}
+use Rattle.arc_script.specs.declared.script.ScriptError.TheVariants.{Read, Write, Alloc}
 use Rattle.arc_script.specs.Script.{ended, HasNoFeed, AreLines, script_setting, ByteTable, Answers}
-use Rattle.arc_script.specs.Script.{BeginsReplyText}
+use Rattle.arc_script.specs.Script.{BeginsReplyText, FitsNeed, MayLack}
 use Rattle.arc_forms.proofs.Forms.{reading, reading_says, unread_is_none}
 use Rattle.arc_commands.proofs.Answers.{answer_step}
 use Rattle.arc_commands.proofs.Runs.{run_append}
 use Rattle.arc_forms.proofs.Words.{all_by}
 
 -- ---- each line, and each list of lines
+
+-- these are no refusals of memory
+of_items : (answer : ByteReply) (items : List ℕ) → answer ≡ reply.Items items → answer ≢ reply.Alloc
+of_items answer items e is = cc
+
+of_kind : (answer : ByteReply) → answer ≡ reply.Kind → answer ≢ reply.Alloc
+of_kind answer e is = cc
+
+of_none : (answer : ByteReply) → answer ≡ reply.NoWindow → answer ≢ reply.Alloc
+of_none answer e is = cc
+
+-- Where nothing is short, no memory is refused to a command that asks for none.
+module _ (s : Setting ℕ) (t : ByteTable) (i : ℕ) where
+  shown : (row : Row ℕ ℕ) (allowed : Bool)
+      → (if allowed then answer_row s no_shortage (around_of 0 t row) (Show i) row else
+      is_now reply.Kind row).reply ≢ reply.Alloc
+  shown row true is = of_items _ row.items refl is
+  shown row false is = of_kind _ refl is
+
+  shown_at : (found : Option (Row ℕ ℕ))
+      → (option_map_or (λ row. changed t i (answer_any s no_shortage (around_of 0 t row) (Show i)
+      row)) found (reply.NoWindow, t)).0 ≢ reply.Alloc
+  shown_at None is = of_none _ refl is
+  shown_at (Some row) is = shown row (is_allowed {T = ℕ} {M = ℕ} s.calls (Show i) row.role) is
+
+asks : false ≡ true → ⊥
+asks e = cc
+
+fits_need : (s : Setting ℕ) (old : ByteTable) (c : ByteCmd)
+    → FitsNeed c (answer s no_shortage (count_brought c) old c).0
+fits_need s old (Show i) only_lends is = shown_at s old i (row_at old i) is
+fits_need s old c only_lends is = absurd (asks only_lends)
 
 module _ (layout : ScriptLayout) where
   -- what a line is answered where nothing is short, by what it says
@@ -40,6 +78,7 @@ module _ (layout : ScriptLayout) where
     reading_says line c e,
     answer_step (script_setting layout) (count_brought c) old c
         (omega arith),
+    fits_need (script_setting layout) old c,
   )
 
   pub line_answered : (old : ByteTable) (line : List ℕ)
@@ -86,11 +125,29 @@ no_feeds lines pass =
 
 -- ---- a text that goes on
 
-ended_append : (xs ys : List (Option ByteReply)) → ended (map answer_text (xs ++ ys)) ≡ ended
+pub ended_append : (xs ys : List (Option ByteReply)) → ended (map answer_text (xs ++ ys)) ≡ ended
     (map answer_text xs) ++ ended (map answer_text ys)
 ended_append xs ys = ap ended (map-append answer_text xs ys)
     ∙ flat_map-append (λ (line : List ℕ). line ++ line_feed ∷ []) (map answer_text xs)
     (map answer_text ys)
+
+-- whatever a fault lacks, behind the part that is written of them the others would be whole
+pub lacks_rest : (fault : ScriptError) (others : List (Option ByteReply)) (part : List ℕ)
+    → MayLack fault others part
+    → (rest : List ℕ) × (part ++ rest ≡ ended (map answer_text others))
+lacks_rest Read others part lacks =
+    (ended (map answer_text others), ap (λ xs. xs ++ ended (map answer_text others)) lacks.1)
+lacks_rest Alloc others part lacks =
+    (ended (map answer_text others), ap (λ xs. xs ++ ended (map answer_text others)) lacks.1)
+lacks_rest Write others part lacks = lacks
+
+-- so it would be behind a text of whole replies and that part
+pub all_would_be : (text part rest : List ℕ) (whole others : List (Option ByteReply))
+    → text ≡ ended (map answer_text whole) ++ part → part ++ rest ≡ ended (map answer_text others)
+    → text ++ rest ≡ ended (map answer_text (whole ++ others))
+all_would_be text part rest whole others written more =
+    ap (λ xs. xs ++ rest) written ∙ append_assoc (ended (map answer_text whole)) part rest
+    ∙ ap (λ xs. ended (map answer_text whole) ++ xs) more ∙ sym (ended_append whole others)
 
 -- What is written before the replies to some first lines are all written begins what is written for
 -- the input.

@@ -1,11 +1,13 @@
 -- Every input is cut into lines.
 use Rattle.std.proofs.Common.{◌≡◌, ◌≢◌, ℕ, zero, suc, Bool, true, false, eqb, List, [], ◌∷◌, ◌++◌}
 use Rattle.std.proofs.Common.{Contains, inl, inr, refl, sym, ap, ◌∙◌, subst, append_assoc, arith}
+use Rattle.std.proofs.Common.{◌+◌, cond, length}
 use Rattle.std.specs.List.{AllByRecursion}
 use Rattle.std.proofs.lemmas.List.Elements.{Contains-append_cases, Contains-append_right}
 use Rattle.std.proofs.lemmas.Bool.{eqb-false, eqb-true}
+use Rattle.std.proofs.lemmas.List.Sums.{sum_by-append, sum_by-cons}
 use Rattle.arc_forms.specs.Text.{line_feed}
-use Rattle.arc_script.specs.Script.{HasNoFeed, AreLines, ended, last_line}
+use Rattle.arc_script.specs.Script.{HasNoFeed, AreLines, ended, feeds, last_line}
 
 -- lines that have ended, and what stands behind the last line feed
 pub record Split (bytes : List ℕ) : Type 0 where
@@ -117,3 +119,56 @@ lines_once input lines lines' a b =
     ∙ b.cut) in
     a.are ∙ ap (λ w. w ++ last_line a.rest) same.0 ∙ ap (λ r. b.whole ++ last_line r) same.1
     ∙ sym b.are
+
+-- ---- how many lines have ended
+
+-- 1 for a line feed, else 0
+abbrev is_one : ℕ → ℕ
+is_one byte = cond (eqb byte line_feed) 1 0
+
+pub feeds-append : (xs ys : List ℕ) → feeds (xs ++ ys) ≡ feeds xs + feeds ys
+feeds-append = sum_by-append is_one
+
+added : (a b m n : ℕ) → a ≡ m → b ≡ n → a + b ≡ m + n
+added a b m n p q = omega (arith, p, q)
+
+no_one : (byte : ℕ) (test : Bool) → eqb byte line_feed ≡ test → byte ≢ line_feed → is_one byte ≡ 0
+no_one byte true is other = absurd (other (eqb-true byte line_feed is))
+no_one byte false is other = ap (λ b. cond b 1 0) is
+
+no_feeds_in : (line : List ℕ) → HasNoFeed line → feeds line ≡ 0
+no_feeds_in [] plain = refl
+no_feeds_in (byte ∷ bytes) plain =
+    let here : is_one byte ≡ 0 = no_one byte (eqb byte line_feed) refl
+    (λ is. plain (0, omega arith, is)) in
+    let behind : feeds bytes ≡ 0 = no_feeds_in bytes
+    (λ has. plain (Contains-append_right (byte ∷ []) bytes line_feed has)) in
+    sum_by-cons is_one byte bytes ∙ added (is_one byte) (feeds bytes) 0 0 here behind
+
+one_first : (n : ℕ) → (0 + 1) + n ≡ suc n
+one_first n = omega arith
+
+none_last : (n : ℕ) → n + 0 ≡ n
+none_last n = omega arith
+
+-- as many as whole lines
+feeds_ended : (lines : List (List ℕ)) → AllByRecursion HasNoFeed lines
+    → feeds (ended lines) ≡ length lines
+feeds_ended [] each = refl
+feeds_ended (line ∷ lines) each =
+    let one : feeds (line_feed ∷ []) ≡ 1 = refl in
+    let here : feeds (line ++ line_feed ∷ []) ≡ 0 + 1 =
+    feeds-append line (line_feed ∷ [])
+    ∙ added (feeds line) (feeds (line_feed ∷ [])) 0 1 (no_feeds_in line each.0) one in
+    feeds-append (line ++ line_feed ∷ []) (ended lines)
+    ∙ added (feeds (line ++ line_feed ∷ [])) (feeds (ended lines)) (0 + 1) (length lines) here
+    (feeds_ended lines each.1)
+    ∙ one_first (length lines)
+
+pub feeds_cut : (input : List ℕ) (whole : List (List ℕ)) (rest : List ℕ)
+    → input ≡ ended whole ++ rest → AllByRecursion HasNoFeed whole → HasNoFeed rest
+    → feeds input ≡ length whole
+feeds_cut input whole rest cut each last =
+    ap (λ (bytes : List ℕ). feeds bytes) cut ∙ feeds-append (ended whole) rest
+    ∙ added (feeds (ended whole)) (feeds rest) (length whole) 0 (feeds_ended whole each)
+    (no_feeds_in rest last) ∙ none_last (length whole)

@@ -1,7 +1,7 @@
 -- How a script that is being run goes on.
-use Rattle.std.proofs.Common.{◌≡◌, ℕ, Bool, true, false, List, [], ◌∷◌, ◌++◌, map, Option, refl}
-use Rattle.std.proofs.Common.{sym, ap, ◌∙◌, subst, append_assoc, arith, inl, inr}
-use Rattle.std.proofs.lemmas.List.{map-append, append-nil}
+use Rattle.std.proofs.Common.{◌≡◌, ◌≤◌, ℕ, suc, Bool, true, false, List, [], ◌∷◌, ◌++◌, map, Option}
+use Rattle.std.proofs.Common.{length, refl, sym, ap, ◌∙◌, subst, append_assoc, arith, inl, inr}
+use Rattle.std.proofs.lemmas.List.{append_cancel_left, append-nil, length-append, map-append}
 use Rattle.std.proofs.lemmas.Grind.{flat_map-append}
 use Rattle.std.specs.List.{AllByRecursion}
 use Rattle.arc_block.specs.Table.{empty_table}
@@ -10,17 +10,18 @@ use Rattle.arc_commands.specs.State.{empty_state}
 use Rattle.arc_script.specs.declared.layout.ScriptLayout.{ScriptLayout}
 use Rattle.arc_script.specs.State.{AnswersLine, ByteState}
 use Rattle.arc_forms.specs.Text.{line_feed, answer_text}
-use Rattle.arc_script.specs.Script.{HasNoFeed, AreLines, ended, last_line, IsReplyText}
+use Rattle.arc_script.specs.Script.{HasNoFeed, AreLines, ended, feeds, last_line, IsReplyText}
 use Rattle.arc_script.specs.Script.{OfWholeLines, MayLack}
 use Rattle.arc_script.specs.Traffic.{Traffic, TakesFront}
 use Rattle.arc_script.specs.Underway.{AnswersHeld, Holds, IsUnderway, IsAnswered}
-use Rattle.arc_script.specs.Underway.{IsBegun, IsThrough, Ends, MayEnd}
+use Rattle.arc_script.specs.Underway.{IsBegun, IsThrough, Ends, MayEnd, StandFirst}
 use Rattle.arc_script.specs.declared.script.ScriptError.{ScriptError}
 use Rattle.arc_script.specs.declared.script.ScriptError.TheVariants.{Read, Write, Alloc}
 use Rattle.arc_forms.specs.Commands.{ByteReply}
 use Rattle.arc_commands.proofs.Runs.{run_push}
-use Rattle.arc_script.proofs.Lines.{run_exists}
+use Rattle.arc_script.proofs.Lines.{ended_append as texts_append, lacks_rest, run_exists}
 use Rattle.arc_script.proofs.Splits.{split_exists, empty_has_no_feed, no_feed-append, all-append}
+use Rattle.arc_script.proofs.Splits.{feeds_cut}
 
 -- lines with their line feeds, joined
 ended-append : (xs ys : List (List ℕ)) → ended (xs ++ ys) ≡ ended xs ++ ended ys
@@ -64,14 +65,14 @@ cut_behind whole line more input each cut =
 
 -- an input that ends with a line feed has whole lines alone
 whole_lines : (whole : List (List ℕ)) (input : List ℕ) → AllByRecursion HasNoFeed whole
-    → input ≡ ended whole ++ [] → AreLines input (whole ++ [])
+    → input ≡ ended whole ++ [] → AreLines input whole
 whole_lines whole input each cut = record {
   whole = whole;
   rest = [];
   cut = cut;
   each = each;
   last = empty_has_no_feed;
-  are = refl;
+  are = sym (append-nil whole);
 }
 
 -- a line of which something is held isn't empty
@@ -81,61 +82,161 @@ held_is_line held [] false some holds = absurd (some holds refl)
 held_is_line held [] true some holds = absurd (omega arith)
 held_is_line held (byte ∷ bytes) too_long some holds = refl
 
--- a fault need leave nothing unwritten
-none_lacks : (fault : ScriptError) → MayLack fault []
-none_lacks Read = refl
-none_lacks Write = tt
-none_lacks Alloc = inl refl
+-- a fault need lack nothing
+none_lacks : (fault : ScriptError) → MayLack fault [] []
+none_lacks Read = (refl, refl)
+none_lacks Write = ([], refl)
+none_lacks Alloc = (omega arith, refl)
 
-module _ {layout : ScriptLayout} {fault : ScriptError} {start input out : List ℕ} {writer : Traffic}
-    {state : ByteState}
-    (b : IsBegun layout fault start input writer out state) where
+-- as many steps as answers
+run_length : {S A B : Type 0} (step : S → A → B → S → Type 0) (old : S) (xs : List A) (us : List B)
+    (new : S) → RunOf step old xs us new → length xs ≡ length us
+run_length step old [] [] new run = refl
+run_length step old (x ∷ xs) (u ∷ us) new run =
+    ap (λ n. suc n) (run_length step run.0 xs us new run.2)
+run_length step old [] (u ∷ us) new run = absurd run
+run_length step old (x ∷ xs) [] new run = absurd run
+
+-- what stands first
+module _ {early : ℕ} {replies : List (Option ByteReply)} {text : List ℕ}
+    (s : StandFirst early replies text) where
+  -- also does where more is written
+  stand_longer : (more : List ℕ) → StandFirst early replies (text ++ more)
+  stand_longer more = record {
+    first = s.first;
+    others = s.others;
+    part = s.part ++ more;
+    parts = s.parts;
+    many = s.many;
+    front =
+        ap (λ xs. xs ++ more) s.front
+        ∙ append_assoc (ended (map answer_text s.first)) s.part more;
+  }
+
+  -- or where there is a reply more
+  stand_more : (answer : Option ByteReply) → StandFirst early (replies ++ answer ∷ []) text
+  stand_more answer = record {
+    first = s.first;
+    others = s.others ++ answer ∷ [];
+    part = s.part;
+    parts =
+        ap (λ xs. xs ++ answer ∷ []) s.parts ∙ append_assoc s.first s.others (answer ∷ []);
+    many = s.many;
+    front = s.front;
+  }
+
+  -- alone
+  stand_alone : StandFirst early s.first text
+  stand_alone = record {
+    first = s.first;
+    others = [];
+    part = s.part;
+    parts = sym (append-nil s.first);
+    many = s.many;
+    front = s.front;
+  }
+
+  -- so many replies there are
+  pub stand_many : early ≤ length replies
+  stand_many =
+      omega (
+        arith,
+        s.many,
+        ap (λ (xs : List (Option ByteReply)). length xs) s.parts,
+        length-append s.first s.others,
+      )
+
+-- all stand where all are written
+stand_all : (replies : List (Option ByteReply)) (text : List ℕ) (early : ℕ)
+    → early ≡ length replies → text ≡ ended (map answer_text replies)
+    → StandFirst early replies text
+stand_all replies text early many written = record {
+  first = replies;
+  others = [];
+  part = [];
+  parts = sym (append-nil replies);
+  many = omega (arith, many);
+  front = written ∙ sym (append-nil (ended (map answer_text replies)));
+}
+
+module _ {layout : ScriptLayout} {fault : ScriptError} {early : ℕ} {start input out : List ℕ}
+    {writer : Traffic} {state : ByteState}
+    (b : IsBegun layout fault early start input writer out state) where
   -- after a fault what is held goes out
   pub begun_out : (writer' : Traffic) → writer'.bytes ≡ writer.bytes ++ out
-      → IsBegun layout fault start input writer' [] state
+      → IsBegun layout fault early start input writer' [] state
   begun_out writer' taken = record {
     text = b.text ++ out;
+    lines = b.lines;
     left = b.left;
-    lacking = b.lacking;
+    whole = b.whole;
+    others = b.others;
+    part = b.part;
     taken = taken ∙ ap (λ xs. xs ++ out) b.taken ∙ append_assoc start b.text out;
-    begins = record {
-      lines = b.begins.lines;
-      replies = b.begins.replies;
-      cut = b.begins.cut;
-      run = b.begins.run;
-      written = append_assoc b.text out b.lacking ∙ b.begins.written;
-    };
+    cut = b.cut;
+    run = b.run;
+    written = append-nil (b.text ++ out) ∙ b.written;
     lacks = b.lacks;
+    settled = stand_longer b.settled out;
   }
 
-  -- or a front of it, where a write fails then
+  -- what is held completes the first replies that don't stand yet, and the part of the others
+  held_completes : b.settled.part ++ out
+      ≡ ended (map answer_text b.settled.others) ++ b.part
+  held_completes =
+      append_cancel_left (ended (map answer_text b.settled.first)) (b.settled.part ++ out)
+      (ended (map answer_text b.settled.others) ++ b.part)
+      (sym (append_assoc (ended (map answer_text b.settled.first)) b.settled.part out)
+      ∙ ap (λ xs. xs ++ out) (sym b.settled.front) ∙ b.written
+      ∙ ap (λ xs. xs ++ b.part)
+      (ap (λ (rs : List (Option ByteReply)). ended (map answer_text rs)) b.settled.parts
+      ∙ texts_append b.settled.first b.settled.others)
+      ∙ append_assoc (ended (map answer_text b.settled.first))
+      (ended (map answer_text b.settled.others)) b.part)
+
+  -- or some front of it goes out, and a write fails then
+  pub begun_cut : (writer' : Traffic) (sent rest : List ℕ) → out ≡ sent ++ rest
+      → writer'.bytes ≡ writer.bytes ++ sent
+      → IsBegun layout Write early start input writer' [] state
+  begun_cut writer' sent rest parts taken =
+      let s = b.settled in
+      let more = lacks_rest fault b.others b.part b.lacks in
+      record {
+        text = b.text ++ sent;
+        lines = b.lines;
+        left = b.left;
+        whole = s.first;
+        others = s.others ++ b.others;
+        part = s.part ++ sent;
+        taken = taken ∙ ap (λ xs. xs ++ sent) b.taken ∙ append_assoc start b.text sent;
+        cut = b.cut;
+        run =
+            subst (λ replies. RunOf (AnswersLine layout) empty_state b.lines replies state)
+            (ap (λ xs. xs ++ b.others) s.parts ∙ append_assoc s.first s.others b.others) b.run;
+        written =
+            append-nil (b.text ++ sent) ∙ ap (λ xs. xs ++ sent) s.front
+            ∙ append_assoc (ended (map answer_text s.first)) s.part sent;
+        lacks = (
+          rest ++ more.0,
+          append_assoc s.part sent (rest ++ more.0)
+              ∙ ap (λ xs. s.part ++ xs) (sym (append_assoc sent rest more.0)
+              ∙ ap (λ xs. xs ++ more.0) (sym parts))
+              ∙ sym (append_assoc s.part out more.0) ∙ ap (λ xs. xs ++ more.0) held_completes
+              ∙ append_assoc (ended (map answer_text s.others)) b.part more.0
+              ∙ ap (λ xs. ended (map answer_text s.others) ++ xs) more.1
+              ∙ sym (texts_append s.others b.others),
+        );
+        settled = stand_longer (stand_alone s) sent;
+      }
+
   pub begun_front : (writer' : Traffic) → TakesFront out writer writer'
-      → IsBegun layout Write start input writer' [] state
-  begun_front writer' front = record {
-    text = b.text ++ front.sent;
-    left = b.left;
-    lacking = front.rest ++ b.lacking;
-    taken =
-        front.taken ∙ ap (λ xs. xs ++ front.sent) b.taken
-        ∙ append_assoc start b.text front.sent;
-    begins = record {
-      lines = b.begins.lines;
-      replies = b.begins.replies;
-      cut = b.begins.cut;
-      run = b.begins.run;
-      written =
-          append_assoc b.text front.sent (front.rest ++ b.lacking)
-          ∙ ap (λ xs. b.text ++ xs)
-          (sym (append_assoc front.sent front.rest b.lacking)
-          ∙ ap (λ xs. xs ++ b.lacking) (sym front.parts)) ∙ b.begins.written;
-    };
-    lacks = tt;
-  }
+      → IsBegun layout Write early start input writer' [] state
+  begun_front writer' front = begun_cut writer' front.sent front.rest front.parts front.taken
 
 -- before the first byte
 pub nothing_read : {layout : ScriptLayout} (writer : Traffic) (state : ByteState)
     → state ≡ empty_state
-    → IsUnderway layout writer.bytes [] writer [] state [] false
+    → IsUnderway layout 0 writer.bytes [] writer [] state [] false
 nothing_read writer state empty = record {
   text = [];
   whole = [];
@@ -148,15 +249,16 @@ nothing_read writer state empty = record {
   holds = refl;
   run = empty;
   written = refl;
+  settled = stand_all [] [] 0 refl refl;
 }
 
-module _ {layout : ScriptLayout} {start input out held : List ℕ} {writer : Traffic}
+module _ {layout : ScriptLayout} {early : ℕ} {start input out held : List ℕ} {writer : Traffic}
     {state : ByteState} {too_long : Bool}
-    (u : IsUnderway layout start input writer out state held too_long) where
+    (u : IsUnderway layout early start input writer out state held too_long) where
   -- more of a line has come
   pub more_held : (held' : List ℕ) (too_long' : Bool) (bytes : List ℕ) → HasNoFeed bytes
       → ((line : List ℕ) → Holds held too_long line → Holds held' too_long' (line ++ bytes))
-      → IsUnderway layout start (input ++ bytes) writer out state held' too_long'
+      → IsUnderway layout early start (input ++ bytes) writer out state held' too_long'
   more_held held' too_long' bytes plain holds = record {
     text = u.text;
     whole = u.whole;
@@ -169,6 +271,7 @@ module _ {layout : ScriptLayout} {start input out held : List ℕ} {writer : Tra
     holds = holds u.line u.holds;
     run = u.run;
     written = u.written;
+    settled = u.settled;
   }
 
   -- the whole lines and one more stand before a line feed
@@ -200,7 +303,7 @@ module _ {layout : ScriptLayout} {start input out held : List ℕ} {writer : Tra
   -- the line has ended, and is answered
   pub line_ended : (state' : ByteState) (out' : List ℕ) → Ends layout held too_long state state' out
       out'
-      → IsUnderway layout start (input ++ line_feed ∷ []) writer out' state' [] false
+      → IsUnderway layout early start (input ++ line_feed ∷ []) writer out' state' [] false
   line_ended state' out' ends = record {
     text = u.text;
     whole = u.whole ++ u.line ∷ [];
@@ -213,11 +316,12 @@ module _ {layout : ScriptLayout} {start input out held : List ℕ} {writer : Tra
     holds = refl;
     run = run_on ends.answer state' ends.answered;
     written = ap (λ xs. u.text ++ xs) ends.appended ∙ one_answered ends.answer;
+    settled = stand_more u.settled ends.answer;
   }
 
   -- the replies have gone out
   pub went_out : (writer' : Traffic) → writer'.bytes ≡ writer.bytes ++ out
-      → IsUnderway layout start input writer' [] state held too_long
+      → IsUnderway layout early start input writer' [] state held too_long
   went_out writer' taken = record {
     text = u.text ++ out;
     whole = u.whole;
@@ -230,9 +334,32 @@ module _ {layout : ScriptLayout} {start input out held : List ℕ} {writer : Tra
     holds = u.holds;
     run = u.run;
     written = append-nil (u.text ++ out) ∙ u.written;
+    settled = stand_longer u.settled out;
   }
 
-  -- where no replies are held, the whole lines are answered
+  -- where no replies are held, those to all lines that have ended were taken
+  pub all_settled : out ≡ []
+      → IsUnderway layout (feeds input) start input writer out state held too_long
+  all_settled none = record {
+    text = u.text;
+    whole = u.whole;
+    line = u.line;
+    replies = u.replies;
+    taken = u.taken;
+    cut = u.cut;
+    each = u.each;
+    last = u.last;
+    holds = u.holds;
+    run = u.run;
+    written = u.written;
+    settled =
+        stand_all u.replies u.text (feeds input)
+        (feeds_cut input u.whole u.line u.cut u.each u.last
+        ∙ run_length (AnswersLine layout) empty_state u.whole u.replies state u.run)
+        (sym (append-nil u.text) ∙ ap (λ xs. u.text ++ xs) (sym none) ∙ u.written);
+  }
+
+  -- and the whole lines are answered
   pub whole_answered : out ≡ [] → OfWholeLines (IsThrough layout state) input u.text
   whole_answered none = record {
     whole = u.whole;
@@ -248,51 +375,74 @@ module _ {layout : ScriptLayout} {start input out held : List ℕ} {writer : Tra
     };
   }
 
+  -- where nothing is held of a line, all lines are answered
+  pub none_behind : held ≡ [] → too_long ≡ false
+      → IsAnswered layout early start input writer out state
+  none_behind none short =
+      let same : held ≡ u.line = subst (λ f. Holds held f u.line) short u.holds in
+      record {
+        text = u.text;
+        taken = u.taken;
+        all = record {
+          lines = u.whole;
+          replies = u.replies;
+          cut =
+              whole_lines u.whole input u.each
+              (u.cut ∙ ap (λ xs. ended u.whole ++ xs) (sym same ∙ none));
+          run = u.run;
+          written = u.written;
+        };
+        settled = u.settled;
+      }
+
   -- whatever is read more, what was written and what is held begins the replies
   pub still_begun : (fault : ScriptError) (more : List ℕ)
-      → IsBegun layout fault start (input ++ more) writer out state
+      → IsBegun layout fault early start (input ++ more) writer out state
   still_begun fault more =
       let cut = cut_behind u.whole u.line more input u.each u.cut in
       record {
         text = u.text;
+        lines = u.whole;
         left = cut.0;
-        lacking = [];
+        whole = u.replies;
+        others = [];
+        part = [];
         taken = u.taken;
-        begins = record {
-          lines = u.whole;
-          replies = u.replies;
-          cut = cut.1;
-          run = u.run;
-          written = ap (λ xs. u.text ++ xs) (append-nil out) ∙ u.written;
-        };
+        cut = cut.1;
+        run =
+            subst (λ replies. RunOf (AnswersLine layout) empty_state u.whole replies state)
+            (sym (append-nil u.replies)) u.run;
+        written = u.written ∙ sym (append-nil (ended (map answer_text u.replies)));
         lacks = none_lacks fault;
+        settled = u.settled;
       }
 
   -- so also where the line was answered, and not in out
   answered_lost : (state' : ByteState) (answer : Option ByteReply)
       → AnswersHeld layout held too_long state answer state' → (input' : List ℕ)
       (left : List (List ℕ)) → AreLines input' ((u.whole ++ u.line ∷ []) ++ left)
-      → IsBegun layout Alloc start input' writer out state'
+      → IsBegun layout Alloc early start input' writer out state'
   answered_lost state' answer answered input' left cut = record {
     text = u.text;
+    lines = u.whole ++ u.line ∷ [];
     left = left;
-    lacking = answer_text answer ++ line_feed ∷ [];
+    whole = u.replies;
+    others = answer ∷ [];
+    part = [];
     taken = u.taken;
-    begins = record {
-      lines = u.whole ++ u.line ∷ [];
-      replies = u.replies ++ answer ∷ [];
-      cut = cut;
-      run = run_on answer state' answered;
-      written = one_answered answer;
-    };
-    lacks = inr (answer, refl);
+    cut = cut;
+    run = run_on answer state' answered;
+    written = u.written ∙ sym (append-nil (ended (map answer_text u.replies)));
+    lacks = (omega arith, refl);
+    settled = u.settled;
   }
 
   -- a line feed has come, and the line isn't answered, or not in out
   pub line_broken : (state' : ByteState) (more : List ℕ) → MayEnd layout held too_long state state'
-      → IsBegun layout Alloc start (input ++ (line_feed ∷ [] ++ more)) writer out state'
+      → IsBegun layout Alloc early start (input ++ (line_feed ∷ [] ++ more)) writer out state'
   line_broken state' more (inl same) =
-      subst (IsBegun layout Alloc start (input ++ (line_feed ∷ [] ++ more)) writer out) (sym same)
+      subst (IsBegun layout Alloc early start (input ++ (line_feed ∷ [] ++ more)) writer out)
+      (sym same)
       (still_begun Alloc (line_feed ∷ [] ++ more))
   line_broken state' more (inr does) =
       let lines = u.whole ++ u.line ∷ [] in
@@ -305,22 +455,20 @@ module _ {layout : ScriptLayout} {start input out held : List ℕ} {writer : Tra
 
   -- at the end of the input what is held of a line is the last line
   module _ (some : held ≡ [] → too_long ≡ false → ⊥) where
-    last_cut : AreLines input ((u.whole ++ u.line ∷ []) ++ [])
+    last_cut : AreLines input (u.whole ++ u.line ∷ [])
     last_cut = record {
       whole = u.whole;
       rest = u.line;
       cut = u.cut;
       each = u.each;
       last = u.last;
-      are =
-          append-nil (u.whole ++ u.line ∷ [])
-          ∙ ap (λ xs. u.whole ++ xs) (sym (held_is_line held u.line too_long some u.holds));
+      are = ap (λ xs. u.whole ++ xs) (sym (held_is_line held u.line too_long some u.holds));
     }
 
     -- it is answered
     pub last_answered : (state' : ByteState) (out' : List ℕ) → Ends layout held too_long state
         state' out out'
-        → IsAnswered layout start input writer out' state'
+        → IsAnswered layout early start input writer out' state'
     last_answered state' out' ends = record {
       text = u.text;
       taken = u.taken;
@@ -331,23 +479,26 @@ module _ {layout : ScriptLayout} {start input out held : List ℕ} {writer : Tra
         run = run_on ends.answer state' ends.answered;
         written = ap (λ xs. u.text ++ xs) ends.appended ∙ one_answered ends.answer;
       };
+      settled = stand_more u.settled ends.answer;
     }
 
     -- or not, or not in out
     pub last_broken : (state' : ByteState) → MayEnd layout held too_long state state'
-        → IsBegun layout Alloc start input writer out state'
+        → IsBegun layout Alloc early start input writer out state'
     last_broken state' (inl same) =
-        subst (IsBegun layout Alloc start input writer out) (sym same)
-        (subst (λ xs. IsBegun layout Alloc start xs writer out state) (append-nil input)
+        subst (IsBegun layout Alloc early start input writer out) (sym same)
+        (subst (λ xs. IsBegun layout Alloc early start xs writer out state) (append-nil input)
         (still_begun Alloc []))
-    last_broken state' (inr does) = answered_lost state' does.0 does.1 input [] last_cut
+    last_broken state' (inr does) =
+        answered_lost state' does.0 does.1 input []
+        (subst (AreLines input) (sym (append-nil (u.whole ++ u.line ∷ []))) last_cut)
 
 -- the last replies go out, or a front of them
-pub all_out : {layout : ScriptLayout} {start input out : List ℕ} {writer : Traffic}
+pub all_out : {layout : ScriptLayout} {early : ℕ} {start input out : List ℕ} {writer : Traffic}
     {state : ByteState} (writer' : Traffic)
-    → IsAnswered layout start input writer out state → writer'.bytes ≡ writer.bytes ++ out
-    → IsAnswered layout start input writer' [] state
-all_out {layout} {start} {input} {out} writer' a taken = record {
+    → IsAnswered layout early start input writer out state → writer'.bytes ≡ writer.bytes ++ out
+    → IsAnswered layout early start input writer' [] state
+all_out {layout} {early} {start} {input} {out} writer' a taken = record {
   text = a.text ++ out;
   taken = taken ∙ ap (λ xs. xs ++ out) a.taken ∙ append_assoc start a.text out;
   all = record {
@@ -357,32 +508,35 @@ all_out {layout} {start} {input} {out} writer' a taken = record {
     run = a.all.run;
     written = append-nil (a.text ++ out) ∙ a.all.written;
   };
+  settled = stand_longer a.settled out;
 }
 
 -- or a fault comes before that
-pub answered_begun : {layout : ScriptLayout} {start input out : List ℕ} {writer : Traffic}
-    {state : ByteState}
-    (fault : ScriptError) → IsAnswered layout start input writer out state
-    → IsBegun layout fault start input writer out state
-answered_begun {out = out} fault a = record {
+pub answered_begun : {layout : ScriptLayout} {early : ℕ} {start input out : List ℕ}
+    {writer : Traffic} {state : ByteState}
+    (fault : ScriptError) → IsAnswered layout early start input writer out state
+    → IsBegun layout fault early start input writer out state
+answered_begun {layout = layout} {input = input} {state = state} fault a = record {
   text = a.text;
+  lines = a.all.lines;
   left = [];
-  lacking = [];
+  whole = a.all.replies;
+  others = [];
+  part = [];
   taken = a.taken;
-  begins = record {
-    lines = a.all.lines;
-    replies = a.all.replies;
-    cut = a.all.cut;
-    run = a.all.run;
-    written = ap (λ xs. a.text ++ xs) (append-nil out) ∙ a.all.written;
-  };
+  cut = subst (AreLines input) (sym (append-nil a.all.lines)) a.all.cut;
+  run =
+      subst (λ replies. RunOf (AnswersLine layout) empty_state a.all.lines replies state)
+      (sym (append-nil a.all.replies)) a.all.run;
+  written = a.all.written ∙ sym (append-nil (ended (map answer_text a.all.replies)));
   lacks = none_lacks fault;
+  settled = a.settled;
 }
 
 -- of nothing that was read nothing was written
 pub begun_nothing : {layout : ScriptLayout} (fault : ScriptError) (writer : Traffic)
     (state : ByteState)
-    → state ≡ empty_state → IsBegun layout fault writer.bytes [] writer [] state
+    → state ≡ empty_state → IsBegun layout fault 0 writer.bytes [] writer [] state
 begun_nothing fault writer state empty = still_begun (nothing_read writer state empty) fault []
 
 -- each input has a reply text

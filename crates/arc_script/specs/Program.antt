@@ -53,7 +53,7 @@ module _ (layout : ScriptLayout) where
   -- answered.
   pub record IsCut (reader reader' writer writer' : Traffic) (error : ScriptError) : Type 0 where
     pub text : Exchanges (BeginsReplyText layout) reader reader' writer writer'
-    pub broken : Exchanges (BreaksOff layout error) reader reader' writer writer'
+    pub broken : Exchanges (BreaksOff layout error reader'.last) reader reader' writer writer'
     pub answered : error ≡ Read
         → Exchanges (AnswersWhole layout) reader reader' writer writer'
     pub cause : IsCause reader reader' writer writer' error

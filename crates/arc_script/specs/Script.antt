@@ -1,7 +1,6 @@
--- Scripts: the lines of an input, what each of them is answered, and what is written.
-use Rattle.std.specs.Prelude.{◌≡◌, ℕ, Bool, true, false, List, [], ◌∷◌, ◌++◌, Option, Some}
-use Rattle.std.specs.Prelude.{None, map, ◌⊎◌, ⊤}
-use Rattle.std.specs.Prelude.{flat_map, Contains}
+-- Scripts: the lines of an input, what each is answered, and what is written.
+use Rattle.std.specs.Prelude.{◌≡◌, ◌≢◌, ℕ, ◌≤◌, ◌+◌, ◌==◌, Bool, true, false, List, [], ◌∷◌, ◌++◌}
+use Rattle.std.specs.Prelude.{Option, Some, None, map, length, count_by, flat_map, Contains}
 use Rattle.std.specs.List.{AllByRecursion}
 use Rattle.arc_block.specs.Block.{Sort}
 use Rattle.arc_block.specs.Layouts.{LayoutFacts, always, clones_want, never, where_full}
@@ -10,6 +9,8 @@ use Rattle.arc_commands.specs.RunOf.{RunOf}
 use Rattle.arc_commands.specs.Changes.{Setting, setting_of}
 use Rattle.arc_commands.specs.Kinds.{calls_of, plain_kind}
 use Rattle.arc_commands.specs.Step.{Step}
+use Rattle.arc_commands.specs.declared.command.Cmd.TheVariants.{Show}
+use Rattle.arc_commands.specs.declared.command.Reply.TheVariants as reply
 use Rattle.arc_forms.specs.Text.{line_feed, Says, IsBad, answer_text}
 use Rattle.arc_forms.specs.Commands.{ByteCmd, ByteReply}
 use Rattle.arc_script.specs.declared.layout.ScriptLayout.{ScriptLayout}
@@ -24,7 +25,11 @@ ended lines = flat_map (λ line. line ++ line_feed ∷ []) lines
 abbrev pub HasNoFeed : List ℕ → Type 0
 HasNoFeed line = ¬ Contains line line_feed
 
--- what is behind the last line feed: a line, unless it is empty
+-- how many lines have ended in these bytes: how many line feeds they have
+abbrev pub feeds : List ℕ → ℕ
+feeds bytes = count_by (λ byte. byte == line_feed) bytes
+
+-- what stands behind the last line feed is a line unless it is empty
 abbrev pub last_line : List ℕ → List (List ℕ)
 last_line [] = []
 last_line (byte ∷ bytes) = (byte ∷ bytes) ∷ []
@@ -78,23 +83,48 @@ script_setting under.Raw = byte_setting (of_any true never) true (clones_want fa
 abbrev pub ByteTable : Type 0
 ByteTable = Table ℕ ℕ
 
--- the answer to a line: the reply of one step of the command that it says, or None where it says
--- none and nothing changes
+-- whether a command only lends what stands in a window, and so asks for no memory
+abbrev pub lends : ByteCmd → Bool
+lends (Show i) = true
+lends c = false
+
+-- where a command asks for no memory, none is refused it
+abbrev pub FitsNeed : ByteCmd → ByteReply → Type 0
+FitsNeed c answer = lends c ≡ true → answer ≢ reply.Alloc
+
+-- what a line is answered: one step of the command that it says, or None where it says none and
+-- nothing changes
 abbrev pub AnswersBy : {S : Type 0}
     → (S → ByteCmd → ByteReply → S → Type 0) → S → List ℕ
     → Option ByteReply → S → Type 0
-AnswersBy step old line (Some reply) new = (c : ByteCmd) × Says line c
-    × step old c reply new
+AnswersBy step old line (Some answer) new = (c : ByteCmd) × Says line c
+    × step old c answer new × FitsNeed c answer
 AnswersBy step old line None new = IsBad line × (new ≡ old)
 
--- What a fault may leave unwritten of the replies to the lines that were answered: nothing where a
--- read failed; at most the last one where memory was refused, perhaps for that reply; anything
--- where a write failed.
-abbrev pub MayLack : ScriptError → List ℕ → Type 0
-MayLack Read unwritten = unwritten ≡ []
-MayLack Write unwritten = ⊤
-MayLack Alloc unwritten = (unwritten ≡ []) ⊎ ((answer : Option ByteReply)
-    × (unwritten ≡ answer_text answer ++ line_feed ∷ []))
+-- What a fault may lack of the replies to the lines that were carried out: these that aren't
+-- written whole, of which this part is written. Where a read failed there are none. Where memory
+-- was refused there is one at most, which it may have been refused for, and nothing of it is
+-- written. Where a write failed the part is a beginning of them.
+abbrev pub MayLack : ScriptError → List (Option ByteReply) → List ℕ → Type 0
+MayLack Read others part = (others ≡ []) × (part ≡ [])
+MayLack Alloc others part = (length others ≤ 1) × (part ≡ [])
+MayLack Write others part = (rest : List ℕ) × (part ++ rest ≡ ended (map answer_text others))
+
+-- A run by these steps that a fault broke off. It carried out some first lines of the input. Some
+-- first replies are written whole: at least one for each line that had ended before the reader's
+-- last call, which gave the last bytes. The others are those that the fault may lack.
+pub record IsBroken {S : Type 0} (step : S → List ℕ → Option ByteReply → S → Type 0) (old new : S)
+    (fault : ScriptError) (last input text : List ℕ) : Type 0 where
+  pub lines : List (List ℕ)
+  pub left : List (List ℕ)
+  pub whole : List (Option ByteReply)
+  pub others : List (Option ByteReply)
+  pub part : List ℕ
+  pub cut : AreLines input (lines ++ left)
+  pub run : RunOf step old lines (whole ++ others) new
+  pub written : text ≡ ended (map answer_text whole) ++ part
+  pub lacks : MayLack fault others part
+  pub early : feeds input ≤ length whole + feeds last
 
 -- under this layout
 module _ (layout : ScriptLayout) where
@@ -121,15 +151,9 @@ module _ (layout : ScriptLayout) where
     pub rest : List ℕ
     pub whole : IsReplyText input (text ++ rest)
 
-  -- What is written for an input where a fault came: the replies to some first lines, but for what
-  -- the fault may leave unwritten. How many lines that are, it doesn't say.
-  pub record BreaksOff (fault : ScriptError) (input text : List ℕ) : Type 0 where
-    pub lines : List (List ℕ)
-    pub left : List (List ℕ)
-    pub replies : List (Option ByteReply)
-    pub after : ByteTable
-    pub unwritten : List ℕ
-    pub cut : AreLines input (lines ++ left)
-    pub run : RunOf Answers empty_table lines replies after
-    pub written : text ++ unwritten ≡ ended (map answer_text replies)
-    pub lacks : MayLack fault unwritten
+  -- what is written for an input when a fault came behind a call that gave its last bytes: the
+  -- replies to first lines, at least to those that had ended before that call, but for what the
+  -- fault may lack
+  abbrev pub BreaksOff : ScriptError → (last input text : List ℕ) → Type 0
+  BreaksOff fault last input text =
+      (after : ByteTable) × IsBroken Answers empty_table after fault last input text

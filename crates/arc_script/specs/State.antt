@@ -1,7 +1,7 @@
 -- What a line does to a table of byte windows.
 use Rattle.std.specs.Prelude.{◌≡◌, ℕ, List, Option, Some, None}
 use Rattle.arc_commands.specs.State.{State, CarriesOut}
-use Rattle.arc_script.specs.Script.{script_setting, AnswersBy}
+use Rattle.arc_script.specs.Script.{script_setting, AnswersBy, FitsNeed}
 use Rattle.arc_forms.specs.Commands.{ByteCmd, ByteReply}
 use Rattle.arc_script.specs.declared.layout.ScriptLayout.{ScriptLayout}
 
@@ -14,7 +14,8 @@ module _ (layout : ScriptLayout) where
   -- the command that a line says is carried out; where it says none, nothing changes
   abbrev pub CarriesOutSaid : ByteState → Option (ByteCmd)
       → Option ByteReply → ByteState → Type 0
-  CarriesOutSaid old (Some c) (Some reply) new = CarriesOut (script_setting layout) old c reply new
+  CarriesOutSaid old (Some c) (Some reply) new =
+      CarriesOut (script_setting layout) old c reply new × FitsNeed c reply
   CarriesOutSaid old None None new = new ≡ old
   CarriesOutSaid old said answer new = ⊥
 

@@ -3,16 +3,17 @@ use Rattle.std.specs.Prelude.{◌≡◌, ℕ, ◌+◌, ◌==◌, ◌&&◌, nat_l
 use Rattle.std.specs.Prelude.{length, take, Option, Some, None, IfSome, ◌⊎◌}
 use Rattle.std.specs.Io.KnownBytes.{Appends, Consumes}
 
--- The bytes that all calls have given or taken; how many calls failed; and how many, over a slice
--- that isn't empty, gave or took nothing.
+-- the bytes that passed in all calls, and those of the last call; how many calls failed; and how
+-- many, over a slice that isn't empty, passed nothing
 pub record Traffic : Type 0 where
   pub bytes : List ℕ
+  pub last : List ℕ
   pub failures : ℕ
   pub empties : ℕ
 
 -- before any call
 abbrev pub no_traffic : Traffic
-no_traffic = record { bytes = []; failures = 0; empties = 0 }
+no_traffic = record { bytes = []; last = []; failures = 0; empties = 0 }
 
 -- a reader or writer, and its calls up to here
 pub record WithTraffic (D : Type 0) : Type 0 where
@@ -23,10 +24,11 @@ pub record WithTraffic (D : Type 0) : Type 0 where
 abbrev pub after_call : Traffic → List ℕ → Option ℕ → Traffic
 after_call t slice (Some n) = record {
   bytes = t.bytes ++ take n slice;
+  last = take n slice;
   failures = t.failures;
   empties = if n == 0 && nat_lt 0 (length slice) then t.empties + 1 else t.empties;
 }
-after_call t slice None = record t { failures = t.failures + 1 }
+after_call t slice None = record t { last = []; failures = t.failures + 1 }
 
 -- from one moment to the next a reader gave some input and a writer took some text, and the text
 -- fits the input

@@ -14,7 +14,7 @@ ghost use Rattle.arc_script.specs.Storms.{AsksForStorm, IsStorm};
 use crate::io::{Sink, Source};
 use crate::layout::ScriptLayout;
 use crate::script::{ScriptError, run_script, write_out};
-use crate::storm::OpenGate;
+use crate::storm::{Gate, OpenGate};
 use arc_owners::error::AllocError;
 use std::alloc::{Allocator, Global};
 use std::env::FillError;
@@ -101,26 +101,36 @@ fn report<F: Sink>(faults: &mut F, error: ScriptError) -> u8
 
 /// Runs the program on its words, and answers its status:
 ///
-/// - For the one word `arc`, `boxed`, `vec` or `raw` it runs the script that the reader gives, with
-///   windows under that layout. 0: all of it is answered. 1: memory is refused. 3: a read fails. 4:
-///   a write fails or takes nothing.
-/// - For `storm` and a number from 1 to 64, as many threads clone one window, and the vector that
-///   comes back is written. No input is read. 0: that is written. 1: something is refused. 4: the
-///   write fails or takes nothing.
-/// - For any other words it writes the usage to `faults`. 2, before any input is read.
+/// - For one word that stands for a layout, `arc`, `boxed`, `vec` or `raw`, it runs the script that
+///   the reader gives, with windows under that layout. The status is 0 where all of it was
+///   answered, 1 where memory was refused, 3 where a read failed, and 4 where a write failed or
+///   took nothing.
+/// - For `storm` with a number from 1 to 64, so many threads clone one window and pass the gate. It
+///   writes the vector that comes back, and reads no input. The status is 0 where that was written,
+///   1 where something was refused, and 4 where the write failed or took nothing.
+/// - For any other words it writes the usage to `faults`, reads no input, and answers 2.
 ///
-/// With status 1, 3 and 4 it writes one line to `faults`, which says why.
+/// On a fault it writes one line to `faults`.
 ///
 /// # Allocates
 ///
 /// As `run_script`, or as `storm`.
 pub fn run_args<
     T: Threads + Wait + Sync + AllocGlobal,
+    G: Gate + Sync,
     R: Source,
     W: Sink,
     F: Sink,
     A: Allocator + Copy,
->(rt: &T, alloc: A, words: &[String], reader: &mut R, writer: &mut W, faults: &mut F) -> u8
+>(
+    rt: &T,
+    gate: &G,
+    alloc: A,
+    words: &[String],
+    reader: &mut R,
+    writer: &mut W,
+    faults: &mut F,
+) -> u8
     ensures script { (layout : ScriptLayout) → AsksFor layout words.now
         → IsRun layout (R.traffic reader.old) (R.traffic reader.new) (W.traffic writer.old)
         (W.traffic writer.new) (F.traffic faults.old) (F.traffic faults.new) result }
@@ -143,7 +153,7 @@ pub fn run_args<
 {
     let Some(layout) = layout_of(words) else {
         if let Some(workers) = workers_of(words) {
-            return run_storm(rt, &OpenGate, workers, writer, faults);
+            return run_storm(rt, gate, workers, writer, faults);
         }
         tell(faults, b"usage: arcs arc|boxed|vec|raw|storm N\n");
         return 2;
@@ -245,8 +255,9 @@ pub fn words<G: Arguments>(given: &G, alloc: Global) -> Result<Vec<String>, Allo
     unreachable!()
 }
 
-/// Runs the program on the words that it is started with, as `run_args` says, and answers its
-/// status. Where memory is refused for the words, it writes a line to `faults` and answers 1.
+/// Runs the program on the words that it was given, as `run_args` says, with an `OpenGate`, and
+/// answers its status. Where memory is refused for the words, the status is 1, and the line of that
+/// fault is written to `faults`.
 ///
 /// # Allocates
 ///
@@ -272,7 +283,7 @@ pub fn start<T: Threads + Wait + Sync + AllocGlobal, G: Arguments, R: Source, W:
         ⊎ GivesAll (R.traffic reader.old) (R.traffic reader.new) (R.remaining reader.old) }
 {
     match words(given, alloc) {
-        Ok(words) => run_args(rt, alloc, &words, reader, writer, faults),
+        Ok(words) => run_args(rt, &OpenGate, alloc, &words, reader, writer, faults),
         Err(_) => report(faults, ScriptError::Alloc),
     }
 }

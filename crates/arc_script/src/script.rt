@@ -8,7 +8,7 @@ ghost use Rattle.arc_script.specs.Script.{HasNoFeed, IsReplyText, OfWholeLines};
 ghost use Rattle.arc_block.specs.Owned.{IsKept};
 ghost use Rattle.arc_block.specs.declared.block.TheConstants.{MAX_OWNERS};
 ghost use Rattle.arc_script.specs.State.{CarriesOutSaid};
-ghost use Rattle.arc_script.specs.Script.{script_setting};
+ghost use Rattle.arc_script.specs.Script.{lends, script_setting};
 ghost use Rattle.arc_forms.specs.Seen.{line_command};
 ghost use Rattle.arc_forms.specs.Commands.{ByteReply};
 ghost use Rattle.std.specs.Option.{option_map};
@@ -91,12 +91,7 @@ pub fn write_out<W: Sink>(writer: &mut W, bytes: &[u8]) -> Result<(), ScriptErro
 /// The windows of a script, over bytes.
 type ByteTable<L, A> = Table<Plain<u8>, L, Vec<u8, A>, u64, A>;
 
-/// Carries out a command, and appends the text of its reply to `out`.
-///
-/// # Errors
-///
-/// `AllocError` where memory is refused for that text, of which nothing is appended then. The
-/// command is carried out.
+/// Carries out a command that doesn't only lend, and appends what it is answered.
 #[inline(always)]
 fn answer_command<L: NamedLayout, A: Allocator + Copy>(
     table: &mut ByteTable<L, A>,
@@ -106,6 +101,7 @@ fn answer_command<L: NamedLayout, A: Allocator + Copy>(
 ) -> Result<(), AllocError>
 where
     L::Writable: LayoutMut,
+    requires { lends (line_command command) ≡ false }
     ensures ok { OnOk result (AnswersInto L.named (Some (line_command command)) table.old table.new
         out.old.items out.new.items) }
     ensures err { OnErr result (out.new.items ≡ out.old.items) }
@@ -168,8 +164,10 @@ where
         × CarriesOutSaid L.named table.old (option_map line_command said) reply table.new) }
 {
     match said {
-        Some(Cmd::Show { window }) => push_answer(out, &table.show_in_place(window)),
         Some(command) => {
+            if let Cmd::Show { window } = command {
+                return push_answer(out, &table.show_in_place(window));
+            }
             let reply = table.step(rt, command);
             push_answer(out, &reply)
         }
@@ -433,8 +431,8 @@ where
         ensures drained { IfOk result (λ more. more ≡ false → IsAtEnd (R.remaining reader.new)) }
         ensures begun { IfErr result (λ fault. (r w : Traffic)
             → IsRunning L.named r (R.traffic reader.old) w (W.traffic writer.old) self.old
-            → Exchanges (IsBrokenOff L.named fault self.new.table) r (R.traffic reader.new)
-            w (W.traffic writer.new)) }
+            → Exchanges (IsBrokenOff L.named fault (R.traffic reader.new).last self.new.table)
+            r (R.traffic reader.new) w (W.traffic writer.new)) }
         ensures answered { IfErr result (λ fault. fault ≡ ScriptError.Read → (r w : Traffic)
             → IsRunning L.named r (R.traffic reader.old) w (W.traffic writer.old) self.old
             → Exchanges (OfWholeLines (IsThrough L.named self.new.table)) r (R.traffic reader.new)
@@ -468,12 +466,12 @@ where
 
     /// Answers what is behind the last line feed, unless that is empty.
     fn answer_rest(&mut self, rt: &impl Wait) -> Result<(), AllocError>
-        ensures ok { OnOk result ((start input : List ℕ) (writer : Traffic)
-            → HasRead L.named start input writer self.old
-            → IsAnswered L.named start input writer self.new.out.items self.new.table) }
-        ensures err { OnErr result ((start input : List ℕ) (writer : Traffic)
-            → HasRead L.named start input writer self.old
-            → IsBegun L.named ScriptError.Alloc start input writer self.new.out.items
+        ensures ok { OnOk result ((early : ℕ) (start input : List ℕ) (writer : Traffic)
+            → HasRead L.named early start input writer self.old
+            → IsAnswered L.named early start input writer self.new.out.items self.new.table) }
+        ensures err { OnErr result ((early : ℕ) (start input : List ℕ) (writer : Traffic)
+            → HasRead L.named early start input writer self.old
+            → IsBegun L.named ScriptError.Alloc early start input writer self.new.out.items
             self.new.table) }
     {
         self.table.agree();
@@ -487,15 +485,15 @@ where
     /// Answers what is behind the last line feed, unless that is empty, and writes the replies that
     /// are held, also where memory is refused for that line.
     fn finish<W: Sink>(&mut self, rt: &impl Wait, writer: &mut W) -> Result<(), ScriptError>
-        ensures ok { OnOk result ((start input : List ℕ)
-            → HasRead L.named start input (W.traffic writer.old) self.old
-            → IsAnswered L.named start input (W.traffic writer.new) [] self.new.table) }
+        ensures ok { OnOk result ((early : ℕ) (start input : List ℕ)
+            → HasRead L.named early start input (W.traffic writer.old) self.old
+            → IsAnswered L.named early start input (W.traffic writer.new) [] self.new.table) }
         ensures taken { Takes (W.traffic writer.old) (W.traffic writer.new)
             (W.contents writer.old) (W.contents writer.new) }
         ensures clean { OnOk result (NoFault (W.traffic writer.old) (W.traffic writer.new)) }
-        ensures err { IfErr result (λ fault. (start input : List ℕ)
-            → HasRead L.named start input (W.traffic writer.old) self.old
-            → IsBegun L.named fault start input (W.traffic writer.new) [] self.new.table) }
+        ensures err { IfErr result (λ fault. (early : ℕ) (start input : List ℕ)
+            → HasRead L.named early start input (W.traffic writer.old) self.old
+            → IsBegun L.named fault early start input (W.traffic writer.new) [] self.new.table) }
         ensures fault { IfErr result (IsWhy (W.traffic writer.old) (W.traffic writer.new)) }
     {
         self.table.agree();
@@ -530,8 +528,9 @@ where
             (((R.traffic reader.new).failures ≡ (R.traffic reader.old).failures)
             × NoFault (W.traffic writer.old) (W.traffic writer.new)) }
         ensures begun { IfErr result (λ fault.
-            Exchanges (IsBrokenOff L.named fault self.new.table) (R.traffic reader.old)
-            (R.traffic reader.new) (W.traffic writer.old) (W.traffic writer.new)) }
+            Exchanges (IsBrokenOff L.named fault (R.traffic reader.new).last self.new.table)
+            (R.traffic reader.old) (R.traffic reader.new) (W.traffic writer.old)
+            (W.traffic writer.new)) }
         ensures answered { IfErr result (λ fault. fault ≡ ScriptError.Read
             → Exchanges (OfWholeLines (IsThrough L.named self.new.table)) (R.traffic reader.old)
             (R.traffic reader.new) (W.traffic writer.old) (W.traffic writer.new)) }
@@ -611,9 +610,9 @@ where
         × NoFault (W.traffic writer.old) (W.traffic writer.new)) }
     ensures ended { IsKept MAX_OWNERS [] result.1.of_blocks.items }
     ensures begun { IfErr result.0 (λ fault.
-        Exchanges (ThenEnds L.named (IsBrokenOff L.named fault) result.1.of_blocks.items)
-        (R.traffic reader.old) (R.traffic reader.new) (W.traffic writer.old)
-        (W.traffic writer.new)) }
+        Exchanges (ThenEnds L.named (IsBrokenOff L.named fault (R.traffic reader.new).last)
+        result.1.of_blocks.items) (R.traffic reader.old) (R.traffic reader.new)
+        (W.traffic writer.old) (W.traffic writer.new)) }
     ensures answered { IfErr result.0 (λ fault. fault ≡ ScriptError.Read
         → Exchanges (OfWholeLines
         (ThenEnds L.named (IsThrough L.named) result.1.of_blocks.items))
@@ -654,9 +653,9 @@ where
     ensures begun { OnErr result
         (Exchanges (BeginsReplyText L.named) (R.traffic reader.old) (R.traffic reader.new)
         (W.traffic writer.old) (W.traffic writer.new)) }
-    ensures broken { IfErr result (λ fault. Exchanges (BreaksOff L.named fault)
-        (R.traffic reader.old) (R.traffic reader.new) (W.traffic writer.old)
-        (W.traffic writer.new)) }
+    ensures broken { IfErr result (λ fault.
+        Exchanges (BreaksOff L.named fault (R.traffic reader.new).last) (R.traffic reader.old)
+        (R.traffic reader.new) (W.traffic writer.old) (W.traffic writer.new)) }
     ensures answered { IfErr result (λ fault. fault ≡ ScriptError.Read
         → Exchanges (AnswersWhole L.named) (R.traffic reader.old) (R.traffic reader.new)
         (W.traffic writer.old) (W.traffic writer.new)) }
@@ -679,8 +678,10 @@ where
 /// - `Read` where a read fails: written are the replies to all lines whose line feed was read, and
 ///   no other.
 /// - `Write` where a write fails or takes nothing: written is a beginning of the replies.
-/// - `Alloc` where memory is refused: written are the replies to some first lines, of which the
-///   last one's may be missing. How many lines that are, isn't said.
+/// - `Alloc` where memory is refused: written are the replies to the lines that were carried out,
+///   but perhaps not the last one.
+///
+/// On each error, every line that ended before the last read has its whole reply.
 ///
 /// # Allocates
 ///
@@ -709,9 +710,9 @@ pub fn run_script<R: Source, W: Sink, A: Allocator + Copy>(
     ensures begun { OnErr result
         (Exchanges (BeginsReplyText layout) (R.traffic reader.old) (R.traffic reader.new)
         (W.traffic writer.old) (W.traffic writer.new)) }
-    ensures broken { IfErr result (λ fault. Exchanges (BreaksOff layout fault)
-        (R.traffic reader.old) (R.traffic reader.new) (W.traffic writer.old)
-        (W.traffic writer.new)) }
+    ensures broken { IfErr result (λ fault.
+        Exchanges (BreaksOff layout fault (R.traffic reader.new).last) (R.traffic reader.old)
+        (R.traffic reader.new) (W.traffic writer.old) (W.traffic writer.new)) }
     ensures answered { IfErr result (λ fault. fault ≡ ScriptError.Read
         → Exchanges (AnswersWhole layout) (R.traffic reader.old) (R.traffic reader.new)
         (W.traffic writer.old) (W.traffic writer.new)) }

@@ -1,5 +1,7 @@
 //! A storm of clones: threads that clone one window through one reference, and release each clone.
-ghost use Rattle.std.specs.Prelude.{◌≡◌, ◌∷◌, [], IfOk};
+ghost use Rattle.std.specs.Prelude.{◌≡◌, ◌≤◌, ◌∷◌, [], IfErr, IfOk};
+ghost use Rattle.arc_owners.specs.declared.error.OwnerError.TheVariants as owner;
+ghost use Rattle.arc_script.specs.declared.storm.StormError.TheVariants as storm_error;
 
 use arc_block::layout::VecLayout;
 use arc_buffer::kinds::Plain;
@@ -42,18 +44,24 @@ pub enum StormError {
 }
 
 impl From<alloc::AllocError> for StormError {
+    ghost from_gives = { λ _ e. e ≡ storm_error.Owner owner.AllocError };
+
     fn from(_: alloc::AllocError) -> Self {
         StormError::Owner(OwnerError::AllocError)
     }
 }
 
 impl<T: Drop> From<alloc::AllocFailed<T>> for StormError {
+    ghost from_gives = { λ _ e. e ≡ storm_error.Owner owner.AllocError };
+
     fn from(_: alloc::AllocFailed<T>) -> Self {
         StormError::Owner(OwnerError::AllocError)
     }
 }
 
 impl From<OwnerError> for StormError {
+    ghost from_gives = { λ error e. e ≡ storm_error.Owner error };
+
     fn from(error: OwnerError) -> Self {
         StormError::Owner(error)
     }
@@ -64,7 +72,8 @@ type Window = ArcSlice<Plain<u8>, VecLayout>;
 
 /// A window over the vector [42].
 fn window_made(alloc: Global) -> Result<Window, StormError>
-    ensures { IfOk result (λ window. window.items ≡ 42 ∷ []) }
+    ensures made { IfOk result (λ window. window.items ≡ 42 ∷ []) }
+    ensures refused { IfErr result (λ e. e ≡ storm_error.Owner owner.AllocError) }
 {
     let bytes = Vec::from_slice(alloc, &[42])?;
     match Window::try_from_vec(alloc, bytes) {
@@ -112,9 +121,9 @@ fn work_in_threads<R: Threads + Wait + Sync, G: Gate + Sync>(
     })
 }
 
-/// Makes a window over the vector [42], lets `workers` threads clone it through one reference, and
-/// takes the vector back. Each thread makes 1,000 clones, and passes the gate between each clone
-/// and its release.
+/// Makes a window of the vector [42], lets `workers` threads, from 1 to 64, clone it, and takes the
+/// vector back. Each worker clones the window 1,000 times through one reference, and passes the
+/// gate between a clone and its release.
 ///
 /// # Errors
 ///
@@ -132,7 +141,9 @@ pub fn storm<R: Threads + Wait + Sync, G: Gate + Sync>(
     workers: usize,
     gate: &G,
 ) -> Result<Vec<u8>, StormError>
-    ensures { IfOk result (λ bytes. bytes.items ≡ 42 ∷ []) }
+    requires some { 1 ≤ workers }
+    requires most { workers ≤ 64 }
+    ensures vector { IfOk result (λ bytes. bytes.items ≡ 42 ∷ []) }
 {
     let window = window_made(alloc)?;
     work_in_threads(rt, alloc, &window, gate, workers)?;

@@ -118,7 +118,7 @@ module _ {T M : Type 0} (setting : Setting T) (windows : ℕ) (s : SlotView T M)
   pub stays : (passes' : List (Pass Whole)) (c : Command) (r : ListReply T M)
       → answer_any setting (shortage r c) around c row ≡ is_now r row
       → length passes' ≡ length passes
-      → RowAdds here here None passes passes' setting row c r → Said c r (Some s) None passes'
+      → RowAdds setting row c r here here None passes passes' → Said c r (Some s) None passes'
   stays passes' c r is many adds = record {
     begins = false;
     places = 0;
@@ -130,7 +130,7 @@ module _ {T M : Type 0} (setting : Setting T) (windows : ℕ) (s : SlotView T M)
   -- nothing changes
   pub same : (c : Command) (r : ListReply T M)
       → answer_any setting (shortage r c) around c row ≡ is_now r row
-      → RowAdds here here None passes passes setting row c r → Said c r (Some s) None passes
+      → RowAdds setting row c r here here None passes passes → Said c r (Some s) None passes
   same c r is adds = stays passes c r is refl adds
 
   -- ---- the end of the window
@@ -174,7 +174,7 @@ module _ {T M : Type 0} (setting : Setting T) (windows : ℕ) (s : SlotView T M)
 
   pub changes : (c : Command) (r : ListReply T M) (new : SlotView T M)
       → answer_any setting (shortage r c) around c row ≡ is_now r (row_of new)
-      → RowAdds here (stand_of (Some new)) None passes passes setting row c r
+      → RowAdds setting row c r here (stand_of (Some new)) None passes passes
       → Said c r (Some new) None passes
   changes c r new is adds = record {
     begins = false;
@@ -244,7 +244,7 @@ module _ {T M : Type 0} (setting : Setting T) (windows : ℕ) (s : SlotView T M)
   pub begins-as : (c : Command) (new : SlotView T M) (r : Row T M) (passes' : List (Pass Whole))
       → answer_any setting no_shortage around c row ≡ begun r
       → ((there : Stand) → Stays here there None passes passes'
-      → RowAdds here there None passes passes' setting row c reply.Ok)
+      → RowAdds setting row c reply.Ok here there None passes passes')
       → here ≡ None → Founds (stand_of (Some new)) passes passes' → row_of new ≡ r
       → Said c reply.Ok (Some new) None passes'
   begins-as c new r passes' is adds none founds row-is = record {

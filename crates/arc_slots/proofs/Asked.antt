@@ -64,7 +64,7 @@ module _ {T M : Type 0} (setting : Setting T) (windows : ℕ) (s : SlotView T M)
     AskedAs st found = Along st passes passes' (λ o p q. Asks o p q found)
 
     asked-adds : (st : Stand) (found : Bool) → AskedAs st found
-        → Enters st st None passes passes' (History_asked found)
+        → Enters (History_asked found) st st None passes passes'
     asked-adds st found along = (
       refl,
       refl,
@@ -80,7 +80,7 @@ module _ {T M : Type 0} (setting : Setting T) (windows : ℕ) (s : SlotView T M)
 
     -- where only the count decides
     asks-if : (asks : Bool) (st : Stand) → MayAsk asks st passes passes' false
-        → AsksIf st st None passes passes' asks
+        → AsksIf asks st st None passes passes'
     asks-if true st along = asked-adds st false along
     asks-if false st same = (refl, refl, same)
 
@@ -93,8 +93,8 @@ module _ {T M : Type 0} (setting : Setting T) (windows : ℕ) (s : SlotView T M)
     says-short false = of_buffer
 
     abbrev UniqAdds : Bool → Stand → Place (Option ℕ) M → Type 0
-    UniqAdds true st place = Enters st st None passes passes' (History_asked true)
-    UniqAdds false st place = AsksInVainAt st st None passes passes' place
+    UniqAdds true st place = Enters (History_asked true) st st None passes passes'
+    UniqAdds false st place = AsksInVainAt place st st None passes passes'
 
     abbrev UniqTold : Bool → Stand → Place (Option ℕ) M → Type 0
     UniqTold found st place =
@@ -107,7 +107,7 @@ module _ {T M : Type 0} (setting : Setting T) (windows : ℕ) (s : SlotView T M)
     not-unique (buffer writable) = refl
     not-unique raw = refl
 
-    vain-none : (sort : Sort) → passes' ≡ passes → AsksInVain None None None passes passes' sort
+    vain-none : (sort : Sort) → passes' ≡ passes → AsksInVain sort None None None passes passes'
     vain-none native same = (refl, refl, same)
     vain-none vector same = (refl, refl, same)
     vain-none (buffer writable) same = (false, (refl, refl, same))
@@ -116,7 +116,7 @@ module _ {T M : Type 0} (setting : Setting T) (windows : ℕ) (s : SlotView T M)
     -- nobody was asked
     uniq-none : (found : Bool) (place : Place (Option ℕ) M)
         → is_unique_at of_buffer false place ≡ false
-        → AsksInVainAt None None None passes passes' place
+        → AsksInVainAt place None None None passes passes'
         → (found ≡ false) × (passes' ≡ passes) → UniqTold found None place
     uniq-none true place un vain asks = absurd (false≢true (sym asks.0))
     uniq-none false place un vain asks = (un, ap length asks.1, vain)
@@ -133,8 +133,8 @@ module _ {T M : Type 0} (setting : Setting T) (windows : ℕ) (s : SlotView T M)
       uniq-sort : (found : Bool) (sort : Sort) → AsksSort sort at passes passes' found
           → (is_unique (says-short found) (alone_at at) sort ≡ found)
           × (length passes' ≡ length passes)
-          × (found ≡ true → Enters at at None passes passes' (History_asked true))
-          × (found ≡ false → AsksInVain at at None passes passes' sort)
+          × (found ≡ true → Enters (History_asked true) at at None passes passes')
+          × (found ≡ false → AsksInVain sort at at None passes passes')
       uniq-sort found native asks = (
         told-alone found asks,
         many_along passes passes' at (λ o p q. Asks o p q found) asks,
@@ -335,7 +335,7 @@ module _ {T M : Type 0} (setting : Setting T) (windows : ℕ) (s : SlotView T M)
       -- whether he is alone is what was said, and that was added
       alone-at : (st : Stand) (found : Bool) → HasPassFor passes st → AsksAt st passes passes' found
           → (alone_at st ≡ found) × (length passes' ≡ length passes)
-          × (found ≡ true → Enters st st None passes passes' (History_asked true))
+          × (found ≡ true → Enters (History_asked true) st st None passes passes')
       alone-at None found has asks = (
         sym asks.0,
         ap length asks.1,
@@ -364,8 +364,8 @@ module _ {T M : Type 0} (setting : Setting T) (windows : ℕ) (s : SlotView T M)
       -- on a block the count said that he isn't; on none nobody was asked
       vainly : (b : Option ℕ) (place : Place (Option Owner) M)
           → AsksAt (stand_at b place) passes passes' false
-          → AsksIf (stand_at b place) (stand_at b place) None passes passes'
-          (is_on_block (numbered b place))
+          → AsksIf (is_on_block (numbered b place)) (stand_at b place) (stand_at b place) None passes
+          passes'
       vainly b nowhere asks = (refl, refl, asks.1)
       vainly b static_data asks = (refl, refl, asks.1)
       vainly b (on_block None offset info) asks = (refl, refl, asks.1)
@@ -466,7 +466,7 @@ module _ {T M : Type 0} (setting : Setting T) (windows : ℕ) (s : SlotView T M)
 
       took-out : (wanted ≡ true → is_on_block row.place ≡ true)
           → (Takes here None None passes passes'
-          → RowAdds here None None passes passes' setting row c answer)
+          → RowAdds setting row c answer here None None passes passes')
           → TakesOut wanted here passes passes' → Said c answer None None passes'
       took-out on adds took = record {
         begins = false;
@@ -489,8 +489,8 @@ module _ {T M : Type 0} (setting : Setting T) (windows : ℕ) (s : SlotView T M)
       wanted-not false asks counted = refl
 
       refused-out :
-          (AsksIf here here None passes passes' wanted
-          → RowAdds here here None passes passes' setting row c reply.Refused)
+          (AsksIf wanted here here None passes passes'
+          → RowAdds setting row c reply.Refused here here None passes passes')
           → RefusesOut wanted here passes passes' → Said c reply.Refused (Some s) None passes'
       refused-out adds refuses = record {
         begins = false;
@@ -543,8 +543,8 @@ module _ {T M : Type 0} (setting : Setting T) (windows : ℕ) (s : SlotView T M)
 
   -- it may be refused
   asks-adds : (i : ℕ) (what : Taking) (passes' : List (Pass Whole))
-      → AsksIf here here None passes passes' (have i what)
-      → RowAdds here here None passes passes' setting row (takes i what) reply.Refused
+      → AsksIf (have i what) here here None passes passes'
+      → RowAdds setting row (takes i what) reply.Refused here here None passes passes'
   asks-adds i taking.Vector passes' asks = asks
   asks-adds i taking.Boxed passes' asks = asks
   asks-adds i taking.Buffer passes' asks = asks
@@ -555,10 +555,12 @@ module _ {T M : Type 0} (setting : Setting T) (windows : ℕ) (s : SlotView T M)
       (for : is_allowed setting.calls (takes i what) s.role ≡ true)
       (passes' : List (Pass Whole)) where
     beside-adds : (w : Taking) → Takes here None None passes passes'
-        → RowAdds here None None passes passes' setting row (takes i w) (had i w)
-    beside-adds taking.Vector took = subst (TakesAs here None None passes passes') (sym one) took
+        → RowAdds setting row (takes i w) (had i w) here None None passes passes'
+    beside-adds taking.Vector took =
+        subst (λ b. TakesAs b here None None passes passes') (sym one) took
     beside-adds taking.Boxed took = took
-    beside-adds taking.Buffer took = subst (TakesAs here None None passes passes') (sym one) took
+    beside-adds taking.Buffer took =
+        subst (λ b. TakesAs b here None None passes passes') (sym one) took
     beside-adds taking.Raw took = took
 
     pub took-beside : TakesOut (have i what) here passes passes'
@@ -624,13 +626,13 @@ module _ {T M : Type 0} (setting : Setting T) (windows : ℕ) (s : SlotView T M)
         is_now reply.Refused row
 
     sole-adds : (w : Taking) → is_writers w ≡ true → (passes' : List (Pass Whole))
-        → Goes here None None passes passes' ended
-        → RowAdds here None None passes passes' setting row (takes i w) (had i w)
+        → Goes ended here None None passes passes'
+        → RowAdds setting row (takes i w) (had i w) here None None passes passes'
     sole-adds taking.Vector may passes' goes =
-        subst (TakesAs here None None passes passes') (sym writes) goes
+        subst (λ b. TakesAs b here None None passes passes') (sym writes) goes
     sole-adds taking.Boxed may passes' goes = absurd (false≢true may)
     sole-adds taking.Buffer may passes' goes =
-        subst (TakesAs here None None passes passes') (sym writes) goes
+        subst (λ b. TakesAs b here None None passes passes') (sym writes) goes
     sole-adds taking.Raw may passes' goes = absurd (false≢true may)
 
     left-so : (st : Stand) (passes' : List (Pass Whole))
@@ -672,4 +674,4 @@ module _ {T M : Type 0} (setting : Setting T) (windows : ℕ) (s : SlotView T M)
         (sole-is (shortage reply.Refused (takes i what))
         ∙ ap (λ b. outcome b (is_sole row.role)) unwanted)
         (asks-adds i what passes
-        (subst (AsksIf here here None passes passes) (sym unwanted) (refl, refl, refl)))
+        (subst (λ b. AsksIf b here here None passes passes) (sym unwanted) (refl, refl, refl)))

@@ -27,13 +27,13 @@ module _ {T M : Type 0} (setting : Setting T) (i : ℕ) (here : Stand) (passes :
   -- items that are written
   made-as : (k : ℕ) (there : Stand) (passes' : List (Pass Whole))
       → Stays here there None passes passes'
-      → HasMade here there None passes passes' (asks_first row k)
+      → HasMade (asks_first row k) here there None passes passes'
   made-as k there passes' stays =
-      subst (HasMade here there None passes passes') (sym (asks-none k)) stays
+      subst (λ b. HasMade b here there None passes passes') (sym (asks-none k)) stays
 
   pub write-adds : (what : Writing (List T) T) (there : Stand) (passes' : List (Pass Whole))
       → Stays here there None passes passes'
-      → RowAdds here there None passes passes' setting row (write_command i what) reply.Ok
+      → RowAdds setting row (write_command i what) reply.Ok here there None passes passes'
   write-adds (writing.Nothing additional) there passes' stays =
       made-as additional there passes' stays
   write-adds (writing.Item item) there passes' stays = made-as 1 there passes' stays
@@ -42,18 +42,18 @@ module _ {T M : Type 0} (setting : Setting T) (i : ℕ) (here : Stand) (passes :
 
   -- they were refused
   refused-as : (asks : Bool) (e : TryReserveError) → asks ≡ false
-      → HasRefused here here None passes passes asks e
+      → HasRefused asks e here here None passes passes
   refused-as asks e none =
-      subst (λ b. HasRefused here here None passes passes b e) (sym none) (unasked e)
+      subst (λ b. HasRefused b e here here None passes passes) (sym none) (unasked e)
     where
-      unasked : (f : TryReserveError) → HasRefused here here None passes passes false f
+      unasked : (f : TryReserveError) → HasRefused false f here here None passes passes
       unasked reserve.AllocError = (refl, refl, refl)
       unasked reserve.NotUnique = (refl, refl, refl)
       unasked reserve.Unsupported = (refl, refl, refl)
       unasked reserve.CapacityOverflow = (refl, refl, refl)
 
   pub write-none : (what : Writing (List T) T) (e : TryReserveError)
-      → RowAdds here here None passes passes setting row (write_command i what) (reply.Reserve e)
+      → RowAdds setting row (write_command i what) (reply.Reserve e) here here None passes passes
   write-none (writing.Nothing additional) e =
       refused-as (asks_first row additional) e (asks-none additional)
   write-none (writing.Item item) e = refused-as (asks_first row 1) e (asks-none 1)

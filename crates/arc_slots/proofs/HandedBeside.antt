@@ -11,7 +11,7 @@ use Rattle.arc_block.specs.Owned.{Stand}
 use Rattle.arc_parts.specs.Shared.{is_vector_at, on_native}
 use Rattle.arc_block.specs.Table.{Row, block_of, one_writer_of_several}
 use Rattle.arc_parts.specs.Writers.{capacity_of}
-use Rattle.arc_commands.specs.Additions.{Enters, Joins, MovesAndJoins, RowAdds, Splits}
+use Rattle.arc_commands.specs.Additions.{Enters, GivesOther, MovesAndGives, RowAdds, Splits}
 use Rattle.arc_commands.specs.Additions.{ended, refused}
 use Rattle.arc_commands.specs.Blocks.{is_several}
 use Rattle.arc_commands.specs.Changes.{Change, Setting, Shortage, in_range}
@@ -57,7 +57,7 @@ module _ {T M : Type 0} (setting : Setting T) (windows : ℕ) (s : SlotView T M)
 
   abbrev RowHas : (there : Stand) → (made : Option Stand) → (passes' : List (Pass Whole))
       → ListCmd T M → ListReply T M → Type 0
-  RowHas there made passes' c r = RowAdds here there made passes passes' setting row c r
+  RowHas there made passes' c r = RowAdds setting row c r here there made passes passes'
 
   -- ---- what a command is answered that splits
 
@@ -84,14 +84,14 @@ module _ {T M : Type 0} (setting : Setting T) (windows : ℕ) (s : SlotView T M)
 
   -- what is added by one
   made-adds : (part : Part) (there made : Stand) (passes' : List (Pass Whole))
-      → ((out : Bool) → Splits here there (Some made) passes passes' (is_several row.role)
-      (is_vector_at row.place) out)
+      → ((out : Bool) → Splits (is_several row.role) (is_vector_at row.place) out here there
+      (Some made) passes passes')
       → RowHas there (Some made) passes' (part_command i part) (reply.New windows)
   made-adds (Back at) there made passes' splits = splits (at == 0)
   made-adds (Front at) there made passes' splits = splits (at == length row.items)
 
   refused-adds : (part : Part) (e : OwnerError) (passes' : List (Pass Whole))
-      → Enters here here None passes passes' (refused e)
+      → Enters (refused e) here here None passes passes'
       → RowHas here None passes' (part_command i part) (reply.Owner e)
   refused-adds (Back at) e passes' enters = enters
   refused-adds (Front at) e passes' enters = enters
@@ -199,8 +199,13 @@ module _ {T M : Type 0} (setting : Setting T) (windows : ℕ) (s : SlotView T M)
                 (sym (handed-block part row) ∙ ap (λ (r : Row T M). block_of r.place) (sym h.made)
                 ∙ row-block made)
                 ∙ room-beside passes passes' windows here other has h.beside in
-                let joins : Joins here there (Some other) passes passes' false =
-                (other, raises-beside passes passes' here other h.beside, h.stand, refl) in
+                let gives : GivesOther here there (Some other) passes passes' =
+                record {
+                  other = other;
+                  raises = raises-beside passes passes' here other h.beside;
+                  stays = h.stand;
+                  handed_out = refl;
+                } in
                 record {
                   begins = false;
                   places = 0;
@@ -212,10 +217,10 @@ module _ {T M : Type 0} (setting : Setting T) (windows : ℕ) (s : SlotView T M)
                   blocks = many-beside passes passes' here other h.beside;
                   adds =
                       made-adds part there other passes' (λ out.
-                      subst (λ b. Splits here there (Some other) passes passes' b
-                      (is_vector_at row.place) out) (sym several)
-                      (subst (λ b. Splits here there (Some other) passes passes' true b out)
-                      (sym off) joins));
+                      subst (λ b. Splits b (is_vector_at row.place) out here there (Some other)
+                      passes passes') (sym several)
+                      (subst (λ b. Splits true b out here there (Some other) passes passes')
+                      (sym off) gives));
                 }
 
             -- it moved from a vector first
@@ -236,7 +241,7 @@ module _ {T M : Type 0} (setting : Setting T) (windows : ℕ) (s : SlotView T M)
                 ∙ ap (λ (r : Row T M). is_some (block_of r.place)) m.splits.made
                 ∙ ap is_some (handed-block part (row_of m.whole))
                 ∙ ap (λ (r : Row T M). is_some (block_of r.place)) m.row in
-                let moves : MovesAndJoins here at (Some other) passes passes' =
+                let moves : MovesAndGives here at (Some other) passes passes' =
                 record {
                   between = m.moved.between;
                   begun_with = m.between;
@@ -269,11 +274,11 @@ module _ {T M : Type 0} (setting : Setting T) (windows : ℕ) (s : SlotView T M)
                       (many_along passes m.moved.between here Ended m.moved.left);
                   adds =
                       made-adds part there other passes' (λ out.
-                      subst (λ b. Splits here there (Some other) passes passes' b
-                      (is_vector_at row.place) out) (sym several)
-                      (subst (λ b. Splits here there (Some other) passes passes' true b out)
+                      subst (λ b. Splits b (is_vector_at row.place) out here there (Some other)
+                      passes passes') (sym several)
+                      (subst (λ b. Splits true b out here there (Some other) passes passes')
                       (sym on)
-                      (subst (λ st. MovesAndJoins here st (Some other) passes passes')
+                      (subst (λ st. MovesAndGives here st (Some other) passes passes')
                       (sym m.splits.stand) moves)));
                 }
 

@@ -13,10 +13,11 @@ use Rattle.arc_block.specs.Owned.{Stand}
 use Rattle.arc_block.specs.Table.{Row, Role, reader, sole_writer, one_writer_of_several, inline}
 use Rattle.arc_block.specs.Table.{forgotten, block_of}
 use Rattle.arc_parts.specs.Shared.{is_vector_at}
-use Rattle.arc_commands.specs.Additions.{Enters, Joins, RowAdds, Splits, refused}
+use Rattle.arc_commands.specs.Additions.{Effect, Enters, GivesItself, GivesOther, RowAdds, Splits}
+use Rattle.arc_commands.specs.Additions.{refused}
 use Rattle.arc_commands.specs.Changes.{Change, Setting, Shortage, in_range, is_now}
-use Rattle.arc_commands.specs.Changes.{no_shortage, of_table, part_of, parted, split}
-use Rattle.arc_commands.specs.Changes.{with_made}
+use Rattle.arc_commands.specs.Changes.{no_shortage, of_table, part_beside, part_of, split_row}
+use Rattle.arc_commands.specs.Changes.{with_made, with_new_part}
 use Rattle.arc_commands.specs.Step.{answer_any, is_allowed, shortage}
 use Rattle.arc_commands.specs.Blocks.{is_reader, is_several, is_writer}
 use Rattle.arc_commands.specs.Several.{split_off_change, split_to_change}
@@ -37,6 +38,11 @@ use Rattle.arc_slots.proofs.Roles.{writer_each}
 use Rattle.arc_slots.proofs.Told.{full-beside, many-beside, many-refused, room-beside, row-block}
 use Rattle.arc_slots.proofs.Told.{why-refused-at}
 
+-- a window itself is handed out, or another one
+abbrev GivesBy : (itself : Bool) → Effect Whole
+GivesBy false = GivesOther
+GivesBy true = GivesItself
+
 module _ {T M : Type 0} (setting : Setting T) (windows : ℕ) (s : SlotView T M)
     (passes : List (Pass Whole)) where
   open before_of setting windows s passes use {here, row, around, Said}
@@ -49,15 +55,15 @@ module _ {T M : Type 0} (setting : Setting T) (windows : ℕ) (s : SlotView T M)
   -- number.
   pub record Hands (c : ListCmd T M) (itself : Bool) (rest part : Row T M) : Type 0 where
     pub change : (short : Shortage) → answer_any setting short around c row
-        ≡ parted setting short around row part (if itself then part else rest)
-        (if itself then row else part)
-    pub joins : (number : ℕ) (there : Stand) (made : Option Stand) (passes' : List (Pass Whole))
-        → Joins here there made passes passes' itself
-        → RowAdds here there made passes passes' setting row c (reply.New number)
+        ≡ with_new_part setting short around row part
+        (if itself then with_made around part row else with_made around rest part)
+    pub gives : (number : ℕ) (there : Stand) (made : Option Stand) (passes' : List (Pass Whole))
+        → GivesBy itself here there made passes passes'
+        → RowAdds setting row c (reply.New number) here there made passes passes'
     pub enters : (e : OwnerError) (passes' : List (Pass Whole))
-        → Enters here here None passes passes' (refused e)
-        → RowAdds here here None passes passes' setting row c (reply.Owner e)
-    pub nothing : RowAdds here here None passes passes setting row c reply.Alloc
+        → Enters (refused e) here here None passes passes'
+        → RowAdds setting row c (reply.Owner e) here here None passes passes'
+    pub nothing : RowAdds setting row c reply.Alloc here here None passes passes
 
   -- ---- clones and ranges
 
@@ -93,7 +99,7 @@ module _ {T M : Type 0} (setting : Setting T) (windows : ℕ) (s : SlotView T M)
       change =
           λ short. for-role setting windows s passes short (command.Clone i)
           (unwritten-for (command.Clone i) refl refl s.role known other);
-      joins = λ number there made passes' joins. joins;
+      gives = λ number there made passes' gives. gives;
       enters = λ e passes' enters. enters;
       nothing = (refl, refl, refl);
     }
@@ -104,7 +110,7 @@ module _ {T M : Type 0} (setting : Setting T) (windows : ℕ) (s : SlotView T M)
 
       range-is : (short : Shortage) → answer_any setting short around (command.Sub i start end) row
           ≡ in_range (range_answer setting.boundary row.items start end) row
-          (parted setting short around row range row range)
+          (part_beside setting short around range row)
       range-is short =
           for-role setting windows s passes short (command.Sub i start end)
           (unwritten-for (command.Sub i start end) refl refl s.role known other)
@@ -114,8 +120,8 @@ module _ {T M : Type 0} (setting : Setting T) (windows : ℕ) (s : SlotView T M)
       ranges ok = record {
         change =
             λ short. range-is short
-            ∙ ap (λ a. in_range a row (parted setting short around row range row range)) ok;
-        joins = λ number there made passes' joins. joins;
+            ∙ ap (λ a. in_range a row (part_beside setting short around range row)) ok;
+        gives = λ number there made passes' gives. gives;
         enters = λ e passes' enters. enters;
         nothing = (refl, refl, refl);
       }
@@ -127,7 +133,7 @@ module _ {T M : Type 0} (setting : Setting T) (windows : ℕ) (s : SlotView T M)
       no-range e is =
           same setting windows s passes (command.Sub i start end) (reply.Range e)
           (range-is no_shortage
-          ∙ ap (λ a. in_range a row (parted setting no_shortage around row range row range)) is)
+          ∙ ap (λ a. in_range a row (part_beside setting no_shortage around range row)) is)
           (refl, refl, refl)
 
   -- ---- splits
@@ -165,8 +171,8 @@ module _ {T M : Type 0} (setting : Setting T) (windows : ℕ) (s : SlotView T M)
   module _ (reads : s.role ≡ reader) (i : ℕ) where
     abbrev split_so : Shortage → Part → Change T M
     split_so short part =
-        split setting short around (is_itself row part) row (rest_of row part)
-        (part_row setting.layout.has_static row part)
+        split_row setting short around (is_itself row part) (rest_of row part)
+        (part_row setting.layout.has_static row part) row
 
     one : is_several s.role ≡ false
     one = ap is_several reads
@@ -199,12 +205,17 @@ module _ {T M : Type 0} (setting : Setting T) (windows : ℕ) (s : SlotView T M)
         (split-is (Front at) no_shortage
         ∙ ap (λ a. in_range a row (split_so no_shortage (Front at))) is) (refl, refl, refl)
 
-    split-joins : (there : Stand) (made : Option Stand) (passes' : List (Pass Whole)) (out : Bool)
-        → Joins here there made passes passes' out
-        → Splits here there made passes passes' (is_several row.role) (is_vector_at row.place) out
-    split-joins there made passes' out joins =
-        subst (λ b. Splits here there made passes passes' b (is_vector_at row.place) out) (sym one)
-        joins
+    split-gives : (there : Stand) (made : Option Stand) (passes' : List (Pass Whole)) (out : Bool)
+        → GivesBy out here there made passes passes'
+        → Splits (is_several row.role) (is_vector_at row.place) out here there made passes passes'
+    split-gives there made passes' out gives =
+        subst (λ b. Splits b (is_vector_at row.place) out here there made passes passes') (sym one)
+        (by out gives)
+      where
+        by : (b : Bool) → GivesBy b here there made passes passes'
+            → Splits false (is_vector_at row.place) b here there made passes passes'
+        by false gives = gives
+        by true gives = gives
 
     pub splits : (part : Part)
         → edge_answer setting.boundary s.window.items (split_at part) ≡ Ok tt
@@ -214,7 +225,7 @@ module _ {T M : Type 0} (setting : Setting T) (windows : ℕ) (s : SlotView T M)
       change =
           λ short. split-is (Back at) short
           ∙ ap (λ a. in_range a row (split_so short (Back at))) ok;
-      joins = λ number there made passes' joins. split-joins there made passes' (at == 0) joins;
+      gives = λ number there made passes' gives. split-gives there made passes' (at == 0) gives;
       enters = λ e passes' enters. enters;
       nothing = (refl, refl, refl);
     }
@@ -222,9 +233,9 @@ module _ {T M : Type 0} (setting : Setting T) (windows : ℕ) (s : SlotView T M)
       change =
           λ short. split-is (Front at) short
           ∙ ap (λ a. in_range a row (split_so short (Front at))) ok;
-      joins =
-          λ number there made passes' joins.
-          split-joins there made passes' (at == length row.items) joins;
+      gives =
+          λ number there made passes' gives.
+          split-gives there made passes' (at == length row.items) gives;
       enters = λ e passes' enters. enters;
       nothing = (refl, refl, refl);
     }
@@ -233,16 +244,12 @@ module _ {T M : Type 0} (setting : Setting T) (windows : ℕ) (s : SlotView T M)
 
   module _ {c : ListCmd T M} {itself : Bool} {rest part : Row T M} (h : Hands c itself rest part)
     where
-      abbrev kept_row : Row T M
-      kept_row = if itself then part else rest
-
-      abbrev made_row : Row T M
-      made_row = if itself then row else part
+      abbrev outcome : Bool → Change T M
+      outcome itself = if itself then with_made around part row else with_made around rest part
 
       -- both parts, unless the block has as many owners as it may have
       abbrev unless_full : Bool → Change T M
-      unless_full full =
-          if full then is_now (reply.Owner CountFull) row else with_made around kept_row made_row
+      unless_full full = if full then is_now (reply.Owner CountFull) row else outcome itself
 
       -- memory for the window was refused
       pub hand-alloc : Said c reply.Alloc (Some s) None passes
@@ -252,8 +259,8 @@ module _ {T M : Type 0} (setting : Setting T) (windows : ℕ) (s : SlotView T M)
         -- an owner more was refused, as the row tells
         refused-so : (e : OwnerError)
             → RefusesAt setting.clone_wants part.place here passes passes' e
-            → parted setting (shortage {T = T} {M = M} (reply.Owner e) c) around row part kept_row
-            made_row ≡ is_now (reply.Owner e) row
+            → with_new_part setting (shortage {T = T} {M = M} (reply.Owner e) c) around row part
+            (outcome itself) ≡ is_now (reply.Owner e) row
             → Said c (reply.Owner e) (Some s) None passes'
         refused-so e why is = record {
           begins = false;
@@ -297,11 +304,12 @@ module _ {T M : Type 0} (setting : Setting T) (windows : ℕ) (s : SlotView T M)
             ]
 
         -- it was made: the window's owner has the one part, and that one the other
-        hand-made : (kept made other : SlotView T M) → row_of kept ≡ kept_row → row_of made ≡ made_row
+        hand-made : (kept made other : SlotView T M)
+            → outcome itself ≡ with_made around (row_of kept) (row_of made)
             → row_of other ≡ part → Beside here passes passes' (stand_of (Some other))
-            → Joins here (stand_of (Some kept)) (Some (stand_of (Some made))) passes passes' itself
+            → GivesBy itself here (stand_of (Some kept)) (Some (stand_of (Some made))) passes passes'
             → Said c (reply.New windows) (Some kept) (Some made) passes'
-        hand-made kept made other kept-is made-is other-is beside joins =
+        hand-made kept made other given-is other-is beside gives =
             let room =
             ap (λ x. around.full && is_some x)
             (ap (λ (r : Row T M). block_of r.place) (sym other-is) ∙ row-block other)
@@ -310,13 +318,11 @@ module _ {T M : Type 0} (setting : Setting T) (windows : ℕ) (s : SlotView T M)
               begins = false;
               places = 0;
               change =
-                  h.change no_shortage ∙ ap unless_full room
-                  ∙ ap (λ x. with_made around x made_row) (sym kept-is)
-                  ∙ ap (with_made around (row_of kept)) (sym made-is);
+                  h.change no_shortage ∙ ap unless_full room ∙ given-is;
               blocks = many-beside passes passes' here (stand_of (Some other)) beside;
               adds =
-                  h.joins windows (stand_of (Some kept)) (Some (stand_of (Some made))) passes'
-                  joins;
+                  h.gives windows (stand_of (Some kept)) (Some (stand_of (Some made))) passes'
+                  gives;
             }
 
         pub hand-itself : (handed kept : SlotView T M) → itself ≡ true
@@ -324,24 +330,25 @@ module _ {T M : Type 0} (setting : Setting T) (windows : ℕ) (s : SlotView T M)
             → Said c (reply.New windows) (Some kept) (Some handed) passes'
         hand-itself handed kept is p =
             hand-made kept handed kept
-            (p.made_is ∙ ap (λ b. if b then part else rest) (sym is))
-            (p.same_is ∙ ap (λ b. if b then row else part) (sym is)) p.made_is p.added (
-              stand_of (Some kept),
-              raises-beside passes passes' here (stand_of (Some kept)) p.added,
-              ap (λ b. if b then stand_of (Some kept) else here) (sym is),
-              ap Some p.owner
-                  ∙ ap (λ b. Some (if b then here else stand_of (Some kept))) (sym is),
-            )
+            (ap outcome is ∙ ap (λ x. with_made around x row) (sym p.made_is)
+            ∙ ap (with_made around (row_of kept)) (sym p.same_is)) p.made_is p.added
+            (subst (λ b. GivesBy b here (stand_of (Some kept)) (Some (stand_of (Some handed))) passes
+            passes') (sym is) (record {
+              raises = raises-beside passes passes' here (stand_of (Some kept)) p.added;
+              handed_out = ap Some p.owner;
+            }))
 
         pub hand-beside : (handed kept : SlotView T M) → itself ≡ false
             → IsSplit s kept handed rest part passes passes'
             → Said c (reply.New windows) (Some kept) (Some handed) passes'
         hand-beside handed kept is p =
             hand-made kept handed handed
-            (p.same_is ∙ ap (λ b. if b then part else rest) (sym is))
-            (p.made_is ∙ ap (λ b. if b then row else part) (sym is)) p.made_is p.added (
-              stand_of (Some handed),
-              raises-beside passes passes' here (stand_of (Some handed)) p.added,
-              p.owner ∙ ap (λ b. if b then stand_of (Some handed) else here) (sym is),
-              ap (λ b. Some (if b then here else stand_of (Some handed))) (sym is),
-            )
+            (ap outcome is ∙ ap (λ x. with_made around x part) (sym p.same_is)
+            ∙ ap (with_made around (row_of kept)) (sym p.made_is)) p.made_is p.added
+            (subst (λ b. GivesBy b here (stand_of (Some kept)) (Some (stand_of (Some handed))) passes
+            passes') (sym is) (record {
+              other = stand_of (Some handed);
+              raises = raises-beside passes passes' here (stand_of (Some handed)) p.added;
+              stays = p.owner;
+              handed_out = refl;
+            }))

@@ -22,9 +22,9 @@ use Rattle.arc_block.specs.Table.{Row}
 use Rattle.arc_block.proofs.Lists.{filter_map-in, get-set}
 use Rattle.arc_block.proofs.Owned.{kept-asked, kept-begun, kept-full, kept-gone, kept-gone-nowhere}
 use Rattle.arc_block.proofs.Owned.{kept-new, kept-nowhere, kept-same, kept-shared, kept-turned}
-use Rattle.arc_commands.specs.Additions.{AddsAt, Enters, Founds, Goes, Joins, MayBegin, Raises}
-use Rattle.arc_commands.specs.Additions.{RowAdds, Takes, asked, ended, refused, with_stand}
-use Rattle.arc_commands.specs.Additions.{MovesAndJoins}
+use Rattle.arc_commands.specs.Additions.{AddsAt, Enters, Founds, GivesItself, GivesOther, Goes}
+use Rattle.arc_commands.specs.Additions.{MayBegin, MovesAndGives, Raises, RowAdds, Takes, asked}
+use Rattle.arc_commands.specs.Additions.{ended, refused, with_stand}
 use Rattle.arc_commands.specs.Changes.{Setting}
 use Rattle.arc_commands.specs.Commands.{ListCmd, ListReply}
 use Rattle.arc_commands.proofs.AddsEach.{row_adds_each}
@@ -204,7 +204,7 @@ module _ {H : Type 0} (stands : List Stand) (passes : List (Pass H))
     (k : IsKept MAX_OWNERS stands passes) (i : ℕ) (here : Stand)
     (at : slice_get stands i ≡ Some here) (passes' : List (Pass H)) (there : Stand)
     (made : Option Stand) where
-  pub moves-kept : MovesAndJoins here there made passes passes'
+  pub moves-kept : MovesAndGives here there made passes passes'
       → IsKept MAX_OWNERS (with_stand (slice_set stands i there) made) passes'
   moves-kept m =
       let left = slice_set stands i None in
@@ -227,7 +227,7 @@ module _ {H : Type 0} (stands : List Stand) (passes : List (Pass H))
     Kept = IsKept MAX_OWNERS (with_stand (slice_set stands i there) made) passes'
 
     enters-kept : (entries : _) → IsKept MAX_OWNERS stands passes'
-        → Enters here there made passes passes' entries → Kept
+        → Enters entries here there made passes passes' → Kept
     enters-kept entries kept adds = same-place stands passes k i here at passes' kept there adds.0
         made adds.1
 
@@ -237,28 +237,28 @@ module _ {H : Type 0} (stands : List Stand) (passes : List (Pass H))
         (sym adds.2) k) there adds.0 made
         adds.1
 
-    joins-kept : (out : Bool) → Joins here there made passes passes' out → Kept
-    joins-kept false adds =
-        let other = adds.0 in
+    -- another window was handed out, or it itself
+    other-kept : GivesOther here there made passes passes' → Kept
+    other-kept adds =
         subst (λ m. IsKept MAX_OWNERS (with_stand (slice_set stands i there) m) passes')
-        (sym adds.3)
-        (subst (λ ss. IsKept MAX_OWNERS (ss ++ other ∷ []) passes')
-        (sym (ap (slice_set stands i) adds.2 ∙ set-back stands i here at))
-        (raised-at stands passes k i here other at passes' adds.1))
-    joins-kept true adds =
-        let other = adds.0 in
+        (sym adds.handed_out)
+        (subst (λ ss. IsKept MAX_OWNERS (ss ++ adds.other ∷ []) passes')
+        (sym (ap (slice_set stands i) adds.stays ∙ set-back stands i here at))
+        (raised-at stands passes k i here adds.other at passes' adds.raises))
+
+    itself-kept : GivesItself here there made passes passes' → Kept
+    itself-kept adds =
         subst (λ m. IsKept MAX_OWNERS (with_stand (slice_set stands i there) m) passes')
-        (sym adds.3)
-        (subst (λ st. IsKept MAX_OWNERS (slice_set stands i st ++ here ∷ []) passes') (sym adds.2)
-        (kept-turned stands i here other
-        (raised-at stands passes k i here other at passes' adds.1) at))
+        (sym adds.handed_out)
+        (kept-turned stands i here there
+        (raised-at stands passes k i here there at passes' adds.raises) at)
 
     stays-kept : MayBegin here there passes passes' × (made ≡ None) → Kept
     stays-kept adds =
         subst (λ m. IsKept MAX_OWNERS (with_stand (slice_set stands i there) m) passes')
         (sym adds.1) (begins-at stands passes k i here there at passes' adds.0)
 
-    goes-kept : Goes here there made passes passes' ended → Kept
+    goes-kept : Goes ended here there made passes passes' → Kept
     goes-kept adds =
         subst (λ m. IsKept MAX_OWNERS (with_stand (slice_set stands i there) m) passes')
         (sym adds.1)
@@ -276,10 +276,11 @@ module _ {H : Type 0} (stands : List Stand) (passes : List (Pass H))
 
     -- what a command on a row adds keeps them together
     pub row-kept : {T M : Type 0} (setting : Setting T) (row : Row T M) (c : ListCmd T M)
-        (r : ListReply T M) → RowAdds here there made passes passes' setting row c r → Kept
+        (r : ListReply T M) → RowAdds setting row c r here there made passes passes' → Kept
     row-kept =
         row_adds_each (record {
-          joins = joins-kept;
+          other = other-kept;
+          itself = itself-kept;
           moves = moves-kept stands passes k i here at passes' there made;
           asks = λ alone adds. enters-kept (asked alone) (asked-at stands passes k i here at alone
               passes' adds.2) adds;

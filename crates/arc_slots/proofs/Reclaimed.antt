@@ -60,9 +60,9 @@ module _ {T M : Type 0} (setting : Setting T) (windows : ℕ) (s : SlotView T M)
 
   -- it asks nobody first
   unasked : (alone : Bool) (there : Stand) → there ≡ here
-      → AsksFirst here there None passes passes (asks_first row k) alone
+      → AsksFirst (asks_first row k) alone here there None passes passes
   unasked alone there stays =
-      subst (λ b. AsksFirst here there None passes passes b alone)
+      subst (λ b. AsksFirst b alone here there None passes passes)
       (sym (ap (λ b. b && asks_alone row k) (sole-several s.role writes))) (stays, refl, refl)
 
   pub has-room : (new : SlotView T M) (found : Bool) → found ≡ true

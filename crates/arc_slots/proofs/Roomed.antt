@@ -75,7 +75,7 @@ module _ {T M : Type 0} (setting : Setting T) (windows : ℕ) (s : SlotView T M)
   asks-told : (st : Stand) (between : List (Pass Whole)) (found : Bool) → HasPassFor passes st
       → AsksAt st passes between found
       → ((around_in 0 windows passes st).alone ≡ found) × (length between ≡ length passes)
-      × Enters st st None passes between (History_asked found)
+      × Enters (History_asked found) st st None passes between
   asks-told None between found has asks = (sym asks.0, ap length asks.1, (refl, refl, asks.1))
   asks-told (Some (n, o)) between found has asks = (
     alone-told passes between windows found (Some (n, o)) has asks
@@ -100,7 +100,7 @@ module _ {T M : Type 0} (setting : Setting T) (windows : ℕ) (s : SlotView T M)
     record IsClear (between : List (Pass Whole)) : Type 0 where
       beside : is_beside around k row ≡ false
       many : length between ≡ length passes
-      adds : AsksFirst here here None passes between (asks_alone row k) true
+      adds : AsksFirst (asks_alone row k) true here here None passes between
 
     -- he didn't ask
     unasked : asks_alone row k ≡ false → IsClear passes
@@ -108,7 +108,7 @@ module _ {T M : Type 0} (setting : Setting T) (windows : ℕ) (s : SlotView T M)
       beside = ap (λ a. a && not around.alone) none;
       many = refl;
       adds =
-          subst (λ a. AsksFirst here here None passes passes a true) (sym none) (refl, refl, refl);
+          subst (λ a. AsksFirst a true here here None passes passes) (sym none) (refl, refl, refl);
     }
 
     module _ (asks : asks_alone row k ≡ true) (has : HasPassFor passes here)
@@ -126,7 +126,7 @@ module _ {T M : Type 0} (setting : Setting T) (windows : ℕ) (s : SlotView T M)
             beside = beside-is true asked;
             many = told.1;
             adds =
-                subst (λ a. AsksFirst here here None passes between a true) (sym asks) told.2;
+                subst (λ a. AsksFirst a true here here None passes between) (sym asks) told.2;
           }
 
     -- on a block no first one is made
@@ -167,25 +167,25 @@ module _ {T M : Type 0} (setting : Setting T) (windows : ℕ) (s : SlotView T M)
         (several-for (command.Ext i items) true (λ n. can)) ∙ written-as short items (length items)
 
     made-adds : (what : Writing (List T) T) (there : Stand) (passes' : List (Pass Whole))
-        → HasMade here there None passes passes' (asks_alone row (additional_of what))
-        → RowAdds here there None passes passes' setting row (write_command i what) reply.Ok
+        → HasMade (asks_alone row (additional_of what)) here there None passes passes'
+        → RowAdds setting row (write_command i what) reply.Ok here there None passes passes'
     made-adds (writing.Nothing additional) there passes' made =
-        subst (HasMade here there None passes passes') (sym (first-is additional)) made
+        subst (λ b. HasMade b here there None passes passes') (sym (first-is additional)) made
     made-adds (writing.Item item) there passes' made =
-        subst (HasMade here there None passes passes') (sym (first-is 1)) made
+        subst (λ b. HasMade b here there None passes passes') (sym (first-is 1)) made
     made-adds (writing.Items items) there passes' made =
-        subst (HasMade here there None passes passes') (sym (first-is (length items))) made
+        subst (λ b. HasMade b here there None passes passes') (sym (first-is (length items))) made
 
     refused-adds : (what : Writing (List T) T) (e : TryReserveError) (passes' : List (Pass Whole))
-        → HasRefused here here None passes passes' (asks_alone row (additional_of what)) e
-        → RowAdds here here None passes passes' setting row (write_command i what) (reply.Reserve e)
+        → HasRefused (asks_alone row (additional_of what)) e here here None passes passes'
+        → RowAdds setting row (write_command i what) (reply.Reserve e) here here None passes passes'
     refused-adds (writing.Nothing additional) e passes' refused =
-        subst (λ a. HasRefused here here None passes passes' a e) (sym (first-is additional))
+        subst (λ a. HasRefused a e here here None passes passes') (sym (first-is additional))
         refused
     refused-adds (writing.Item item) e passes' refused =
-        subst (λ a. HasRefused here here None passes passes' a e) (sym (first-is 1)) refused
+        subst (λ a. HasRefused a e here here None passes passes') (sym (first-is 1)) refused
     refused-adds (writing.Items items) e passes' refused =
-        subst (λ a. HasRefused here here None passes passes' a e) (sym (first-is (length items)))
+        subst (λ a. HasRefused a e here here None passes passes') (sym (first-is (length items)))
         refused
 
     module _ (what : Writing (List T) T) (can : can_write setting.calls what ≡ true)
@@ -213,12 +213,12 @@ module _ {T M : Type 0} (setting : Setting T) (windows : ℕ) (s : SlotView T M)
 
       -- what is added where room was made at the same place
       made-at : (asks : Bool) (between passes' : List (Pass Whole)) (there : Stand)
-          → AsksFirst here here None passes between asks true → there ≡ here → passes' ≡ between
-          → HasMade here there None passes passes' asks
+          → AsksFirst asks true here here None passes between → there ≡ here → passes' ≡ between
+          → HasMade asks here there None passes passes'
       made-at true between passes' there adds stays same =
           (stays, refl, subst (AddsAt here (History_asked true) passes) (sym same) adds.2)
       made-at false between passes' there adds stays same =
-          subst (λ ps. HasMade here there None passes ps false) (sym (same ∙ adds.2))
+          subst (λ ps. HasMade false here there None passes ps) (sym (same ∙ adds.2))
           (stays-there setting windows s passes here there stays, refl)
 
       put-in : (between : List (Pass Whole)) → IsClear k between → (room : Room)
@@ -249,7 +249,7 @@ module _ {T M : Type 0} (setting : Setting T) (windows : ℕ) (s : SlotView T M)
           (as_shared (new_writer setting.drops (Some (length passes)) [] places))) passes'
           (alone-is passes (unasked k none) no_shortage (from.Fresh places) is)
           (λ there stays. made-adds what there passes'
-          (subst (HasMade here there None passes passes') (sym none) stays)) on-none did.1
+          (subst (λ b. HasMade b here there None passes passes') (sym none) stays)) on-none did.1
           (did.0 ∙ ap (λ d. extended items
           (as_shared (new_writer d (Some (length passes)) [] places))) (sym undropped))
 
@@ -276,8 +276,8 @@ module _ {T M : Type 0} (setting : Setting T) (windows : ℕ) (s : SlotView T M)
 
       -- why it was refused, where no other owner is named
       refused-at : (asks : Bool) (e : TryReserveError) (between : List (Pass Whole))
-          → AsksFirst here here None passes between asks true → IsBuffersRefusal e
-          → HasRefused here here None passes between asks e
+          → AsksFirst asks true here here None passes between → IsBuffersRefusal e
+          → HasRefused asks e here here None passes between
       refused-at asks reserve.AllocError between adds why = adds
       refused-at asks reserve.NotUnique between adds why = absurd why
       refused-at asks reserve.Unsupported between adds why = adds
@@ -356,7 +356,7 @@ module _ {T M : Type 0} (setting : Setting T) (windows : ℕ) (s : SlotView T M)
             blocks = told.1;
             adds =
                 refused-adds what reserve.NotUnique between
-                (subst (λ a. AsksFirst here here None passes between a false) (sym asks) told.2);
+                (subst (λ a. AsksFirst a false here here None passes between) (sym asks) told.2);
           }))
 
       module _ (has : HasPassFor passes here) where
@@ -459,11 +459,11 @@ module _ {T M : Type 0} (setting : Setting T) (windows : ℕ) (s : SlotView T M)
 
     -- what was asked is added, wherever the window stands that is the same
     adds-at : (between : List (Pass Whole)) (there : Stand) (alone : Bool) → there ≡ here
-        → AsksFirst here here None passes between (asks_alone row k) alone
-        → AsksFirst here there None passes between (asks_first row k) alone
+        → AsksFirst (asks_alone row k) alone here here None passes between
+        → AsksFirst (asks_first row k) alone here there None passes between
     adds-at between there alone stays adds =
-        subst (λ st. AsksFirst here st None passes between (asks_first row k) alone) (sym stays)
-        (subst (λ a. AsksFirst here here None passes between a alone) (sym (first-is k)) adds)
+        subst (λ st. AsksFirst (asks_first row k) alone here st None passes between) (sym stays)
+        (subst (λ a. AsksFirst a alone here here None passes between) (sym (first-is k)) adds)
 
     yes-alone : (between : List (Pass Whole)) → IsClear k between → (new : SlotView T M)
         → stand_of (Some new) ≡ here → Reclaims (needed k) row (row_of new) true
@@ -535,7 +535,7 @@ module _ {T M : Type 0} (setting : Setting T) (windows : ℕ) (s : SlotView T M)
             adds = (
               false,
               adds-at passes' here false refl
-                  (subst (λ a. AsksFirst here here None passes passes' a false) (sym asks) told.2),
+                  (subst (λ a. AsksFirst a false here here None passes passes') (sym asks) told.2),
             );
           }
 

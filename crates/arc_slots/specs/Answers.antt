@@ -53,8 +53,8 @@ pub record Answers {T M : Type 0} (setting : Setting T) (windows : ℕ) (c : Lis
         begins = begins;
       }
   pub blocks : length after ≡ with_block begins (length before)
-  pub adds : RowAdds (stand_of (Some old)) (stand_of new)
-      (option_map (λ s. stand_of (Some s)) made) before after setting (row_of old) c r
+  pub adds : RowAdds setting (row_of old) c r (stand_of (Some old)) (stand_of new)
+      (option_map (λ s. stand_of (Some s)) made) before after
 
 module _ {T M H : Type 0} where
   -- Two slots' windows were to be joined, and this was said: they were, and the other has gone,

@@ -24,7 +24,7 @@ where
     L::Writable: LayoutMut,
     S::Small: SmallOf<S, L, M, A>,
 {
-    ghost use Rattle.std.specs.Prelude.{◌≡◌, ◌<◌, ℕ, None, Some, true, length};
+    ghost use Rattle.std.specs.Prelude.{◌≡◌, ◌<◌, ℕ, None, Some, false, true, length};
     ghost use Rattle.std.specs.Prelude.{IfErr, IfOk, IsOk};
     ghost use Rattle.std.specs.Vec.{vec_capacity};
     ghost use Rattle.arc_parts.specs.Shared.{is_vector_at};
@@ -155,6 +155,7 @@ where
             passes.old.of_blocks.items (seen_reply S.items_in S.items_in_box B.list r)
             (Some self.new) None passes.new.of_blocks.items) }
         ensures room { IsOk result → has_room ≡ true }
+        ensures alloc { IfErr result (λ r. r ≡ reply.Alloc → has_room ≡ false) }
     {
         self.known_undropped();
         if let Err(e) = self.check_places(part) {

@@ -22,7 +22,7 @@ where
     L::Writable: LayoutMut,
     S::Small: SmallOf<S, L, M, A>,
 {
-    ghost use Rattle.std.specs.Prelude.{◌≡◌, ℕ, None, Some, true, IfErr, IfOk, IsOk};
+    ghost use Rattle.std.specs.Prelude.{◌≡◌, ℕ, None, Some, false, true, IfErr, IfOk, IsOk};
     ghost use Rattle.arc_commands.specs.Seen.{seen_reply};
     ghost use Rattle.arc_commands.specs.declared.command.Cmd.TheVariants as command;
     ghost use Rattle.arc_commands.specs.declared.command.Reply.TheVariants as reply;
@@ -54,6 +54,7 @@ where
             passes.old.of_blocks.items (seen_reply S.items_in S.items_in_box B.list r)
             (Some self.now) None passes.new.of_blocks.items) }
         ensures room { IsOk result → has_room ≡ true }
+        ensures alloc { IfErr result (λ r. r ≡ reply.Alloc → has_room ≡ false) }
     {
         self.known_role();
         if self.is_writer() {
@@ -92,6 +93,7 @@ where
             passes.old.of_blocks.items (seen_reply S.items_in S.items_in_box B.list r)
             (Some self.now) None passes.new.of_blocks.items) }
         ensures room { IsOk result → has_room ≡ true }
+        ensures alloc { IfErr result (λ r. r ≡ reply.Alloc → has_room ≡ false) }
     {
         self.known_role();
         if self.is_writer() {
@@ -132,6 +134,7 @@ where
             passes.old.of_blocks.items (seen_reply S.items_in S.items_in_box B.list r)
             (Some self.new) None passes.new.of_blocks.items) }
         ensures room { IsOk result → has_room ≡ true }
+        ensures alloc { IfErr result (λ r. r ≡ reply.Alloc → has_room ≡ false) }
     {
         self.known_role();
         if self.is_several() {

@@ -34,8 +34,9 @@ use Rattle.arc_commands.specs.Changes.{is_box_whole, is_buffer, is_buffer_whole,
 use Rattle.arc_commands.specs.Changes.{is_raw, is_raw_whole, is_unique_at, is_vector_part}
 use Rattle.arc_commands.specs.Changes.{is_wanting, made_row, may_write, no_shortage, of_blocks}
 use Rattle.arc_commands.specs.Changes.{of_buffer, of_clones, of_growth, of_table, off_part}
-use Rattle.arc_commands.specs.Changes.{part_of, parted, reclaimed, room_made, room_of, split}
+use Rattle.arc_commands.specs.Changes.{part_of, reclaimed, room_made, room_of, split_row}
 use Rattle.arc_commands.specs.Changes.{taken_as, to_part, truncated, with_made, with_owner}
+use Rattle.arc_commands.specs.Changes.{with_new_part}
 use Rattle.arc_commands.specs.Commands.{ListCmd, ListReply}
 use Rattle.arc_commands.specs.Fits.{HasPlaces, LieWithin, RowFits, counts_full, full_end}
 use Rattle.arc_table.specs.Once.{HandsOutSort, brought, given, put_in}
@@ -364,25 +365,24 @@ module _ {T M : Type 0} (setting : Setting T) (short : Shortage) (around : Aroun
     asks-block of_buffer answer none quiet change after = after
     asks-block (of_growth e) answer none quiet change after = after
 
-    parted-good : (part one other : Row T M) → brought setting c ≡ [] → Part one → Part other
-        → Good c (parted setting short around row part one other)
-    parted-good part one other quiet h k =
+    new-part-good : (part : Row T M) (change : Change T M) → Good c change
+        → Good c (with_new_part setting short around row part change)
+    new-part-good part change good =
         let full : Change T M = is_now (reply.Owner CountFull) row in
-        let made = with_made around one other in
         let fills = around.full && is_some (block_of part.place) in
-        asks short (with_owner setting short around row part made)
+        asks short (with_owner setting short around row part change)
         (either (is_wanting short setting.clone_wants part.place)
-        (is_now (reply.Owner AllocError) row) (if fills then full else made)
+        (is_now (reply.Owner AllocError) row) (if fills then full else change)
         (same (reply.Owner AllocError) refl refl)
-        (either fills full made (same (reply.Owner CountFull) refl refl)
-        (two one other quiet h k)))
+        (either fills full change (same (reply.Owner CountFull) refl refl) good))
 
     split-good : (out : Bool) (cut part : Row T M) → brought setting c ≡ [] → Part cut
-        → Part part → Good c (split setting short around out row cut part)
+        → Part part → Good c (split_row setting short around out cut part row)
     split-good out cut part quiet h k =
-        parted-good part (if out then part else cut) (if out then row else part) quiet
-        (either-comes setting.drops row out part cut k h)
-        (either-comes setting.drops row out row part itself k)
+        let swapped = with_made around part row in
+        let parted = with_made around cut part in
+        new-part-good part (if out then swapped else parted)
+        (either out swapped parted (two part row quiet k itself) (two cut part quiet h k))
 
     -- ---- one of several writers, whose items aren't dropped one by one
     module _ (several : is_several row.role ≡ true) where
@@ -695,13 +695,15 @@ module _ {T M : Type 0} (setting : Setting T) (short : Shortage) (around : Aroun
 
   row-good : (c : ListCmd T M) → is_for c row.role ≡ true
       → Good c (answer_row setting short around c row)
-  row-good (Clone i) is = parted-good (Clone i) row row row refl itself itself
+  row-good (Clone i) is =
+      new-part-good (Clone i) row (with_made around row row)
+      (two (Clone i) row row refl itself itself)
   row-good (Sub i start end) is =
       let part = part_of setting.layout.has_static row start end in
       ranged (Sub i start end) (range_answer setting.boundary row.items start end) _ (λ ok.
       let within = in-range setting.boundary row.items start end ok in
-      parted-good (Sub i start end) part row part refl itself
-      (part-comes start end within.0 within.1))
+      new-part-good (Sub i start end) part (with_made around row part)
+      (two (Sub i start end) row part refl itself (part-comes start end within.0 within.1)))
   row-good (Off i at) is = off-good i at
   row-good (To i at) is = to-good i at
   row-good (Uniq i) is =

@@ -1,6 +1,7 @@
 pub mod Places
 mod States
 mod Done
+mod Own
 mod Stepped
 mod Lie
 mod Stays

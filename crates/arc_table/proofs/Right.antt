@@ -23,7 +23,7 @@ use Rattle.arc_table.specs.Once.{ShowsOf, StayRight, WasHandedOut, Whereabouts, 
 use Rattle.arc_table.specs.Once.{dropped, given, handed_out, has_window, in_block, is_under}
 use Rattle.arc_table.specs.Once.{nothing_yet, put_in, where_then}
 use Rattle.arc_commands.specs.RunOf.{RunOf}
-use Rattle.arc_commands.specs.Step.{Run, Step, other_of, shortage, window_of}
+use Rattle.arc_commands.specs.Step.{Run, Step, other_of, window_of}
 use Rattle.arc_commands.proofs.Apart.{step_lawful}
 use Rattle.arc_table.proofs.Keeps.{Comes, IsWholeAt}
 use Rattle.arc_table.proofs.Lie.{Lies, lies-sub, lies-whole, sub-lies}
@@ -179,7 +179,7 @@ module _ {T M : Type 0} (setting : Setting T) (t : Table T M) (books : Books T)
   moves : Moves setting t c r new
   moves =
       subst (λ (o : ListReply T M × Table T M). Moves setting t c o.0 o.1) step.answered
-      (answer-moves setting (shortage r c) step.places t lawful.fit c)
+      (answer-moves setting step.short step.places t lawful.fit c)
 
   abbrev After : Books T
   After = books_after setting t c r new books

@@ -202,6 +202,8 @@ module _ {T M : Type 0} (setting : Setting T) (slots : List (Option (SlotView T 
         (row-kept (stands_of slots) passes fact.0 i here stand-at passes' (stand_of new)
         (option_map (λ s. stand_of (Some s)) made) setting (row_of s) c r said.adds))
         (record {
+          short = shortage r c;
+          told = refl;
           places = said.places;
           enough = omega (arith, brought-none c i on);
           answered = answer-is (shortage r c) said.places c (Some i) on one
@@ -224,13 +226,13 @@ module _ {T M : Type 0} (setting : Setting T) (slots : List (Option (SlotView T 
         (adds-are c r (state_of slots' passes') (Some i) on one (subst (λ x. MatchOption x
         ((state_of slots' passes').standing ≡ old.standing) (λ row.
         (there : Stand) × (made : Option Stand)
-        × RowAdds (stand_in old.standing i) there made passes passes' setting row c r
+        × RowAdds setting row c r (stand_in old.standing i) there made passes passes'
         × (stands_of slots' ≡ with_stand (slice_set (stands_of slots) i there) made)))
         (sym row-there) (
           stand_of new,
           option_map (λ s. stand_of (Some s)) made,
-          subst (λ st. RowAdds st (stand_of new) (option_map (λ s. stand_of (Some s)) made) passes
-              passes' setting (row_of s) c r) (sym stand-is) said.adds,
+          subst (λ st. RowAdds setting (row_of s) c r st (stand_of new)
+              (option_map (λ s. stand_of (Some s)) made) passes passes') (sym stand-is) said.adds,
           stands,
         )))
 
@@ -244,6 +246,8 @@ module _ {T M : Type 0} (setting : Setting T) (slots : List (Option (SlotView T 
       ∙ no-row (slice_get slots i) none in
       done fact.1 fact.0
       (record {
+        short = no_shortage;
+        told = refl;
         places = count_brought c;
         enough = omega arith;
         answered = answer-is no_shortage (count_brought c) c (Some i) on one
@@ -255,7 +259,7 @@ module _ {T M : Type 0} (setting : Setting T) (slots : List (Option (SlotView T 
       (adds-are c reply.NoWindow old (Some i) on one (subst (λ x. MatchOption x (old.standing
       ≡ old.standing) (λ row.
       (there : Stand) × (made : Option Stand)
-      × RowAdds (stand_in old.standing i) there made passes passes setting row c reply.NoWindow
+      × RowAdds setting row c reply.NoWindow (stand_in old.standing i) there made passes passes
       × (stands_of slots ≡ with_stand (slice_set (stands_of slots) i there) made)))
       (sym row) refl))
 
@@ -295,6 +299,8 @@ module _ {T M : Type 0} (setting : Setting T) (slots : List (Option (SlotView T 
           subst (λ r. Done setting old c r slots passes) (sym why)
           (done fact.1 fact.0
           (record {
+            short = shortage said c;
+            told = refl;
             places = places;
             enough = enough;
             answered = answer-is (shortage said c) places c None on (made-one c on) ∙ answered;
@@ -348,6 +354,8 @@ module _ {T M : Type 0} (setting : Setting T) (slots : List (Option (SlotView T 
         (subst (λ ss. IsKept MAX_OWNERS ss passes') (sym stands)
         (founded-kept (stands_of slots) passes fact.0 0 stand passes' founds))
         (record {
+          short = no_shortage;
+          told = refl;
           places = places;
           enough = enough;
           answered = answer-is no_shortage places c None on (made-one c on)
@@ -477,8 +485,13 @@ module _ {T M : Type 0} (setting : Setting T) (slots : List (Option (SlotView T 
         ⊎ (option_flatten (slice_get slots j) ≡ None)
         → Done setting old join reply.NoWindow slots passes
     unjoined missing =
-        stays reply.NoWindow
-        (record { places = 0; enough = omega arith; answered = by missing }) refl
+        stays reply.NoWindow (record {
+          short = no_shortage;
+          told = refl;
+          places = 0;
+          enough = omega arith;
+          answered = by missing;
+        }) refl
       where
         gone : (k : ℕ) → option_flatten (slice_get slots k) ≡ None → row_at t k ≡ None
         gone k none =
@@ -512,6 +525,8 @@ module _ {T M : Type 0} (setting : Setting T) (slots : List (Option (SlotView T 
       pub joined-itself : i ≡ j → Done setting old join reply.Kind slots passes
       joined-itself is =
           stays reply.Kind (record {
+            short = no_shortage;
+            told = refl;
             places = 0;
             enough = omega arith;
             answered =
@@ -543,8 +558,13 @@ module _ {T M : Type 0} (setting : Setting T) (slots : List (Option (SlotView T 
             ∙ ap (λ x. slice_set (slice_set slots j x) i (Some s)) back
             ∙ ap (λ ss. slice_set ss i (Some s)) (set-back slots j (Some o) beside)
             ∙ set-back slots i (Some s) there))
-            (stays r
-            (record { places = 0; enough = omega arith; answered = pair-is ∙ is }) adds))
+            (stays r (record {
+              short = shortage r join;
+              told = refl;
+              places = 0;
+              enough = omega arith;
+              answered = pair-is ∙ is;
+            }) adds))
 
         -- the two rows as one, and the other has gone
         module _ (whole : SlotView T M) (stand : stand_of (Some whole) ≡ stand_of (Some s))
@@ -582,6 +602,8 @@ module _ {T M : Type 0} (setting : Setting T) (slots : List (Option (SlotView T 
               (gone-at (stands_of slots) passes fact.0 j (stand_of (Some o)) (stand-at j o beside)
               passes' ends))
               (record {
+                short = no_shortage;
+                told = refl;
                 places = 0;
                 enough = omega arith;
                 answered =

@@ -86,6 +86,8 @@ where
     ghost use Rattle.std.specs.Prelude.{◌≡◌, [], None, Some, length, slice_set};
     ghost use Rattle.arc_block.specs.declared.block.TheConstants.{MAX_OWNERS};
     ghost use Rattle.arc_block.specs.Owned.{IsKept};
+    ghost use Rattle.arc_block.specs.Table.{row_at};
+    ghost use Rattle.arc_makers.specs.Makers.{HasOwnPlaces, WrapsPlaces};
     ghost use Rattle.arc_commands.specs.Changes.{no_shortage};
     ghost use Rattle.arc_commands.specs.Step.{Step, other_of, shortage, window_of};
     ghost use Rattle.arc_commands.specs.Seen.{map_command, seen_by, seen_reply};
@@ -112,7 +114,8 @@ where
         }
     }
 
-    /// Carries out one command, and answers its reply (`CarriesOut`).
+    /// Carries out one command, and answers its reply (`CarriesOut`). A window that is made of a
+    /// vector or a buffer stands on a block of just as many places as came in (`places`).
     ///
     /// # Errors
     ///
@@ -155,9 +158,12 @@ where
     /// No other reply adds an entry. Where a block is made its history begins.
     #[inline(always)]
     pub fn step(&mut self, rt: &impl Wait, command: TableCmd<S, B, M, A>) -> TableReply<S, B, M, A>
-        ensures { CarriesOut ⟦<S as TableUnder<L, A>>⟧.setting self.old
+        ensures carried { CarriesOut ⟦<S as TableUnder<L, A>>⟧.setting self.old
             (map_command S.items_in S.static_in B.list command)
             (seen_reply S.items_in S.items_in_box B.list result) self.new }
+        ensures places { HasOwnPlaces (WrapsPlaces S.Items.wraps) S.items_in B.list B.places
+            ⟦<S as TableUnder<L, A>>⟧.setting self.old.table.blocks command
+            (row_at self.new.table (length self.old.table.rows)) }
     {
         let reply = self.answer(rt, command);
         self.agree();
@@ -173,9 +179,12 @@ where
         rt: &impl Wait,
         command: TableCmd<S, B, M, A>,
     ) -> TableReply<S, B, M, A>
-        ensures { CarriesOut ⟦<S as TableUnder<L, A>>⟧.setting self.old
+        ensures carried { CarriesOut ⟦<S as TableUnder<L, A>>⟧.setting self.old
             (map_command S.items_in S.static_in B.list command)
             (seen_reply S.items_in S.items_in_box B.list result) self.new }
+        ensures places { HasOwnPlaces (WrapsPlaces S.Items.wraps) S.items_in B.list B.places
+            ⟦<S as TableUnder<L, A>>⟧.setting self.old.table.blocks command
+            (row_at self.new.table (length self.old.table.rows)) }
     {
         let reply = self.answer_here(rt, command);
         self.agree();
@@ -196,6 +205,9 @@ where
         ensures passes { Adds ⟦<S as TableUnder<L, A>>⟧.setting self.old.table self.old.standing
             (map_command S.items_in S.static_in B.list command)
             (seen_reply S.items_in S.items_in_box B.list result) self.new.standing }
+        ensures places { HasOwnPlaces (WrapsPlaces S.Items.wraps) S.items_in B.list B.places
+            ⟦<S as TableUnder<L, A>>⟧.setting self.old.table.blocks command
+            (row_at self.new.table (length self.old.table.rows)) }
     {
         match command {
             Cmd::Drop { window } => self.release(window),
@@ -217,6 +229,9 @@ where
         ensures passes { Adds ⟦<S as TableUnder<L, A>>⟧.setting self.old.table self.old.standing
             (map_command S.items_in S.static_in B.list command)
             (seen_reply S.items_in S.items_in_box B.list result) self.new.standing }
+        ensures places { HasOwnPlaces (WrapsPlaces S.Items.wraps) S.items_in B.list B.places
+            ⟦<S as TableUnder<L, A>>⟧.setting self.old.table.blocks command
+            (row_at self.new.table (length self.old.table.rows)) }
     {
         match command {
             Cmd::Len { window } => self.on_window(rt, window, Cmd::Len { window }),
@@ -249,6 +264,9 @@ where
         ensures passes { Adds ⟦<S as TableUnder<L, A>>⟧.setting self.old.table self.old.standing
             (map_command S.items_in S.static_in B.list command)
             (seen_reply S.items_in S.items_in_box B.list result) self.new.standing }
+        ensures places { HasOwnPlaces (WrapsPlaces S.Items.wraps) S.items_in B.list B.places
+            ⟦<S as TableUnder<L, A>>⟧.setting self.old.table.blocks command
+            (row_at self.new.table (length self.old.table.rows)) }
     {
         if let Some(i) = command.window() {
             if let Some(j) = command.other() {

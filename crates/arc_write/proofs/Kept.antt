@@ -1,10 +1,11 @@
 -- What is kept of a window that writes tells where it stands, and how many places are spare.
-use Rattle.std.proofs.Common.{◌≡◌, ℕ, ◌≤◌, List, [], ◌∷◌, ◌++◌, length, take, drop, refl, ap, ◌∙◌}
+use Rattle.std.proofs.Common.{◌≡◌, ℕ, ◌≤◌, List, [], ◌∷◌, ◌++◌, length, take, drop, refl, sym, ap}
+use Rattle.std.proofs.Common.{◌∙◌, subst, Option, Some, None}
 use Rattle.arc_owners.specs.count.Calls.{Owner}
-use Rattle.arc_block.specs.Place.{Place, at_owner, moved}
+use Rattle.arc_block.specs.Place.{Place, at_owner, moved, nowhere, static_data, on_block}
 use Rattle.arc_parts.specs.Shared.{IsOneBlock}
 use Rattle.arc_parts.specs.Window.{PartsView}
-use Rattle.arc_parts.specs.Writers.{after_advance}
+use Rattle.arc_parts.specs.Writers.{after_advance, with_full, with_more}
 use Rattle.arc_read.specs.Kept.{kept_read, without_metadata}
 use Rattle.arc_read.proofs.Kept.{kept_advanced, owner_after_read, owner_before_read, place_after_read}
 use Rattle.arc_write.specs.Kept.{kept_written}
@@ -51,3 +52,22 @@ module _ {T M : Type 0} where
         → at_owner old.place none some
     owner_before none some = owner_before_read old.place new.place old.items new.items read_kept
         none some
+
+-- Items that are written behind others leave the owner.
+module _ {M : Type 0} (none : Type 0) (some : Owner → Type 0) where
+  owner_with : (len more : ℕ) (place : Place (Option Owner) M)
+      → (at_owner place none some → at_owner (with_full len more place) none some)
+      × (at_owner (with_full len more place) none some → at_owner place none some)
+  owner_with len more nowhere = (λ it. it, λ it. it)
+  owner_with len more static_data = (λ it. it, λ it. it)
+  owner_with len more (on_block None offset info) = (λ it. it, λ it. it)
+  owner_with len more (on_block (Some owner) offset info) = (λ it. it, λ it. it)
+
+  module _ {T : Type 0} (items : List T) (old new : PartsView T M) (more : new ≡ with_more items old) where
+    pub owner_after_write : at_owner old.place none some → at_owner new.place none some
+    owner_after_write it = subst (λ (w : PartsView T M). at_owner w.place none some) (sym more)
+        ((owner_with (length old.items) (length items) old.place).0 it)
+
+    pub owner_before_write : at_owner new.place none some → at_owner old.place none some
+    owner_before_write it = (owner_with (length old.items) (length items) old.place).1
+        (subst (λ (w : PartsView T M). at_owner w.place none some) more it)

@@ -9,4 +9,5 @@ mod format;
 mod hash;
 mod hex;
 mod io;
+mod put;
 mod views;

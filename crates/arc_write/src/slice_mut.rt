@@ -174,6 +174,15 @@ impl<
     {
         self.parts.known_idle();
     }
+
+    /// The window stands on nothing, or on a block that its layout holds, and its list is legal for
+    /// the kind. Does nothing: its contract is the law.
+    pub fn known_held(&self)
+        ensures held { IsBlockHeld (layout_facts L.Layout) self.now.place }
+        ensures legal { ∥ S.is_legal self.now.items ∥₁ }
+    {
+        let _ = &self.parts;
+    }
 }
 
 impl<

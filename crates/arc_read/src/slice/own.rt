@@ -56,9 +56,8 @@ impl<
     where
         H: Stepping,
         ensures entry { WithNewPass {H = H} H.real self.now.place (λ first last.
-            AsksUniqueAt self.now.place first last result) }
-        ensures own { WithNewPass {H = H} H.real self.now.place (λ first last.
-            AsksOwnAt (IsAnswerAt B.list B.says_unique self.now.place self.now.items)
+            AsksUniqueAt self.now.place first last result
+            × AsksOwnAt (IsAnswerAt B.list B.says_unique self.now.place self.now.items)
             self.now.place first last result) }
     {
         let mut pass = self.pass();

@@ -1,5 +1,5 @@
 //! The program's word for a storm of clones: how many threads it asks for, and what is written.
-ghost use Rattle.std.specs.Prelude.{◌≡◌, ◌++◌, ◌∷◌, [], ℕ, ◌<◌, MatchOption, String};
+ghost use Rattle.std.specs.Prelude.{◌≡◌, ◌++◌, ◌∷◌, [], ℕ, ◌<◌, ◌≤◌, MatchOption, String};
 ghost use Rattle.std.specs.declared.alloc.Global.{Global};
 ghost use Rattle.arc_forms.specs.Text.{hex, line_feed};
 ghost use Rattle.arc_script.specs.Traffic.{Takes};
@@ -61,9 +61,10 @@ fn item_line(item: u8) -> [u8; 3]
     [digit_of(item / 16), digit_of(item % 16), b'\n']
 }
 
-/// Lets `workers` threads clone one window, writes the vector that comes back, and answers the
-/// program's status. A refusal or a write that fails is told in one line. The threads pass the gate
-/// as `storm` says.
+/// Lets `workers` threads, from 1 to 64, clone one window and pass the gate, as `storm` says. It
+/// writes the vector that comes back, and answers the program's status: 0 where that was written, 1
+/// where something was refused, and 4 where the write failed or took nothing. On a fault it writes
+/// one line to `faults`.
 ///
 /// # Allocates
 ///
@@ -75,6 +76,8 @@ pub fn run_storm<R: Threads + Wait + Sync + AllocGlobal, G: Gate + Sync, W: Sink
     writer: &mut W,
     faults: &mut F,
 ) -> u8
+    requires some { 1 ≤ workers }
+    requires most { workers ≤ 64 }
     ensures ran { IsStorm (W.traffic writer.old) (W.traffic writer.new)
         (F.traffic faults.old) (F.traffic faults.new) result }
     ensures taken { Takes (W.traffic writer.old) (W.traffic writer.new)

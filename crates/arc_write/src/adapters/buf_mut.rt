@@ -3,7 +3,7 @@
 ghost use Rattle.std.specs.Prelude.{◌≡◌, ◌≤◌, ◌+◌, ◌-◌, ◌^◌, ◌++◌, ◌∷◌, [], min, length};
 ghost use Rattle.std.specs.Prelude.{OnOk, OnErr, Some, replicate};
 ghost use Rattle.arc_parts.specs.Writers.{capacity_of, with_more};
-ghost use Rattle.arc_write.specs.Within.{spare_places};
+ghost use Rattle.arc_write.specs.Within.{PutsWithin, spare_places};
 ghost use Rattle.bytes.specs.Filled.{KeepsMaxSpare, MakesSpare, UsesMaxSpare, UsesSpare};
 
 use crate::slice_mut::WriteWindow;
@@ -66,8 +66,7 @@ where
             (length source.now) }
         ensures max_spare { UsesMaxSpare result (Some (spare_places self.old))
             (Some (spare_places self.new)) (length source.now) }
-        ensures window { OnOk result (self.new ≡ with_more source.now self.old) }
-        ensures same { OnErr result (self.new ≡ self.old) }
+        ensures window { PutsWithin result source.now self.old self.new }
     {
         match self.try_extend_within(source) {
             Ok(()) => Ok(()),
@@ -86,8 +85,7 @@ where
         ensures spare { UsesSpare result (spare_places self.old) (spare_places self.new) 1 }
         ensures max_spare { UsesMaxSpare result (Some (spare_places self.old))
             (Some (spare_places self.new)) 1 }
-        ensures window { OnOk result (self.new ≡ with_more (byte ∷ []) self.old) }
-        ensures same { OnErr result (self.new ≡ self.old) }
+        ensures window { PutsWithin result (byte ∷ []) self.old self.new }
     {
         self.put_slice(&[byte])
     }
@@ -104,8 +102,7 @@ where
         ensures spare { UsesSpare result (spare_places self.old) (spare_places self.new) count }
         ensures max_spare { UsesMaxSpare result (Some (spare_places self.old))
             (Some (spare_places self.new)) count }
-        ensures window { OnOk result (self.new ≡ with_more (replicate count byte) self.old) }
-        ensures same { OnErr result (self.new ≡ self.old) }
+        ensures window { PutsWithin result (replicate count byte) self.old self.new }
     {
         if count > self.spare() {
             return Err(AllocError);

@@ -3,7 +3,7 @@
 ghost use Rattle.std.specs.Prelude.{◌≡◌, false, IfErr, IfOk, IfSome, is_ok, is_some, ℕ};
 ghost use Rattle.arc_owners.specs.count.Calls.{IsFreshPass};
 ghost use Rattle.arc_block.specs.Block.{native};
-ghost use Rattle.arc_block.specs.Place.{at_owner};
+ghost use Rattle.arc_block.specs.Place.{at_owner, nowhere};
 ghost use Rattle.arc_parts.specs.Shared.{as_shared, as_unique, AsksAlone, BecomesUnique};
 ghost use Rattle.arc_parts.specs.Shared.{is_vector_at};
 ghost use Rattle.arc_parts.specs.Steps.{IsPassAt, LeavesLastAt};
@@ -176,6 +176,9 @@ impl<
             LeavesLastAt self.place first now (is_some last))) }
         ensures sole { IfOk result (λ last. IfSome last (λ sole.
             BecomesUnique H.whole self sole)) }
+        ensures pass { IfOk result (λ last. IfSome last (λ sole.
+            WithNewPass {M = M} {H = H} H.real nowhere (λ none new.
+            at_owner sole.place ⊥ (λ o. IsFreshPass o new)))) }
         ensures refused { IfErr result (λ back. (back ≡ self) × (¬ IsOfSort native self.place)
             × WithNewPass {H = H} H.real self.place (λ first last. last ≡ first)) }
     {
@@ -183,7 +186,10 @@ impl<
         let ended = self.into_unique_if_last_as(&mut pass);
         pass.show();
         match ended {
-            Ok(Some((sole, _))) => Ok(Some(sole)),
+            Ok(Some((sole, new))) => {
+                new.show();
+                Ok(Some(sole))
+            }
             Ok(None) => Ok(None),
             Err(back) => Err(back),
         }

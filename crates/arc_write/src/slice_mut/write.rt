@@ -1,10 +1,14 @@
 //! Items that are changed in their places, or pushed.
 ghost use Rattle.std.specs.Prelude.{◌++◌, ◌<◌, ◌∷◌, ◌≡◌, ◌≤◌, [], Err, IfErr, is_ok, length};
-ghost use Rattle.std.specs.Prelude.{OnErr, OnOk};
+ghost use Rattle.std.specs.Prelude.{List, OnErr, OnOk, Option};
 ghost use Rattle.std.specs.Borrow.{sem};
 ghost use Rattle.std.specs.Mem.{type_size};
-ghost use Rattle.arc_block.specs.Place.{size_at};
+ghost use Rattle.arc_owners.specs.count.Calls.{Owner};
+ghost use Rattle.arc_owners.specs.declared.count.tokens.Pass.{Pass};
+ghost use Rattle.arc_block.specs.Place.{Place, size_at};
+ghost use Rattle.arc_parts.specs.Shared.{IsOneBlock, LeavesAt};
 ghost use Rattle.arc_parts.specs.Steps.{IsPassAt};
+ghost use Rattle.arc_parts.specs.Window.{PartsView};
 ghost use Rattle.arc_parts.specs.Writers.{room_for, with_more};
 ghost use Rattle.arc_sort_writers.specs.Growth.{AsksForRoom, IfAsked, without_item};
 ghost use Rattle.arc_writer_parts.specs.Roles.{AsksRoom, PushesItems};
@@ -235,4 +239,18 @@ impl<
         self.parts.extend_reserved(items);
         Ok(())
     }
+
+    /// Once items were written behind its own (`with_more`), the window stands on the same block, as
+    /// the same owner. Does nothing: its contract is the law.
+    pub fn known_after_writes(&self)
+        ensures pass { (old : PartsView S.Item M) (items : List S.Item) (pass : Pass H)
+            → self.now ≡ with_more items old → IsPassAt old.place pass
+            → IsPassAt self.now.place pass }
+        ensures left { (old : PartsView S.Item M) (items : List S.Item) (before after : Pass H)
+            → self.now ≡ with_more items old → LeavesAt self.now.place before after
+            → LeavesAt old.place before after }
+        ensures block { (old : PartsView S.Item M) (items : List S.Item)
+            (other : Place (Option Owner) M) → self.now ≡ with_more items old
+            → IsOneBlock old.place other → IsOneBlock self.now.place other }
+    {}
 }

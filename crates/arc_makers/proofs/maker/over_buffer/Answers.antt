@@ -28,3 +28,9 @@ returns-in-Ok-clause-made g c =
             c.reserve_for.ensures.items c.in-Ok.ensures.stand,
       );
     }
+
+pub returns-in-Ok-clause-places : goal.returns-in-Ok-clause-places
+returns-in-Ok-clause-places g c =
+    c.in-Ok.ensures.row
+    ∙ ap (λ (ps : List (Pass Whole)). buffer_row (length ps) (g.B.Buffer.list c.args.given)
+    (g.B.Buffer.places c.args.given) c.args.metadata) c.reserve_for.ensures.items

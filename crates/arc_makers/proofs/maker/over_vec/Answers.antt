@@ -10,7 +10,7 @@ use Rattle.arc_makers.proofs.maker.over_vec.Goals as goal
 
 pub returns-in-Ok-clause-made : goal.returns-in-Ok-clause-made
 returns-in-Ok-clause-made g c =
-    let v = c.vec_of.result in
+    let v = c.wrapped.result in
     let places = vec_capacity v in
     let slot = c.in-Ok.slot in
     let passes = c.args.passes.now.of_blocks.items in
@@ -18,12 +18,12 @@ returns-in-Ok-clause-made g c =
     vector_row g.L.Layout.STATIC g.S.Slice.DROPS (length ps) xs places in
     record {
       places = places;
-      enough = subst (λ xs. length xs ≤ places) c.vec_of.ensures.list c.in-Ok.ensures.enough;
+      enough = subst (λ xs. length xs ≤ places) c.wrapped.ensures.list c.in-Ok.ensures.enough;
       said = (
         ap (λ b. if b then Some (row_on (g.S.Commands.items_in c.args.items) passes) else None)
             (sym c.ANY.ensures ∙ c.if-not-ANY.false)
             ∙ ap Some (sym (c.in-Ok.ensures.row
-            ∙ ap (λ xs. row_on xs c.reserve_for.new.self.of_blocks.items) c.vec_of.ensures.list
+            ∙ ap (λ xs. row_on xs c.reserve_for.new.self.of_blocks.items) c.wrapped.ensures.list
             ∙ ap (λ ps. row_on (g.S.Commands.items_in c.args.items) ps)
             c.reserve_for.ensures.items)),
         refl,
@@ -31,3 +31,16 @@ returns-in-Ok-clause-made g c =
             c.reserve_for.ensures.items c.in-Ok.ensures.stand,
       );
     }
+
+pub returns-in-Ok-clause-places : goal.returns-in-Ok-clause-places
+returns-in-Ok-clause-places g c =
+    let v = c.wrapped.result in
+    let row_on = λ (xs : List g.row.S-Item.Denot) (ps : List (Pass Whole)).
+    vector_row g.L.Layout.STATIC g.S.Slice.DROPS (length ps) xs (vec_capacity v) in (
+      vec_capacity v,
+      (v, c.wrapped.ensures.wraps, refl),
+      c.in-Ok.ensures.row
+          ∙ ap (λ xs. row_on xs c.reserve_for.new.self.of_blocks.items) c.wrapped.ensures.list
+          ∙ ap (λ ps. row_on (g.S.Commands.items_in c.args.items) ps)
+          c.reserve_for.ensures.items,
+    )

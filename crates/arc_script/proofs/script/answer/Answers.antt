@@ -13,7 +13,7 @@ returns-in-Some-Show g c =
     let does =
     shown_said g.L.NamedLayout.named g.met.L.NamedLayout.run_so
     (c.in-Some-Show.is ∙ ap (λ command. Some command) c.in-Some-Show.field-0-is)
-    c.in-Some-Show.window-is c.show_in_place.ensures.carried in
+    c.in-Some-Show.window-is c.show_in_place.ensures.carried c.show_in_place.ensures.lent in
     let push = c.push_answer in
     record {
       ok = on_ok_then push.result push.ensures.ok (λ wrote.

@@ -17,9 +17,10 @@ pub returns-clause-begun : goal.returns-clause-begun
 returns-clause-begun g c =
     let state = c.run-result.new.self.table in
     let passes = c.end.result.of_blocks.items in
+    let last = (g.R.Source.traffic c.run-result.new.reader).last in
     if_err_then c.run-result.result c.run-result.ensures.begun (λ fault.
-    exchange_as (IsBrokenOff g.L.NamedLayout.named fault state)
-    (ThenEnds g.L.NamedLayout.named (IsBrokenOff g.L.NamedLayout.named fault) passes) _ _ _ _
+    exchange_as (IsBrokenOff g.L.NamedLayout.named fault last state)
+    (ThenEnds g.L.NamedLayout.named (IsBrokenOff g.L.NamedLayout.named fault last) passes) _ _ _ _
     (λ input text ran. (state, ran, c.end.ensures.passes)))
 
 pub returns-clause-answered : goal.returns-clause-answered

@@ -19,19 +19,23 @@ pub returns-clause-begun : goal.returns-clause-begun
 returns-clause-begun g c =
     let ran = c.run_to_end-result in
     let passes = ran.result.1.of_blocks.items in
+    let last = (g.R.Source.traffic ran.new.reader).last in
     if_err_then ran.result.0 ran.ensures.begun (λ fault.
-    exchange_as (ThenEnds g.L.NamedLayout.named (IsBrokenOff g.L.NamedLayout.named fault) passes)
+    exchange_as
+    (ThenEnds g.L.NamedLayout.named (IsBrokenOff g.L.NamedLayout.named fault last) passes)
     (BeginsReplyText g.L.NamedLayout.named) _ _ _ _
-    (λ input text h. broken_text fault h.0 input text h.1))
+    (λ input text h. broken_text fault last h.0 input text h.1))
 
 pub returns-clause-broken : goal.returns-clause-broken
 returns-clause-broken g c =
     let ran = c.run_to_end-result in
     let passes = ran.result.1.of_blocks.items in
+    let last = (g.R.Source.traffic ran.new.reader).last in
     if_err_then ran.result.0 ran.ensures.begun (λ fault.
-    exchange_as (ThenEnds g.L.NamedLayout.named (IsBrokenOff g.L.NamedLayout.named fault) passes)
-    (BreaksOff g.L.NamedLayout.named fault) _ _ _ _
-    (λ input text h. breaks_text fault h.0 input text h.1))
+    exchange_as
+    (ThenEnds g.L.NamedLayout.named (IsBrokenOff g.L.NamedLayout.named fault last) passes)
+    (BreaksOff g.L.NamedLayout.named fault last) _ _ _ _
+    (λ input text h. breaks_text g.L.NamedLayout.named fault last h.0 input text h.1))
 
 pub returns-clause-answered : goal.returns-clause-answered
 returns-clause-answered g c =

@@ -12,9 +12,9 @@ returns-in_err-answered-clause-err g c =
     let flush = c.in_ok-flush.ensures in
     if_err_is _ c.from_residual-in_err-answered.result Alloc
     c.from_residual-in_err-answered.ensures.1
-    (λ start input read.
-    subst (IsBegun g.L.NamedLayout.named Alloc start input w' []) (sym flush.windows)
-    (begun_out (c.in_err-answered.ensures.err start input _ read) w' flush.ok))
+    (λ early start input read.
+    subst (IsBegun g.L.NamedLayout.named Alloc early start input w' []) (sym flush.windows)
+    (begun_out (c.in_err-answered.ensures.err early start input _ read) w' flush.ok))
 
 pub returns-in_err-flush-clause-err : goal.returns-in_err-flush-clause-err
 returns-in_err-flush-clause-err g c =
@@ -22,14 +22,15 @@ returns-in_err-flush-clause-err g c =
     let flush = c.in_err-flush.ensures in
     let rest = c.answer_rest-answered in
     if_err_as _ c.from_residual.result _ Write c.from_residual.ensures.1 flush.write
-    (λ start input read.
-    subst (IsBegun g.L.NamedLayout.named Write start input w' []) (sym flush.windows)
-    (rest_then_stops rest.result start input _ w' c.args.self.now rest.new.self rest.ensures.ok
-    rest.ensures.err read flush.err))
+    (λ early start input read.
+    subst (IsBegun g.L.NamedLayout.named Write early start input w' []) (sym flush.windows)
+    (rest_then_stops rest.result early start input _ w' c.args.self.now rest.new.self
+    rest.ensures.ok rest.ensures.err read flush.err))
 
 pub returns-clause-ok : goal.returns-clause-ok
-returns-clause-ok g c = λ start input read.
+returns-clause-ok g c = λ early start input read.
     let w = g.W.Sink.traffic c.args.writer.now in
     let w' = g.W.Sink.traffic c.flush.new.writer in
-    subst (IsAnswered g.L.NamedLayout.named start input w' []) (sym c.in_ok-flush.ensures.windows)
-    (all_out w' (c.in_ok-answered.ensures.ok start input w read) c.in_ok-flush.ensures.ok)
+    subst (IsAnswered g.L.NamedLayout.named early start input w' [])
+    (sym c.in_ok-flush.ensures.windows)
+    (all_out w' (c.in_ok-answered.ensures.ok early start input w read) c.in_ok-flush.ensures.ok)

@@ -1,8 +1,10 @@
 -- Pieces are taken one after another; at the end of the input the engine finishes.
 use Rattle.std.proofs.Common.{◌∙◌, arith, refl}
+use Rattle.arc_script.specs.Script.{feeds}
 use Rattle.arc_script.specs.declared.script.ScriptError.TheVariants.{Alloc}
 use Rattle.arc_script.proofs.Going.{if_err_is, on_ok, on_ok_then, if_err_then, run_begins}
 use Rattle.arc_script.proofs.Going.{nothing_exchanged, exchange_answered, exchange_begun}
+use Rattle.arc_script.proofs.Going.{no_fewer}
 use Rattle.arc_script.proofs.Going.{why_is_cause, why_no_read}
 use Rattle.arc_script.proofs.Devices.{gives_nothing, gives_on, gives_all, takes_nothing, takes_on}
 use Rattle.arc_script.proofs.script.Engine.run.Goals as goal
@@ -10,7 +12,7 @@ use Rattle.arc_script.proofs.script.Engine.run.Goals as goal
 pub returns-in_err-piece-clause-begun : goal.returns-in_err-piece-clause-begun
 returns-in_err-piece-clause-begun g c =
     if_err_is _ c.from_residual.result Alloc c.from_residual.ensures.1
-    (nothing_exchanged Alloc _ _ _ c.requires.windows)
+    (nothing_exchanged g.L.NamedLayout.named Alloc _ _ _ c.requires.windows)
 
 pub pieces-init : goal.pieces-init
 pieces-init g c = record {
@@ -26,7 +28,8 @@ returns-then-not-branch-clause-ok g c =
     let run = c.in_ok-take_piece.ensures.ok _ _ c.pieces.invariant.running in
     let w = g.W.Sink.traffic c.args.writer.now in
     on_ok_then c.finish.result c.finish.ensures.ok (λ h.
-    exchange_answered _ _ w _ _ run.input run.given (h w.bytes run.input run.read))
+    exchange_answered _ _ w _ _ run.input run.given
+    (h (feeds run.input) w.bytes run.input run.read))
 
 pub returns-then-not-branch-clause-end : goal.returns-then-not-branch-clause-end
 returns-then-not-branch-clause-end g c =
@@ -44,7 +47,9 @@ returns-then-not-branch-clause-begun g c =
     let run = c.in_ok-take_piece.ensures.ok _ _ c.pieces.invariant.running in
     let w = g.W.Sink.traffic c.args.writer.now in
     if_err_then c.finish.result c.finish.ensures.err (λ fault h.
-    exchange_begun fault _ _ w _ _ run.input run.given (h w.bytes run.input run.read))
+    exchange_begun fault _ _ w _ _ run.input run.given
+    (h (feeds run.input) w.bytes run.input run.read)
+    (no_fewer (feeds run.input) (feeds (g.R.Source.traffic c.take_piece.new.reader).last)))
 
 pub returns-then-not-branch-clause-fault : goal.returns-then-not-branch-clause-fault
 returns-then-not-branch-clause-fault g c =

@@ -25,7 +25,7 @@ returns-in_err-flush-in-Ok-feed-clause-begun g c =
     let fed = c.feed in
     if_err_as _ c.from_residual.result _ Write c.from_residual.ensures.1 flush.write (λ r w run.
     run_stops Write r _ _ w _ _ c.args.self.now c.flush.new.self _ run
-    (ap (λ t. t.bytes) c.in-Ok.ensures.told)
+    (ap (λ t. t.bytes) c.in-Ok.ensures.told) (ap (λ t. t.last) c.in-Ok.ensures.told)
     (fed_then_stops fed.result _ _ (g.W.Sink.traffic fed.new.writer) _ c.args.self.now fed.new.self
     c.flush.new.self fed.ensures.ok fed.ensures.err flush.err flush.out flush.windows) flush.out)
 
@@ -40,7 +40,7 @@ returns-in_err-flush-in-Err-clause-begun g c =
     if_err_as _ c.from_residual-in_err-flush-in-Err.result _ Write
     c.from_residual-in_err-flush-in-Err.ensures.1 flush.write (λ r w run.
     run_stops Write r _ _ w _ _ c.args.self.now c.flush-in-Err.new.self _ run
-    (ap (λ t. t.bytes) c.in-Ok.ensures.told)
+    (ap (λ t. t.bytes) c.in-Ok.ensures.told) (ap (λ t. t.last) c.in-Ok.ensures.told)
     (fed_then_stops fed.result _ _ (g.W.Sink.traffic fed.new.writer) _ c.args.self.now fed.new.self
     c.flush-in-Err.new.self fed.ensures.ok fed.ensures.err flush.err flush.out flush.windows)
     flush.out)
@@ -68,7 +68,8 @@ returns-in_ok-flush-in-Ok-feed-clause-taken g c =
 pub returns-in-Err-Write-clause-begun : goal.returns-in-Err-Write-clause-begun
 returns-in-Err-Write-clause-begun g c = λ r w run.
     run_stops_writing r _ _ w _ _ c.args.self.now c.feed.new.self _ _ run
-    (ap (λ t. t.bytes) c.in-Ok.ensures.told) c.in-Err-Write.field-0-is c.in-Err-Write.ensures.err
+    (ap (λ t. t.bytes) c.in-Ok.ensures.told) (ap (λ t. t.last) c.in-Ok.ensures.told)
+    c.in-Err-Write.field-0-is c.in-Err-Write.ensures.err
 
 pub returns-in_ok-flush-in-Err-clause-taken : goal.returns-in_ok-flush-in-Err-clause-taken
 returns-in_ok-flush-in-Err-clause-taken g c =
@@ -78,7 +79,7 @@ pub returns-in_ok-flush-in-Err-clause-begun : goal.returns-in_ok-flush-in-Err-cl
 returns-in_ok-flush-in-Err-clause-begun g c = λ r w run.
     let flush = c.in_ok-flush-in-Err.ensures in
     run_stops c.in-Err.fault r _ _ w _ _ c.args.self.now c.flush-in-Err.new.self _ run
-    (ap (λ t. t.bytes) c.in-Ok.ensures.told)
+    (ap (λ t. t.bytes) c.in-Ok.ensures.told) (ap (λ t. t.last) c.in-Ok.ensures.told)
     (stops_and_out c.in-Err.fault _ _ (g.W.Sink.traffic c.feed.new.writer) _ c.args.self.now
     c.feed.new.self c.flush-in-Err.new.self c.in-Err.ensures.err flush.ok flush.out flush.windows)
     flush.out

@@ -9,10 +9,14 @@ use Rattle.arc_slots.specs.Slots.{state_of}
 use Rattle.arc_table.proofs.Done.{Done}
 use Rattle.std.proofs.Common.{◌≡◌, None, length, sym, ap, ◌∙◌, subst}
 use Rattle.arc_commands.specs.Seen.{map_command, seen_reply}
-use Rattle.arc_makers.specs.Makers.{Makes}
+use Rattle.arc_block.specs.Table.{row_at}
+use Rattle.arc_makers.specs.Makers.{HasOwnPlaces, Makes, WrapsPlaces}
 use Rattle.arc_slots.proofs.Index.{many-windows, same-indexed, same-parts}
 use Rattle.arc_slots.specs.Index.{windows_of}
-use Rattle.arc_slots.specs.Slots.{with_slot}
+use Rattle.arc_slots.specs.Slots.{row_of, with_slot}
+use Rattle.std.specs.Prelude.{map}
+use Rattle.std.specs.Option.{option_map}
+use Rattle.arc_table.proofs.Own.{own_on, own_row}
 use Rattle.arc_table.proofs.Stepped.{made-window}
 use Rattle.arc_table.proofs.table.Table.answer_any.Given.{Over}
 use Rattle.arc_table.proofs.table.Table.answer_any.Goals.{After-push_made}
@@ -107,3 +111,44 @@ pub on_window-requires-clause-one : goal.on_window-requires-clause-one
 on_window-requires-clause-one g c =
     other-seen g.S.Commands.items_in g.S.Commands.static_in g.B.Buffer.list c.args.command
     ∙ sym c.other.ensures ∙ c.in_default-other.is
+
+-- the row that was made of what came in, under the next number
+pub returns-clause-places : goal.returns-clause-places
+returns-clause-places g c =
+    let s = c.self.inside.slots in
+    let slots = windows_of s.index.items s.numbers.items s.places.items in
+    let passes = c.self.inside.passes.of_blocks.items in
+    let mid = c.room_if-has_room.new.self in
+    let kept = c.room_if-has_room.ensures in
+    let same =
+    same-parts mid.index.items s.index.items mid.numbers.items s.numbers.items mid.places.items
+    s.places.items kept.index kept.numbers kept.places in
+    let after = c.make-reply.new.passes.of_blocks.items in
+    let made = c.make-reply.result.1 in
+    let now = windows_of c.push_made.new.self.index.items c.push_made.new.self.numbers.items
+    c.push_made.new.self.places.items in
+    subst (λ (o : State g.row.S-Item.Denot g.row.M.Denot).
+    HasOwnPlaces (WrapsPlaces g.S.Items.Wraps.wraps) g.S.Commands.items_in g.B.Buffer.list
+    g.B.Buffer.places (setting g) o.table.blocks c.args.command
+    (row_at (state_of now after).table (length o.table.rows))) c.self.view_is
+    (subst (λ ss.
+    HasOwnPlaces (WrapsPlaces g.S.Items.Wraps.wraps) g.S.Commands.items_in g.B.Buffer.list
+    g.B.Buffer.places (setting g) (length passes) c.args.command
+    (row_at (state_of ss after).table (length (map (option_map row_of) slots))))
+    (ap (λ ss. with_slot ss made) (sym same) ∙ sym c.push_made.ensures.windows)
+    (subst (λ row.
+    HasOwnPlaces (WrapsPlaces g.S.Items.Wraps.wraps) g.S.Commands.items_in g.B.Buffer.list
+    g.B.Buffer.places (setting g) (length passes) c.args.command row)
+    (sym (own_row slots made)) c.make-reply.ensures.places))
+
+pub returns-in-Some-clause-places : goal.returns-in-Some-clause-places
+returns-in-Some-clause-places g c =
+    own_on (WrapsPlaces g.S.Items.Wraps.wraps) g.S.Commands.items_in g.B.Buffer.list
+    g.B.Buffer.places (setting g) _ c.args.command _ _
+    (sym c.window.ensures ∙ c.in-Some.is)
+
+pub returns-in-Some-other-clause-places : goal.returns-in-Some-other-clause-places
+returns-in-Some-other-clause-places g c =
+    own_on (WrapsPlaces g.S.Items.Wraps.wraps) g.S.Commands.items_in g.B.Buffer.list
+    g.B.Buffer.places (setting g) _ c.args.command _ _
+    (sym c.window.ensures ∙ c.in-Some.is)

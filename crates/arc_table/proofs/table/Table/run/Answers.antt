@@ -39,7 +39,8 @@ loop-command-preserved g c =
           (run_push_seen (CarriesOut (setting g)) said_by
           (seen_reply g.S.Commands.items_in g.S.Commands.items_in_box g.B.Buffer.list)
           c.args.self.now at.yielded
-          at.replies.items at.self command c.step.result c.step.new.self said.run c.step.ensures);
+          at.replies.items at.self command c.step.result c.step.new.self said.run
+          c.step.ensures.carried);
       many =
           omega (arith, said.many, c.in-Some.ensures.steps.1, c.push_reserved.ensures.len);
       room = omega (arith, said.room, c.push_reserved.ensures.capacity);
