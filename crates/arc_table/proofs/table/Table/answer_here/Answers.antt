@@ -4,7 +4,7 @@ use Rattle.std.specs.Mem.{type_size}
 use Rattle.std.proofs.Common.{ap}
 use Rattle.arc_commands.specs.Changes.{Setting, setting_of}
 use Rattle.arc_commands.specs.Step.{window_of}
-use Rattle.arc_makers.specs.Makers.{WrapsPlaces}
+use Rattle.arc_slots.specs.Places.{WrapsPlaces}
 use Rattle.arc_table.proofs.Own.{own_on}
 use Rattle.arc_table.proofs.table.Table.answer_here.Given.{Over}
 use Rattle.arc_table.proofs.table.Table.answer_here.Goals as goal
