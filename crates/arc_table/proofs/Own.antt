@@ -1,7 +1,8 @@
 -- Which places the row has that a command made of what it brings, and what those have that a command
 -- takes out of a window.
 use Rattle.std.proofs.Common.{◌≡◌, ℕ, List, [], ◌∷◌, ◌++◌, Option, Some, None, length, map, slice_get}
-use Rattle.std.proofs.Common.{sym, ap, ◌∙◌, subst, arith}
+use Rattle.std.proofs.Common.{Bool, true, false, sym, ap, ◌∙◌, subst, arith}
+use Rattle.std.proofs.lemmas.Bool.{false≢true}
 use Rattle.std.specs.Prelude.{IfSome}
 use Rattle.std.specs.Option.{option_flatten, option_map}
 use Rattle.std.proofs.lemmas.List.{map-append}
@@ -52,6 +53,12 @@ slot_row slots i place there =
     sym (ap option_flatten
     (slice_get-map (option_map row_of) slots i ∙ ap (option_map (option_map row_of)) there))
 
+-- whether a command takes a vector or a caller's buffer out of a window
+abbrev pub takes_out : {C X F B M T : Type 0} → Cmd C X F B M T → Bool
+takes_out (command.Take i) = true
+takes_out (command.TakeBuf i) = true
+takes_out other = false
+
 module _ {C G X D R F H M T V B : Type 0} (has : V → ℕ → Type 0) (places : B → ℕ)
     (row : ℕ → Option (Row T M)) where
   -- a reply that hands out nothing takes nothing out
@@ -71,7 +78,14 @@ module _ {C G X D R F H M T V B : Type 0} (has : V → ℕ → Type 0) (places :
       at (Some s) = none (size_at s.place)
   takes_none other r none = tt
 
-  -- nor does a command on no window, or on two
+  -- nor does any other command
+  pub takes_other : (c : Cmd C V F B M T) (r : Reply G X V D B R H M) → takes_out c ≡ false
+      → TakesPlaces has places row c r
+  takes_other (command.Take i) r other = absurd (false≢true (sym other))
+  takes_other (command.TakeBuf i) r other = absurd (false≢true (sym other))
+  takes_other c r other = tt
+
+  -- one on no window, or on two
   pub takes_nowhere : (c : Cmd C V F B M T) (r : Reply G X V D B R H M) → window_of c ≡ None
       → TakesPlaces has places row c r
   takes_nowhere (command.Take i) r on = absurd (none-some i (sym on))
