@@ -31,8 +31,8 @@ size-numbered b static_data = refl
 size-numbered b (on_block None offset info) = refl
 size-numbered b (on_block (Some o) offset info) = refl
 
--- What a call finds that takes apart a slot's window of this role: its parts are those that the slot
--- shows, on a block of the slot's number, and the pass of that was taken out of the passes.
+-- What a call finds that takes apart a slot's window of this role: its parts are those that the
+-- slot shows, on a block of the slot's number, and the pass of that was taken out of the passes.
 pub record TakenApart {T M H : Type 0} (b : Option ℕ) (s : SlotView T M) (role : Role)
     (q : PartsView T M) (passes left : List (Pass H)) (p : Pass H) : Type 0 where
   pub view : record { window = window_of q; role = role; block = b } ≡ s

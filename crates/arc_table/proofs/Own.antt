@@ -1,7 +1,7 @@
--- Which places the row has that a command made of what it brings, and what those have that a command
--- takes out of a window.
-use Rattle.std.proofs.Common.{◌≡◌, ℕ, List, [], ◌∷◌, ◌++◌, Option, Some, None, length, map, slice_get}
-use Rattle.std.proofs.Common.{Bool, true, false, sym, ap, ◌∙◌, subst, arith}
+-- Which places the row has that a command made of what it brings, and what those have that a
+-- command takes out of a window.
+use Rattle.std.proofs.Common.{◌≡◌, ℕ, Bool, true, false, List, [], ◌∷◌, ◌++◌, Option, Some, None}
+use Rattle.std.proofs.Common.{length, map, slice_get, sym, ap, ◌∙◌, subst, arith}
 use Rattle.std.proofs.lemmas.Bool.{false≢true}
 use Rattle.std.specs.Prelude.{IfSome}
 use Rattle.std.specs.Option.{option_flatten, option_map}

@@ -116,9 +116,8 @@ where
     }
 
     /// Carries out one command, and answers its reply (`CarriesOut`). A window that is made of a
-    /// vector or a buffer stands on a block of just as many places as came in (`places`).
-    /// A vector or a buffer that is taken out has just as many places as the block on which its
-    /// window stood (`taken_places`).
+    /// vector or a buffer has just the places that came in (`places`). A vector or a buffer that is
+    /// taken out has just those of the block on which its window stood (`taken_places`).
     ///
     /// # Errors
     ///
