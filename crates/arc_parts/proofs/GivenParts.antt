@@ -1,0 +1,55 @@
+-- What is known of parts fits what was given.
+use Rattle.std.proofs.Common.{◌≡◌, ℕ, ◌+◌, ◌≤◌, List, length, Option, Some, None, refl, sym, ap, ◌∙◌}
+use Rattle.std.proofs.Common.{subst, arith}
+use Rattle.arc_buffer.specs.Slice.{sub}
+use Rattle.arc_buffer.proofs.Sub.{length-sub}
+use Rattle.arc_block.specs.Block.{BlockInfo}
+use Rattle.arc_block.specs.Given.{Given}
+use Rattle.arc_block.specs.Metadata.{FitsGiven, FitsPart, FitsGivenAt}
+use Rattle.arc_parts.specs.declared.storage.Storage.TheVariants.{Nothing, Static, Native, Block}
+use Rattle.arc_parts.specs.declared.storage.Storage.TheVariants.{Raw}
+use Rattle.arc_parts.specs.Window.{PartsView, StandsBy, parts_of, window_seen, IsWithin}
+use Rattle.arc_parts.specs.Window.{FitsStorage}
+
+module _ {T B M : Type 0} (list : B → List T) (places : B → ℕ) where
+  -- a part of what a block keeps
+  part-fits : (given : Option (Given B M)) (info : BlockInfo (Given B M)) (xs : List T)
+      (from to : ℕ) → from ≤ to → to ≤ length xs → FitsGiven list places given info xs
+      → FitsPart list places given info from (sub xs from to)
+  part-fits None info xs from to ordered inside fits = fits
+  part-fits (Some held) info xs from to ordered inside fits =
+      let last : from + length (sub xs from to) ≡ to =
+      omega (arith, length-sub xs from to ordered inside, ordered) in (
+        fits.0,
+        ap (λ ys. sub ys from (from + length (sub xs from to))) fits.1
+            ∙ ap (sub xs from) last,
+        fits.2 ∙ ap (λ ys. Some (length ys)) (sym fits.1),
+        fits.3,
+      )
+
+  stands-fits : (inner : StandsBy T (Given B M)) (from to : ℕ) → IsWithin inner from to
+      → FitsStorage list places inner
+      → (λ (p : PartsView T (Given B M)). FitsGivenAt list places p.place p.items)
+      (parts_of (window_seen inner from to))
+  stands-fits (Nothing none) from to within fits = tt
+  stands-fits (Static items) from to within fits = tt
+  stands-fits (Native b) from to within fits = λ callers. callers
+  stands-fits (Block b) from to within fits =
+      part-fits b.facts.given b.facts b.items from to within.0 within.1 fits
+  stands-fits (Raw shared) from to within fits =
+      let last : from + length (sub shared.items from to) ≡ to =
+      omega (arith, length-sub shared.items from to within.0 within.1, within.0) in (
+        tt,
+        ap (λ ys. sub ys from (from + length (sub shared.items from to))) fits
+            ∙ ap (sub shared.items from) last,
+        ap (λ ys. Some (length ys)) (sym fits),
+        λ buffers. absurd buffers,
+      )
+
+  -- what is known of parts fits what was given to what they stand on
+  pub parts_fit : (inner : StandsBy T (Given B M)) (from to : ℕ) (p : PartsView T (Given B M))
+      → parts_of (window_seen inner from to) ≡ p → IsWithin inner from to
+      → FitsStorage list places inner → FitsGivenAt list places p.place p.items
+  parts_fit inner from to p view within fits =
+      subst (λ (v : PartsView T (Given B M)). FitsGivenAt list places v.place v.items) view
+      (stands-fits inner from to within fits)
