@@ -1,10 +1,14 @@
 -- What is known of parts fits what was given.
-use Rattle.std.proofs.Common.{◌≡◌, ℕ, ◌+◌, ◌≤◌, List, length, Option, Some, None, refl, sym, ap, ◌∙◌}
+use Rattle.std.proofs.Common.{◌≡◌, ℕ, ◌+◌, ◌≤◌, Bool, List, length, Option, Some, None, refl, sym, ap, ◌∙◌}
 use Rattle.std.proofs.Common.{subst, arith}
 use Rattle.arc_buffer.specs.Slice.{sub}
 use Rattle.arc_buffer.proofs.Sub.{length-sub}
-use Rattle.arc_block.specs.Block.{BlockInfo}
-use Rattle.arc_block.specs.Given.{Given}
+use Rattle.arc_owners.specs.count.Calls.{Owner}
+use Rattle.arc_block.specs.Block.{BlockInfo, BlockView}
+use Rattle.arc_block.specs.Contents.{content_info, held_in}
+use Rattle.arc_block.specs.declared.block.content.Content.{Content}
+use Rattle.arc_block.specs.Given.{Given, buffer_of}
+use Rattle.arc_block.specs.Place.{buffer_at}
 use Rattle.arc_block.specs.Metadata.{FitsGiven, FitsPart, FitsGivenAt}
 use Rattle.arc_parts.specs.declared.storage.Storage.TheVariants.{Nothing, Static, Native, Block}
 use Rattle.arc_parts.specs.declared.storage.Storage.TheVariants.{Raw}
@@ -53,3 +57,16 @@ module _ {T B M : Type 0} (list : B → List T) (places : B → ℕ) where
   parts_fit inner from to p view within fits =
       subst (λ (v : PartsView T (Given B M)). FitsGivenAt list places v.place v.items) view
       (stands-fits inner from to within fits)
+
+-- parts that stand on a block b, which kept this
+module _ {T B M A : Type 0} (list : B → List T) (places : B → ℕ) (drops : Bool)
+    (inner : StandsBy T (Given B M)) (from to : ℕ) (p : PartsView T (Given B M))
+    (b : BlockView T (Given B M)) (view : parts_of (window_seen inner from to) ≡ p)
+    (is : inner ≡ Block b) (o : Owner) (content : Content T B M A)
+    (kept : held_in list places drops o content ≡ b) where
+  -- the buffer that it kept is the one that was given
+  pub buffer_kept : buffer_at p.place ≡ buffer_of (content_info list places drops content).given
+  buffer_kept =
+      ap (λ (v : PartsView T (Given B M)). buffer_at v.place)
+      (sym view ∙ ap (λ x. parts_of (window_seen x from to)) is)
+      ∙ ap (λ (x : BlockView T (Given B M)). buffer_of x.facts.given) (sym kept)
