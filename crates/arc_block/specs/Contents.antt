@@ -1,5 +1,5 @@
 -- What a block keeps: its items, and what is known of it, by its sort.
-use Rattle.std.specs.Prelude.{◌≡◌, ℕ, Bool, false, List, length, Option, Some, None}
+use Rattle.std.specs.Prelude.{◌≡◌, ℕ, Bool, false, List, length, Some, None}
 use Rattle.std.specs.Arc.{arc_value}
 use Rattle.std.specs.declared.vec.Vec.{Vec}
 use Rattle.arc_memory.specs.Memory.{extent_of}

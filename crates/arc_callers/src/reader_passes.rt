@@ -2,6 +2,7 @@
 //! to the history of its owners. Each call goes on where the last one ended; a plain form takes a
 //! new pass.
 ghost use Rattle.std.specs.Prelude.{◌≡◌, ◌≤◌, ◌++◌, Bool, length, take, IfOk, IfErr, IfSome};
+ghost use Rattle.std.specs.Prelude.{OnOk, OnErr};
 ghost use Rattle.std.specs.Int.{w16, from_be_bytes};
 ghost use Rattle.std.specs.Box.{boxed_slice_items};
 ghost use Rattle.arc_owners.specs.count.Calls.{IsPassOfNone, Leaves};
@@ -15,6 +16,7 @@ use arc_slice::{ArcBytes, ArcBytesMut, ArcSlice, ArcStr, IntoMut, Open, Pass, Wh
 use bytes::Buf;
 use std::alloc::Global;
 use std::boxed::BoxedSlice;
+use std::io;
 use std::sync::{Arc, Wait};
 
 /// Windows on a block that has one pass, which has seen its whole history.
@@ -240,4 +242,22 @@ pub fn number_and_end(mut window: WholeBytes, pass: &mut Pass<Whole>) -> u16
     window.known_after_reads();
     window.release_as(pass);
     number
+}
+
+/// Moves the bytes of a window behind those of a vector, after which the window ends: after the
+/// read the pass is still one of its block.
+pub fn read_out_and_end(
+    mut window: WholeBytes,
+    bytes: &mut Vec<u8>,
+    pass: &mut Pass<Whole>,
+) -> io::Result<usize>
+    requires { IsPassAt window.place pass.old }
+    ensures ok { OnOk result (bytes.new.items ≡ bytes.old.items ++ window.items) }
+    ensures err { OnErr result (bytes.new.items ≡ bytes.old.items) }
+    ensures entry { at_owner window.place (pass.new ≡ pass.old) (λ o. (last : Bool)
+        × Leaves o pass.old pass.new last) }
+{
+    let count = window.read_to_end(bytes);
+    window.release_as(pass);
+    count
 }

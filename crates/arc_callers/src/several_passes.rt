@@ -48,6 +48,28 @@ pub fn number_and_joined(
     (number, window.try_unsplit_as(behind, &mut pass))
 }
 
+/// Moves the window's bytes behind those of a vector. Then the window behind it is joined to it:
+/// after the read it is still known that both stand on one block. That window comes back where the
+/// vector is refused memory, and where they can't be joined.
+pub fn read_out_and_joined(
+    window: &mut ArcBytesShared,
+    bytes: &mut Vec<u8>,
+    behind: ArcBytesShared,
+) -> Result<(), ArcBytesShared>
+    requires { IsOneBlock window.old.place behind.place }
+    ensures joined { OnOk result ((bytes.new.items ≡ bytes.old.items ++ window.old.items)
+        × (window.new.items ≡ behind.items)) }
+    ensures back { IfErr result (λ back. back ≡ behind) }
+{
+    match window.read_to_end(bytes) {
+        Ok(_) => {
+            let mut pass = window.pass();
+            window.try_unsplit_as(behind, &mut pass)
+        }
+        Err(_) => Err(behind),
+    }
+}
+
 /// Puts a number behind the window's bytes. Then the window behind it is joined to it: after the
 /// put it is still known that both stand on one block. That window comes back where the number
 /// doesn't fit, and where they can't be joined.

@@ -129,10 +129,11 @@ block-fits false sort None meta block offset len more places counted fits within
     ((counted, omega (arith, fits), omega arith), (omega (arith, fits), omega (arith, fits)))
 block-fits true sort None meta block offset len more places counted fits within ordered ends =
     absurd (false≢true (counted ∙ counted-owned sort))
-block-fits false sort (Some f) meta block offset len more places counted fits within ordered ends = (
-  (counted, omega (arith, within), omega (arith, fits, within, ordered)),
-  (omega (arith, fits), omega (arith, fits)),
-)
+block-fits false sort (Some f) meta block offset len more places counted fits within ordered
+    ends = (
+      (counted, omega (arith, within), omega (arith, fits, within, ordered)),
+      (omega (arith, fits), omega (arith, fits)),
+    )
 block-fits true sort (Some f) meta block offset len more places counted fits within ordered ends =
     let at : offset + len ≡ f = eqb-true (offset + len) f (ends refl) in
     let full = f + (more - (f - (offset + len))) in

@@ -10,7 +10,8 @@ use std::io::{Read, Write};
 use std::marker::Model;
 
 /// A reader that gives a script its bytes: `read` of std. Contracts read in `traffic` which bytes
-/// it has given, how many reads failed, and how many found the end.
+/// it has given, which of them the last read gave, how many reads failed, and how many found the
+/// end.
 pub trait Source {
     /// What its reads have given.
     ghost traffic: { Self → Traffic };

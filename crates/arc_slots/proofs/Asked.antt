@@ -364,8 +364,8 @@ module _ {T M : Type 0} (setting : Setting T) (windows : ℕ) (s : SlotView T M)
       -- on a block the count said that he isn't; on none nobody was asked
       vainly : (b : Option ℕ) (place : Place (Option Owner) M)
           → AsksAt (stand_at b place) passes passes' false
-          → AsksIf (is_on_block (numbered b place)) (stand_at b place) (stand_at b place) None passes
-          passes'
+          → AsksIf (is_on_block (numbered b place)) (stand_at b place) (stand_at b place) None
+          passes passes'
       vainly b nowhere asks = (refl, refl, asks.1)
       vainly b static_data asks = (refl, refl, asks.1)
       vainly b (on_block None offset info) asks = (refl, refl, asks.1)

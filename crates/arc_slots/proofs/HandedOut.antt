@@ -307,8 +307,8 @@ module _ {T M : Type 0} (setting : Setting T) (windows : ℕ) (s : SlotView T M)
         hand-made : (kept made other : SlotView T M)
             → outcome itself ≡ with_made around (row_of kept) (row_of made)
             → row_of other ≡ part → Beside here passes passes' (stand_of (Some other))
-            → GivesBy itself here (stand_of (Some kept)) (Some (stand_of (Some made))) passes passes'
-            → Said c (reply.New windows) (Some kept) (Some made) passes'
+            → GivesBy itself here (stand_of (Some kept)) (Some (stand_of (Some made))) passes
+            passes' → Said c (reply.New windows) (Some kept) (Some made) passes'
         hand-made kept made other given-is other-is beside gives =
             let room =
             ap (λ x. around.full && is_some x)
@@ -332,8 +332,8 @@ module _ {T M : Type 0} (setting : Setting T) (windows : ℕ) (s : SlotView T M)
             hand-made kept handed kept
             (ap outcome is ∙ ap (λ x. with_made around x row) (sym p.made_is)
             ∙ ap (with_made around (row_of kept)) (sym p.same_is)) p.made_is p.added
-            (subst (λ b. GivesBy b here (stand_of (Some kept)) (Some (stand_of (Some handed))) passes
-            passes') (sym is) (record {
+            (subst (λ b. GivesBy b here (stand_of (Some kept)) (Some (stand_of (Some handed)))
+            passes passes') (sym is) (record {
               raises = raises-beside passes passes' here (stand_of (Some kept)) p.added;
               handed_out = ap Some p.owner;
             }))
@@ -345,8 +345,8 @@ module _ {T M : Type 0} (setting : Setting T) (windows : ℕ) (s : SlotView T M)
             hand-made kept handed handed
             (ap outcome is ∙ ap (λ x. with_made around x part) (sym p.same_is)
             ∙ ap (with_made around (row_of kept)) (sym p.made_is)) p.made_is p.added
-            (subst (λ b. GivesBy b here (stand_of (Some kept)) (Some (stand_of (Some handed))) passes
-            passes') (sym is) (record {
+            (subst (λ b. GivesBy b here (stand_of (Some kept)) (Some (stand_of (Some handed)))
+            passes passes') (sym is) (record {
               other = stand_of (Some handed);
               raises = raises-beside passes passes' here (stand_of (Some handed)) p.added;
               stays = p.owner;

@@ -206,8 +206,8 @@ module _ {T M H : Type 0} {w : Window T M} {b : Option ℕ} {s : SlotView T M}
     refused-here (Back at) why = elim (cases_Bool (at == 0)) [
       | inl zero ↦
           let is = eqb-true at 0 zero in
-          subst (λ n. RefusesAt wants (off_part has_static row n).place (stand_of (Some here)) passes
-          after e) (sym is)
+          subst (λ n. RefusesAt wants (off_part has_static row n).place (stand_of (Some here))
+          passes after e) (sym is)
           (refused-either true 0 0 0 (length w.items)
           (subst (λ n. Refuses wants (off_place has_static w n) p new e) is why))
       | inr some ↦

@@ -23,8 +23,8 @@ use Rattle.arc_slots.proofs.Native.{refuses-out, takes}
 use Rattle.arc_slots.proofs.Slots.{along, fits-as, held-as, window-pass}
 use Rattle.arc_slots.proofs.Taken.{back-same}
 
--- What a call finds that takes apart a slot's window of this role: its parts are those that the slot
--- shows, on a block of the slot's number, and the pass of that was taken out of the passes.
+-- What a call finds that takes apart a slot's window of this role: its parts are those that the
+-- slot shows, on a block of the slot's number, and the pass of that was taken out of the passes.
 pub record TakenApart {T M H : Type 0} (b : Option ℕ) (s : SlotView T M) (role : Role)
     (q : PartsView T M) (passes left : List (Pass H)) (p : Pass H) : Type 0 where
   pub view : record { window = window_of q; role = role; block = b } ≡ s

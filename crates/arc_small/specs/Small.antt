@@ -6,7 +6,8 @@ use Rattle.arc_block.specs.Inline.{inline_limit}
 use Rattle.arc_block.specs.Place.{Place, nowhere}
 use Rattle.arc_block.specs.Layouts.{LayoutFacts}
 use Rattle.arc_block.specs.Moves.{layout_move}
-use Rattle.arc_block.specs.Table.{Role, inline, reader, sole_writer, one_writer_of_several, forgotten}
+use Rattle.arc_block.specs.Table.{Role, inline, reader, sole_writer, one_writer_of_several}
+use Rattle.arc_block.specs.Table.{forgotten}
 use Rattle.arc_block.specs.declared.layout.Move.{Move}
 use Rattle.arc_block.specs.declared.layout.Move.TheVariants.{Stays}
 use Rattle.arc_parts.specs.Window.{Window, PartsView, window_of, parts_of}

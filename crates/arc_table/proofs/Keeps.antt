@@ -64,8 +64,8 @@ use Rattle.arc_table.proofs.Stays.{room-fine}
 -- ---- roles
 
 -- a command that is for writers alone
-pub writer-for : {T M : Type 0} (c : ListCmd T M) → is_for c reader ≡ false → is_for c inline ≡ false
-    → (role : Role) → is_for c role ≡ true → is_writer role ≡ true
+pub writer-for : {T M : Type 0} (c : ListCmd T M) → is_for c reader ≡ false
+    → is_for c inline ≡ false → (role : Role) → is_for c role ≡ true → is_writer role ≡ true
 writer-for c none small reader is = absurd (false≢true (sym none ∙ is))
 writer-for c none small (sole_writer places) is = refl
 writer-for c none small (one_writer_of_several places) is = refl
@@ -722,8 +722,8 @@ module _ {T M : Type 0} (setting : Setting T) (short : Shortage) (around : Aroun
       written-good (Res i k) (writer-for {T = T} {M = M} (Res i k) refl refl row.role is) [] k
       (omega arith) refl
   row-good (Push i x) is =
-      written-good (Push i x) (writer-for {T = T} {M = M} (Push i x) refl refl row.role is) (x ∷ []) 1
-      (omega arith) refl
+      written-good (Push i x) (writer-for {T = T} {M = M} (Push i x) refl refl row.role is)
+      (x ∷ []) 1 (omega arith) refl
   row-good (Ext i xs) is =
       written-good (Ext i xs) (writer-for {T = T} {M = M} (Ext i xs) refl refl row.role is) xs
       (length xs) (omega arith) refl

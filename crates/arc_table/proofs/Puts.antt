@@ -77,8 +77,8 @@ module _ {T M : Type 0} (setting : Setting T) (t : Table T M) (c : ListCmd T M)
         → Comes setting.drops was (put_in setting c r) row → Whence k row
     begins_at : Begins setting.drops t.blocks (put_in setting c r) row → Whence k row
 
-  -- what is handed out are the items of the window's row, and with them all that its block keeps, on
-  -- which no other row stands
+  -- what is handed out are the items of the window's row, and with them all that its block keeps,
+  -- on which no other row stands
   pub record Hands (new : Table T M) (items : List T) : Type 0 where
     pub window : ℕ
     pub row : Row T M
@@ -272,7 +272,8 @@ module _ {T M : Type 0} (setting : Setting T) (block : ℕ) where
   opens-raw items true = record { stands = tt; lies = λ owned. (refl, lies-all items) }
   opens-raw items false = record { stands = refl; lies = λ owned. (refl, lies-all items) }
 
-  opens-made : (places : ℕ) (c : ListCmd T M) → Opens (brought setting c) (row_by setting places block c)
+  opens-made : (places : ℕ) (c : ListCmd T M)
+      → Opens (brought setting c) (row_by setting places block c)
   opens-made places (Slice items) = opens-if items setting.calls.copies _ (opens-list items)
   opens-made places (Small items) =
       opens-if items setting.calls.small _

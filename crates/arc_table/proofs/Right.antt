@@ -287,8 +287,8 @@ module _ {T M : Type 0} (setting : Setting T) (t : Table T M) (books : Books T)
         → was.place ≡ on_block (Some n) o old → Lies (books n).items was.items o
     lie-before w n o old was at is =
         let shows = right.shows owned w n o old was at is in
-        let within = subst (λ p. LieWithin setting.drops (is_small was.role) p (length was.items)) is
-        (lawful.fit w was at).within in
+        let within = subst (λ p. LieWithin setting.drops (is_small was.role) p (length was.items))
+        is (lawful.fit w was at).within in
         let many : full_end old ≡ length (books n).items =
         ap (λ x. option_map_or (λ f. f) x old.size) shows.full in
         sub-lies (books n).items was.items o (omega (arith, within.1, many)) shows.shown

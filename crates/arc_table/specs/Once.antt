@@ -97,7 +97,8 @@ module _ {T M : Type 0} where
   -- whether a window stands on it that this is the number of, if it is one
   abbrev pub is_under : Table T M → Option ℕ → ℕ → Bool
   is_under t window n = option_map_or (λ i. option_map_or (λ row.
-      option_map_or (λ block. block == n) (block_of row.place) false) (row_at t i) false) window false
+      option_map_or (λ block. block == n) (block_of row.place) false)
+      (row_at t i) false) window false
 
   -- The books after a step. What is put in comes into the new block, or else into the block on
   -- which the command's window stood, behind the items there.

@@ -115,7 +115,7 @@ where
     }
 
     /// Carries out one command, and answers its reply (`CarriesOut`). A window that is made of a
-    /// vector or a buffer stands on a block of just as many places as came in (`places`).
+    /// vector or a buffer has just the places that came in (`places`).
     ///
     /// # Errors
     ///

@@ -7,7 +7,8 @@ use Rattle.arc_parts.specs.Shared.{IsOneBlock}
 use Rattle.arc_parts.specs.Window.{PartsView}
 use Rattle.arc_parts.specs.Writers.{after_advance, with_full, with_more}
 use Rattle.arc_read.specs.Kept.{kept_read, without_metadata}
-use Rattle.arc_read.proofs.Kept.{kept_advanced, owner_after_read, owner_before_read, place_after_read}
+use Rattle.arc_read.proofs.Kept.{kept_advanced, owner_after_read, owner_before_read}
+use Rattle.arc_read.proofs.Kept.{place_after_read}
 use Rattle.arc_write.specs.Kept.{kept_written}
 use Rattle.arc_write.specs.Within.{spare_places}
 use Rattle.arc_write.proofs.ReadParts.{spare_advanced}
@@ -63,7 +64,8 @@ module _ {M : Type 0} (none : Type 0) (some : Owner → Type 0) where
   owner_with len more (on_block None offset info) = (λ it. it, λ it. it)
   owner_with len more (on_block (Some owner) offset info) = (λ it. it, λ it. it)
 
-  module _ {T : Type 0} (items : List T) (old new : PartsView T M) (more : new ≡ with_more items old) where
+  module _ {T : Type 0} (items : List T) (old new : PartsView T M)
+      (more : new ≡ with_more items old) where
     pub owner_after_write : at_owner old.place none some → at_owner new.place none some
     owner_after_write it = subst (λ (w : PartsView T M). at_owner w.place none some) (sym more)
         ((owner_with (length old.items) (length items) old.place).0 it)

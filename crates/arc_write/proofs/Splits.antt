@@ -11,7 +11,8 @@ use Rattle.arc_block.specs.Block.{Sort, native, vector, buffer, raw}
 use Rattle.arc_block.specs.Layouts.{LayoutFacts}
 use Rattle.arc_block.specs.Place.{Place, nowhere, static_data, on_block}
 use Rattle.arc_parts.specs.Shared.{CanSplit, StandsToSplit, StandsToSplitAt}
-use Rattle.arc_parts.specs.Shared.{SplitsWriterAt, SplitsWriterOff, SplitsWriterTo, joined_row, part_at}
+use Rattle.arc_parts.specs.Shared.{SplitsWriterAt, SplitsWriterOff, SplitsWriterTo, joined_row}
+use Rattle.arc_parts.specs.Shared.{part_at}
 use Rattle.arc_parts.specs.Steps.{Shares}
 use Rattle.arc_parts.specs.Window.{PartsView, IsBlockHeld}
 use Rattle.arc_parts.specs.Writers.{after_advance, capacity_of}

@@ -175,8 +175,8 @@ impl<
         self.parts.known_idle();
     }
 
-    /// The window stands on nothing, or on a block that its layout holds, and its list is legal for
-    /// the kind. Does nothing: its contract is the law.
+    /// The window stands on nothing, on static data, or on a block that its layout holds, and its
+    /// list is legal for the kind. Does nothing: its contract is the law.
     pub fn known_held(&self)
         ensures held { IsBlockHeld (layout_facts L.Layout) self.now.place }
         ensures legal { ∥ S.is_legal self.now.items ∥₁ }

@@ -62,8 +62,8 @@ pub trait SmallOf<S: TableKind, L: Layout, M: Drop, A: Allocator + Copy>: Smalls
         requires legal { ∥ S.is_legal items.now ∥₁ }
         requires pass { IsPassOfNone pass.old }
         ensures has { is_some result ≡ Self.small }
-        ensures made { IfSome result (λ made. IfOk made (λ window. MakesSmall L.STATIC S.DROPS true items.now
-            (seen window))) }
+        ensures made { IfSome result (λ made. IfOk made (λ window.
+            MakesSmall L.STATIC S.DROPS true items.now (seen window))) }
         ensures pass { IfSome result (λ made. IfOk made (λ window.
             Begins (window_of (seen window)) pass.old pass.new)) }
         ensures refused { IfSome result (λ made. OnErr made
@@ -198,7 +198,8 @@ pub trait SmallKind: Subsliceable<Item = u8> {
     ) -> Result<SmallArcSlice<Self, L, Vec<u8>, M, A, Whole>, AllocError>
         requires legal { ∥ Self.is_legal items.now ∥₁ }
         requires pass { IsPassOfNone pass.old }
-        ensures made { IfOk result (λ window. MakesSmall L.STATIC Self.DROPS true items.now window) }
+        ensures made { IfOk result (λ window.
+            MakesSmall L.STATIC Self.DROPS true items.now window) }
         ensures pass { IfOk result (λ window. Begins (window_of window) pass.old pass.new) }
         ensures refused { OnErr result ((inline_limit < length items.now)
             × (pass.new ≡ pass.old)) };

@@ -1,6 +1,7 @@
 //! `io::Read` of small windows over bytes.
-ghost use Rattle.std.specs.Prelude.{◌≡◌, ◌<◌, ◌≤◌, ◌++◌, min, length, drop, take, Ok, Some};
-ghost use Rattle.std.specs.Prelude.{OnOk, IfErr};
+ghost use Rattle.std.specs.Prelude.{◌≡◌, ◌<◌, ◌≤◌, ◌++◌, [], min, length, drop, take, Ok, Some};
+ghost use Rattle.std.specs.Prelude.{◌+◌, OnOk, OnErr, IfOk, IfErr};
+ghost use Rattle.std.specs.Vec.{vec_capacity, vec_len};
 ghost use Rattle.std.specs.Io.{ReadsAtMost};
 ghost use Rattle.std.specs.Io.KnownBytes.{Consumes, ReadConsumes};
 ghost use Rattle.std.specs.IoError.{error_kind};
@@ -113,5 +114,70 @@ impl<L: Layout, B: Buffer<u8> + Drop, M: Drop, A: Allocator + Copy, H: Mark> io:
             return Err(io::Error::new(ErrorKind::UnexpectedEof, "failed to fill whole buffer"));
         }
         Ok(())
+    }
+}
+
+impl<L: Layout> SmallSlice<Plain<u8>, L> {
+    /// Moves all bytes of the list behind those of the vector, and answers how many.
+    ///
+    /// # Errors
+    ///
+    /// One of kind `OutOfMemory` where the vector is refused memory. Nothing is changed then.
+    ///
+    /// # Allocates
+    ///
+    /// Once, where the vector has fewer places to spare than the list has bytes.
+    pub fn read_to_end<V: Allocator>(&mut self, bytes: &mut Vec<u8, V>) -> io::Result<usize>
+        ensures ok { IfOk result (λ n. n ≡ length self.old.items) }
+        ensures moved { OnOk result (bytes.new.items ≡ bytes.old.items ++ self.old.items) }
+        ensures window { OnOk result (self.new.items ≡ []) }
+        ensures err { IfErr result (λ e. (error_kind e ≡ ErrorKind.OutOfMemory)
+            × (vec_capacity bytes.old < vec_len bytes.old + length self.old.items)) }
+        ensures refused { OnErr result
+            ((self.new ≡ self.old) × (bytes.new.items ≡ bytes.old.items)) }
+    {
+        let count = self.len();
+        bytes.extend_from_slice(self.as_slice())?;
+        self.advance(count);
+        Ok(count)
+    }
+}
+
+impl<L: Layout, B: Buffer<u8> + Drop, M: Drop, A: Allocator + Copy, H: Mark> SmallArcSlice<
+    Plain<u8>,
+    L,
+    B,
+    M,
+    A,
+    H,
+> {
+    /// Moves all bytes of the window behind those of the vector, and answers how many. The method
+    /// of `io::Read` with this name doesn't say where the window stands afterwards; this one does.
+    /// It adds no entry.
+    ///
+    /// # Errors
+    ///
+    /// One of kind `OutOfMemory` where the vector is refused memory. Nothing is changed then.
+    ///
+    /// # Allocates
+    ///
+    /// Once, where the vector has fewer places to spare than the window has bytes.
+    pub fn read_to_end<V: Allocator>(&mut self, bytes: &mut Vec<u8, V>) -> io::Result<usize>
+        ensures ok { IfOk result (λ n. n ≡ length self.old.items) }
+        ensures moved { OnOk result (bytes.new.items ≡ bytes.old.items ++ self.old.items) }
+        ensures window { OnOk result (self.new ≡ record {
+          items = [];
+          place = moved (length self.old.items) self.old.place;
+          role = self.old.role;
+        }) }
+        ensures err { IfErr result (λ e. (error_kind e ≡ ErrorKind.OutOfMemory)
+            × (vec_capacity bytes.old < vec_len bytes.old + length self.old.items)) }
+        ensures refused { OnErr result
+            ((self.new ≡ self.old) × (bytes.new.items ≡ bytes.old.items)) }
+    {
+        let count = self.len();
+        bytes.extend_from_slice(self.as_slice())?;
+        self.advance(count);
+        Ok(count)
     }
 }

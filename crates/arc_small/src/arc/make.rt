@@ -74,7 +74,8 @@ impl<
     where
         S: AnyItems,
         requires pass { IsPassOfNone pass.old }
-        ensures ok { IfOk result (λ window. MakesSmall L.STATIC S.DROPS H.whole array.entry window) }
+        ensures ok { IfOk result (λ window.
+            MakesSmall L.STATIC S.DROPS H.whole array.entry window) }
         ensures pass { IfOk result (λ window. Begins (window_of window) pass.old pass.new) }
         ensures refused { IfErr result (λ back. (back ≡ array.entry)
             × (inline_limit < length array.entry)
@@ -140,7 +141,8 @@ impl<
     where
         H: Stepping,
         S: AnyItems,
-        ensures ok { IfOk result (λ window. MakesSmall L.STATIC S.DROPS H.whole array.entry window) }
+        ensures ok { IfOk result (λ window.
+            MakesSmall L.STATIC S.DROPS H.whole array.entry window) }
         ensures pass { IfOk result (λ window.
             WithNewPass {M = M} {H = H} H.real nowhere (λ first last.
             Begins (window_of window) first last)) }

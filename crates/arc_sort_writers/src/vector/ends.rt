@@ -34,7 +34,8 @@ impl<S: Slice, B: Buffer<S::Item> + Drop, M: Drop, A: Allocator + Copy, H: Mark>
     /// The count, the vector, from where to before where of it the items are, and the allocator.
     #[inline(always)]
     pub(super) fn into_memory(self) -> VectorFields<S::Item, B, M, A, H>
-        ensures within { IsVectorWithin S.DROPS H.whole (sole_in result.0) result.1 result.2 result.3 }
+        ensures within { IsVectorWithin S.DROPS H.whole (sole_in result.0) result.1 result.2
+            result.3 }
         ensures parts { self ≡ vector_part S.DROPS (sole_in result.0) result.1 result.2 result.3 }
     {
         let SoleVector {

@@ -102,8 +102,8 @@ impl<
     /// owner, as many places further in as bytes were read, and as many places are spare. Does
     /// nothing: its contract is the law.
     pub fn known_after_reads(&self)
-        ensures place { (n : ℕ) (old : PartsView S.Item M) → kept_written self.now ≡ kept_written old
-            → n ≤ length old.items → self.now.items ≡ drop n old.items
+        ensures place { (n : ℕ) (old : PartsView S.Item M)
+            → kept_written self.now ≡ kept_written old → n ≤ length old.items → self.now.items ≡ drop n old.items
             → without_metadata self.now.place ≡ moved n (without_metadata old.place) }
         ensures spare { (old : PartsView S.Item M) → kept_written self.now ≡ kept_written old
             → spare_places self.now ≡ spare_places old }

@@ -1,6 +1,7 @@
 //! `io::Read` and `io::Write` of write windows over bytes.
 ghost use Rattle.std.specs.Prelude.{◌≡◌, ◌<◌, ◌≤◌, ◌++◌, min, length, drop, take, Ok, Some};
-ghost use Rattle.std.specs.Prelude.{IsOk, OnOk, IfErr};
+ghost use Rattle.std.specs.Prelude.{◌+◌, [], IsOk, OnOk, OnErr, IfOk, IfErr};
+ghost use Rattle.std.specs.Vec.{vec_capacity, vec_len};
 ghost use Rattle.std.specs.Io.{ReadsAtMost, WritesAtMost};
 ghost use Rattle.std.specs.Io.KnownBytes.{Appends, Consumes, Keeps, ReadConsumes, WriteAppends};
 ghost use Rattle.std.specs.IoError.{error_kind};
@@ -67,6 +68,41 @@ impl<
             return Err(io::Error::new(ErrorKind::UnexpectedEof, "failed to fill whole buffer"));
         }
         Ok(())
+    }
+}
+
+impl<
+    L: LayoutMut,
+    R: RoleOf<Plain<u8>, B, M, A, H>,
+    B: BufferMut<u8> + Drop,
+    M: Drop,
+    A: Allocator + Copy,
+    H: Mark,
+> WriteWindow<Plain<u8>, L, R, B, M, A, H> {
+    /// Moves all bytes of the window behind those of the vector, and answers how many. The method
+    /// of `io::Read` with this name doesn't say where the window stands afterwards; this one does.
+    /// It adds no entry.
+    ///
+    /// # Errors
+    ///
+    /// One of kind `OutOfMemory` where the vector is refused memory. Nothing is changed then.
+    ///
+    /// # Allocates
+    ///
+    /// Once, where the vector has fewer places to spare than the window has bytes.
+    pub fn read_to_end<V: Allocator>(&mut self, bytes: &mut Vec<u8, V>) -> io::Result<usize>
+        ensures ok { IfOk result (λ n. n ≡ length self.old.items) }
+        ensures moved { OnOk result (bytes.new.items ≡ bytes.old.items ++ self.old.items) }
+        ensures window { OnOk result (self.new ≡ after_advance (length self.old.items) self.old) }
+        ensures err { IfErr result (λ e. (error_kind e ≡ ErrorKind.OutOfMemory)
+            × (vec_capacity bytes.old < vec_len bytes.old + length self.old.items)) }
+        ensures refused { OnErr result
+            ((self.new ≡ self.old) × (bytes.new.items ≡ bytes.old.items)) }
+    {
+        let count = self.len();
+        bytes.extend_from_slice(self.as_slice())?;
+        self.advance(count);
+        Ok(count)
     }
 }
 

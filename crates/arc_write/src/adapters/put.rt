@@ -27,8 +27,8 @@ impl<
 where
     R::Parts: CopyWriterParts<S, B, M, A, H>,
 {
-    /// Appends the number's byte, where the window has a place for it. It makes no room, and adds no
-    /// entry.
+    /// Appends the number's byte, where the window has a place for it. It makes no room, and adds
+    /// no entry.
     ///
     /// # Errors
     ///
@@ -223,7 +223,7 @@ where
         ensures window { PutsWithin result (to_be_bytes w128 (cast_unsigned w128 number))
             self.old self.new }
     {
-        self.put_slice(&number.to_be_bytes())
+        self.put_u128(number.cast_unsigned())
     }
 
     /// Appends the number's sixteen bytes, the lowest first, where the window has places for them.
@@ -326,8 +326,8 @@ where
     /// `AllocError` where it has too few places; nothing is changed then.
     pub fn put_int(&mut self, number: i64, count: usize) -> Result<(), AllocError>
         requires { count ≤ 8 }
-        ensures window { PutsWithin result (drop (8 - count) (to_be_bytes w64 (cast_unsigned w64 number)))
-            self.old self.new }
+        ensures window { PutsWithin result
+            (drop (8 - count) (to_be_bytes w64 (cast_unsigned w64 number))) self.old self.new }
     {
         self.put_uint(number.cast_unsigned(), count)
     }

@@ -240,8 +240,8 @@ impl<
         Ok(())
     }
 
-    /// Once items were written behind its own (`with_more`), the window stands on the same block, as
-    /// the same owner. Does nothing: its contract is the law.
+    /// Once items were written behind its own (`with_more`), the window stands on the same block,
+    /// as the same owner. Does nothing: its contract is the law.
     pub fn known_after_writes(&self)
         ensures pass { (old : PartsView S.Item M) (items : List S.Item) (pass : Pass H)
             → self.now ≡ with_more items old → IsPassAt old.place pass

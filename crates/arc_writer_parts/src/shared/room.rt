@@ -3,7 +3,8 @@ ghost use Rattle.std.specs.Prelude.{◌≡◌, ◌≤◌, ◌<◌, ◌+◌, ◌-
 ghost use Rattle.std.specs.Mem.{type_size};
 ghost use Rattle.arc_block.specs.Table.{bare};
 ghost use Rattle.arc_parts.specs.Shared.{MakesSharedRoom, MakesRoomBeside, ReclaimsShared};
-ghost use Rattle.arc_parts.specs.Shared.{asks_alone, as_shared, extended, is_on_block, IsSharedPlace};
+ghost use Rattle.arc_parts.specs.Shared.{asks_alone, as_shared, extended, is_on_block};
+ghost use Rattle.arc_parts.specs.Shared.{IsSharedPlace};
 ghost use Rattle.arc_parts.specs.Steps.{IsPassAt};
 ghost use Rattle.arc_parts.specs.Window.{IsOfBuffer};
 ghost use Rattle.arc_parts.specs.Writers.{capacity_of, room_for};

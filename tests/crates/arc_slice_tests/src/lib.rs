@@ -9,6 +9,8 @@ mod limits;
 #[cfg(test)]
 mod lists;
 #[cfg(test)]
+mod read_out;
+#[cfg(test)]
 mod refused_in_turn;
 #[cfg(test)]
 mod windows;

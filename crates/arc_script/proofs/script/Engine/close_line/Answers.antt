@@ -15,7 +15,11 @@ returns-then-is_empty-clause-ok g c = λ w.
     let answered = c.in_ok-answer_in_place.ensures in
     reads_in_place w old c.answer_in_place.new.self c.args.bytes.now c.requires (
       none_held old.line.items
-          (omega (arith, old.line.ok.0, eqb-true _ _ (sym c.is_empty.ensures ∙ c.if-is_empty.true))),
+          (omega (
+            arith,
+            old.line.ok.0,
+            eqb-true _ _ (sym c.is_empty.ensures ∙ c.if-is_empty.true),
+          )),
       c.if-not-self.true,
     )
     answered.ok answered.line
@@ -27,7 +31,11 @@ returns-in_err-answer_in_place-clause-err g c =
     on_err c.from_residual.result (λ w.
     stops_in_place w old c.answer_in_place.new.self c.args.bytes.now c.requires (
       none_held old.line.items
-          (omega (arith, old.line.ok.0, eqb-true _ _ (sym c.is_empty.ensures ∙ c.if-is_empty.true))),
+          (omega (
+            arith,
+            old.line.ok.0,
+            eqb-true _ _ (sym c.is_empty.ensures ∙ c.if-is_empty.true),
+          )),
       c.if-not-self.true,
     )
     stopped.broken stopped.err)

@@ -21,5 +21,6 @@ pub returns-in-Some-clause-number : goal.returns-in-Some-clause-number
 returns-in-Some-clause-number g c =
     left-number c.args.self.now.of_blocks.items
     (slice_set c.args.self.now.of_blocks.items c.in-Some.number c.replace.new.dest)
-    c.replace.result c.args.block (taken g (goal.at.returns-in-Some-clause-number g c).After-replace)
+    c.replace.result c.args.block
+    (taken g (goal.at.returns-in-Some-clause-number g c).After-replace)
     c.requires

@@ -8,7 +8,9 @@ pub returns : goal.returns
 returns g c =
     let drops = g.S.Slice.DROPS in let whole = g.H.Mark.whole in
     let owner = sole_in c.self.inside.count in
-    let v = c.self.inside.items in let start = c.self.inside.start in let end = c.self.inside.end in (
+    let v = c.self.inside.items in
+    let start = c.self.inside.start in
+    let end = c.self.inside.end in (
       (
         refl,
         λ ws. lent_seen drops whole owner v start end ws c.args.self.now c.self.view_is

@@ -6,7 +6,8 @@ use Rattle.arc_write.proofs.Kept.{place_kept, spare_kept, owner_after, owner_bef
 use Rattle.arc_write.proofs.slice_mut.WriteWindow.known_after_reads.Goals as goal
 
 pub returns-clause-place : goal.returns-clause-place
-returns-clause-place g c = λ n old kept within rest. place_kept old c.args.self.now kept n within rest
+returns-clause-place g c = λ n old kept within rest.
+    place_kept old c.args.self.now kept n within rest
 
 pub returns-clause-spare : goal.returns-clause-spare
 returns-clause-spare g c = λ old kept. spare_kept old c.args.self.now kept
@@ -17,8 +18,10 @@ returns-clause-pass g c = λ old pass kept.
 
 pub returns-clause-left : goal.returns-clause-left
 returns-clause-left g c = λ old before after kept.
-    owner_before old c.args.self.now kept (after ≡ before) (λ o. (last : Bool) × Leaves o before after last)
+    owner_before old c.args.self.now kept (after ≡ before)
+    (λ o. (last : Bool) × Leaves o before after last)
 
 pub returns-clause-block : goal.returns-clause-block
 returns-clause-block g c = λ old other kept.
-    owner_after old c.args.self.now kept (Unit {0}) (λ o. at_owner other (Unit {0}) (λ its. o.block ≡ its.block))
+    owner_after old c.args.self.now kept (Unit {0})
+    (λ o. at_owner other (Unit {0}) (λ its. o.block ≡ its.block))

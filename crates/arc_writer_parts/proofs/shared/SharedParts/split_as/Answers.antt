@@ -16,10 +16,11 @@ returns-in-Ok-clause-made g c =
     let w = c.args.self in let p = c.args.pass.now in
     let seen = sym (ap shared_on c.in-Several.is) ∙ c.self.view_is in
     parts_split real whole (not (eqb g.row.FRONT_STAYS 0)) c.args.at v c.in-Ok.front c.in-Ok.back
-    c.staying_first-stays.result.0 c.staying_first-stays.result.1 w c.several.result c.several-in-Ok.result
-    p p c.try_split_as.new.pass (stays_to_split real whole v w p seen)
+    c.staying_first-stays.result.0 c.staying_first-stays.result.1 w c.several.result
+    c.several-in-Ok.result p p c.try_split_as.new.pass (stays_to_split real whole v w p seen)
     c.several.ensures c.several-in-Ok.ensures c.staying_first-stays.ensures.stays
-    c.staying_first-stays.ensures.leaves c.in-Ok.ensures.front c.in-Ok.ensures.back c.in-Ok.ensures.owners
+    c.staying_first-stays.ensures.leaves c.in-Ok.ensures.front c.in-Ok.ensures.back
+    c.in-Ok.ensures.owners
 
 pub returns-then-not-is_on_block-clause-made : goal.returns-then-not-is_on_block-clause-made
 returns-then-not-is_on_block-clause-made g c =

@@ -27,4 +27,5 @@ returns-in-Ok-try_split_as-clause-made g c =
     parts_split real whole stays c.args.at v front back c.staying_first-stays.result.0
     c.staying_first-stays.result.1 w c.leave_for.new.self c.several.result before between
     c.replace.new.dest stands c.leave_for.ensures.moved c.several.ensures
-    c.staying_first-stays.ensures.stays c.staying_first-stays.ensures.leaves split.front split.back owners
+    c.staying_first-stays.ensures.stays c.staying_first-stays.ensures.leaves split.front split.back
+    owners

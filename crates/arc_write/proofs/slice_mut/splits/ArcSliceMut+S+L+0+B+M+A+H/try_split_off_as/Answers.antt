@@ -39,7 +39,8 @@ invariant_of-self g c =
 pub returns-clause-made : goal.returns-clause-made
 returns-clause-made g c =
     let made-of : (old made : PartsView g.row.S-Item.Denot g.row.M.Denot) → Type 0 = λ old made.
-    SplitsWriterOff g.row.H.Denot g.H.Mark.real false g.H.Mark.whole c.args.at old c.try_split_as.new.self made
+    SplitsWriterOff g.row.H.Denot g.H.Mark.real false g.H.Mark.whole c.args.at
+    old c.try_split_as.new.self made
     c.args.pass.now c.try_split_as.new.pass in
     elim c.match-try_split_as.branch [
       | in-Ok w ↦ subst (λ r. IfOk r (made-of c.args.self.now)) (sym w.result-is)
