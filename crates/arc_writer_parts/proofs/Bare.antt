@@ -4,12 +4,14 @@ use Rattle.std.proofs.Common.{if◌then◌else◌, List, ◌++◌, length, Optio
 use Rattle.std.proofs.Common.{refl, sym, ap, ◌∙◌, subst}
 use Rattle.std.specs.Prelude.{Result, Ok, Err}
 use Rattle.std.specs.Option.{option_map}
+use Rattle.std.proofs.lemmas.Bool.{false≢true}
 use Rattle.arc_owners.specs.declared.error.TryReserveError.{TryReserveError}
 use Rattle.arc_owners.specs.declared.count.tokens.Pass.{Pass}
 use Rattle.arc_owners.specs.count.Calls.{Owner}
 use Rattle.arc_parts.specs.declared.room.Room.{Room}
 use Rattle.arc_parts.specs.declared.room.Room.TheVariants.{Spare, Fresh, Behind, Front}
 use Rattle.arc_parts.specs.declared.room.Room.TheVariants.{Growth, Own, Refused}
+use Rattle.arc_block.specs.Block.{BlockInfo}
 use Rattle.arc_block.specs.Given.{Given}
 use Rattle.arc_block.specs.Place.{Place, nowhere, static_data, on_block, at_front}
 use Rattle.arc_block.specs.Place.{bare_place, given_at, size_at, offset_at}
@@ -75,6 +77,34 @@ module _ {N B M : Type 0} where
   no_buffer_back nowhere none = none
   no_buffer_back static_data none = none
   no_buffer_back (on_block block offset info) none = none
+
+-- Where nothing was given, the bare place tells the whole one.
+module _ {N B M : Type 0} where
+  filled : Place N M → Place N (Given B M)
+  filled nowhere = nowhere
+  filled static_data = static_data
+  filled (on_block block offset info) = on_block block offset (record {
+    sort = info.sort;
+    size = info.size;
+    full = info.full;
+    given = None;
+  })
+
+  filled_bare : (place : Place N (Given B M)) → given_at place ≡ None
+      → filled (bare_place place) ≡ place
+  filled_bare nowhere none = refl
+  filled_bare static_data none = refl
+  filled_bare (on_block block offset info) none =
+      ap (λ given. on_block block offset (record info { given = given })) (sym none)
+
+  pub place_back : (old new : Place N (Given B M)) → given_at old ≡ None → given_at new ≡ None
+      → bare_place new ≡ bare_place old → new ≡ old
+  place_back old new was is same =
+      sym (filled_bare new is) ∙ ap filled same ∙ filled_bare old was
+
+-- a sole writer is none of several
+pub not_several : {P : Type 0} → false ≡ true → P
+not_several same = absurd (false≢true same)
 
 -- the count is asked of the same owner
 pub bare_asked : {B M H : Type 0} (place : Place (Option Owner) (Given B M))

@@ -10,7 +10,7 @@ ghost use Rattle.arc_block.specs.Given.{Given};
 ghost use Rattle.arc_block.specs.LayoutFacts.{layout_facts};
 ghost use Rattle.arc_block.specs.Metadata.{IsMetadataAt, IsOnCallers};
 ghost use Rattle.arc_block.specs.Moves.{IsRefused, layout_move};
-ghost use Rattle.arc_block.specs.Place.{at_owner, IsOnBlock, metadata_at, size_at};
+ghost use Rattle.arc_block.specs.Place.{at_owner, given_at, IsOnBlock, metadata_at, size_at};
 ghost use Rattle.arc_block.specs.Table.{bare, reader};
 ghost use Rattle.arc_parts.specs.Steps.{Begins, EndsAt, EndsShownAt, IsPassAt, Makes};
 ghost use Rattle.arc_parts.specs.Window.{IsBlockHeld, IsBoxWhole, IsHeld, IsVecPart, PartsView};
@@ -99,6 +99,10 @@ pub trait WriterParts<
         ensures items { (¬ IsOnBlock (seen self.now).place) → (seen self.now).items ≡ [] }
         ensures places { (¬ IsOnBlock (seen self.now).place)
             → capacity_of (seen self.now).role ≡ 0 };
+
+    /// No caller gave what one of several writers stands on. Does nothing: its contract is the law.
+    fn known_ungiven(&self)
+        ensures { several ≡ true → given_at (seen self.now).place ≡ None };
 
     /// How many items there are.
     fn len(&self) -> usize

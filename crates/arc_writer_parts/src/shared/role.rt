@@ -50,6 +50,13 @@ impl<S: Slice, B: BufferMut<S::Item> + Drop, M: Drop, A: Allocator + Copy, H: Ma
         }
     }
 
+    fn known_ungiven(&self) {
+        match &self.on {
+            SharedStorage::Several(_) => (),
+            SharedStorage::Alone(parts) => parts.known_memory(),
+        }
+    }
+
     #[inline(always)]
     fn len(&self) -> usize {
         match &self.on {

@@ -48,6 +48,11 @@ impl<S: Slice, B: BufferMut<S::Item> + Drop, M: Drop, A: Allocator + Copy, H: Ma
         let _ = self.is_on_block();
     }
 
+    #[tactic(auto, using(crate::proofs::Bare::not_several))]
+    fn known_ungiven(&self) {
+        let _ = &self.on;
+    }
+
     #[inline(always)]
     fn len(&self) -> usize {
         match &self.on {
