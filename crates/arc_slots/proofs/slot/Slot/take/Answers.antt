@@ -15,14 +15,16 @@ returns-in-Err-clause-answers g c next i =
     (untook _ next _ _ c.requires (c.is_read.ensures.reads c.if-is_read.true) i c.args.what _
     c.in-Err.ensures.refused)
 
-pub returns-in-Ok-try_take_written-clause-answers : goal.returns-in-Ok-try_take_written-clause-answers
+pub returns-in-Ok-try_take_written-clause-answers :
+    goal.returns-in-Ok-try_take_written-clause-answers
 returns-in-Ok-try_take_written-clause-answers g c next i =
     reply-same c.in-Ok-try_take_written.ensures.reply
     (took-sole _ next _ _ (sym c.is_written.ensures.answer ∙ c.if-not-is_written.false) i
     c.args.what (sym c.for_writers.ensures ∙ c.if-not-for_writers.false) _
     c.in-Ok-try_take_written.ensures.taken c.in-Ok-try_take_written.ensures.left)
 
-pub returns-in-Err-try_take_written-clause-answers : goal.returns-in-Err-try_take_written-clause-answers
+pub returns-in-Err-try_take_written-clause-answers :
+    goal.returns-in-Err-try_take_written-clause-answers
 returns-in-Err-try_take_written-clause-answers g c next i =
     window-same c.in-Err-try_take_written.ensures.back.0
     (after-same c.in-Err-try_take_written.ensures.back.1

@@ -157,8 +157,9 @@ returns-in-Some-other-clause-places g c =
 -- a command that makes a window takes nothing out, and nor does a join
 pub returns-clause-taken_places : goal.returns-clause-taken_places
 returns-clause-taken_places g c =
-    takes_nowhere (WrapsPlaces g.S.Items.Wraps.wraps) g.B.Buffer.places (row_at c.args.self.now.table)
-    c.args.command c.make-reply.result.0 (sym c.window.ensures ∙ c.in_default.is)
+    takes_nowhere (WrapsPlaces g.S.Items.Wraps.wraps) g.B.Buffer.places
+    (row_at c.args.self.now.table) c.args.command c.make-reply.result.0
+    (sym c.window.ensures ∙ c.in_default.is)
 
 pub returns-in-Some-other-clause-taken_places : goal.returns-in-Some-other-clause-taken_places
 returns-in-Some-other-clause-taken_places g c =

@@ -21,12 +21,6 @@ setting g =
     g.S.Slice.DROPS g.S.Subsliceable.boundary
     (type_size g.row.S-Item) g.S.Zero.ZeroOf.zero g.S.Calls.CallsOf.calls
 
--- one of its commands
-abbrev step_of : (g : Over) → _
-step_of g =
-    CarriesPlaces (setting g) (WrapsPlaces g.S.Items.Wraps.wraps) g.S.Commands.items_in
-    g.S.Commands.items_in_box g.S.Commands.static_in g.B.Buffer.list g.B.Buffer.places
-
 pub loop-command-preserved : goal.loop-command-preserved
 loop-command-preserved g c =
     let said_by = map_command g.S.Commands.items_in g.S.Commands.static_in g.B.Buffer.list in
@@ -50,9 +44,13 @@ loop-command-preserved g c =
           at.replies.items at.self command c.step.result c.step.new.self said.run
           c.step.ensures.carried);
       places =
-          subst (λ rs. RunOf (step_of g) c.args.self.now (at.yielded ++ command ∷ []) rs
+          subst (λ rs. RunOf (CarriesPlaces (setting g) (WrapsPlaces g.S.Items.Wraps.wraps)
+          g.S.Commands.items_in g.S.Commands.items_in_box g.S.Commands.static_in g.B.Buffer.list
+          g.B.Buffer.places) c.args.self.now (at.yielded ++ command ∷ []) rs
           c.step.new.self) (sym c.push_reserved.ensures.items)
-          (run_push (step_of g) c.args.self.now at.yielded at.replies.items at.self command
+          (run_push (CarriesPlaces (setting g) (WrapsPlaces g.S.Items.Wraps.wraps)
+          g.S.Commands.items_in g.S.Commands.items_in_box g.S.Commands.static_in g.B.Buffer.list
+          g.B.Buffer.places) c.args.self.now at.yielded at.replies.items at.self command
           c.step.result c.step.new.self said.places (record {
             carried = c.step.ensures.carried;
             brought = c.step.ensures.places;
@@ -86,4 +84,6 @@ returns-clause-places g c =
     (sym said.left ∙ c.in-None.ensures.steps.0) in
     let all : at.yielded ≡ c.args.commands.items =
     sym (append-nil at.yielded) ∙ rw none at said.commands in
-    subst (λ cs. RunOf (step_of g) c.args.self.now cs at.replies.items at.self) all said.places
+    subst (λ cs. RunOf (CarriesPlaces (setting g) (WrapsPlaces g.S.Items.Wraps.wraps)
+    g.S.Commands.items_in g.S.Commands.items_in_box g.S.Commands.static_in g.B.Buffer.list
+    g.B.Buffer.places) c.args.self.now cs at.replies.items at.self) all said.places
