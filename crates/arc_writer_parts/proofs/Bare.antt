@@ -80,7 +80,7 @@ module _ {N B M : Type 0} where
 
 -- Where nothing was given, the bare place tells the whole one.
 module _ {N B M : Type 0} where
-  filled : Place N M → Place N (Given B M)
+  abbrev filled : Place N M → Place N (Given B M)
   filled nowhere = nowhere
   filled static_data = static_data
   filled (on_block block offset info) = on_block block offset (record {
@@ -203,6 +203,19 @@ module _ {T B M : Type 0} where
       subst (λ room. Reclaims room (bare w) (bare v) found)
       (sym (bare_room drops size w additional))
       (reclaimed-bare (room_for drops size w additional) w v found made)
+
+  -- as an arm's parts had it
+  pub reclaimed_arm : (drops : Bool) (size additional : ℕ) (w v self new : PartsView T (Given B M))
+      (found reply : Bool) → w ≡ self → new ≡ v → reply ≡ found
+      → Reclaims (room_for drops size (bare w) additional) (bare w) (bare v) found
+      → Reclaims (room_for drops size (bare self) additional) (bare self) (bare new) reply
+  reclaimed_arm drops size additional w v self new found reply old now said made =
+      subst (λ (s : PartsView T (Given B M)).
+      Reclaims (room_for drops size (bare s) additional) (bare s) (bare new) reply) old
+      (subst (λ (s : PartsView T (Given B M)).
+      Reclaims (room_for drops size (bare w) additional) (bare w) (bare s) reply) (sym now)
+      (subst (λ b. Reclaims (room_for drops size (bare w) additional) (bare w) (bare v) b)
+      (sym said) made))
 
   pub held_reclaimed : (drops : Bool) (size additional : ℕ) (w v : PartsView T (Given B M))
       (found : Bool) → Reclaims (room_for drops size w additional) (bare w) (bare v) found

@@ -19,7 +19,6 @@ impl<S: Slice, B: BufferMut<S::Item> + Drop, M: Drop, A: Allocator + Copy, H: Ma
 > {
     /// Makes room for `additional` items more where that takes no memory, and answers whether there
     /// is room. A caller's buffer isn't asked for more.
-    #[tactic(auto, using(crate::proofs::Bare::bare_reclaimed, crate::proofs::Bare::held_reclaimed))]
     pub fn try_reclaim(&mut self, additional: usize) -> bool
         ensures { Reclaims (room_for S.DROPS (type_size S.Item.row) (bare self.old) additional)
             (bare self.old) (bare self.new) result }
