@@ -1,5 +1,5 @@
 //! An `Arc` of a caller's buffer that is a block by itself.
-ghost use Rattle.std.specs.Prelude.{◌≡◌, ◌≤◌, IfOk, Some, length};
+ghost use Rattle.std.specs.Prelude.{◌≡◌, ◌≤◌, IfOk, IfSome, IfNone, Some, None, length};
 ghost use Rattle.std.specs.Arc.{arc_value};
 ghost use Rattle.arc_buffer.specs.Slice.{sub};
 ghost use Rattle.arc_block.specs.Metadata.{IsOwnMetadata};
@@ -51,6 +51,15 @@ impl<T, B: Buffer<T> + Drop, M: Drop, A: Allocator> SharedBuffer<T, B, M, A> {
         ensures { B.list self.now.given.buffer ≡ self.now.items }
     {
         let _ = &self.shared;
+    }
+
+    /// `None`: there is no metadata.
+    pub(crate) fn metadata(&self) -> Option<&M>
+        ensures some { IfSome result (λ m. self.now.given.metadata ≡ Some m.now) }
+        ensures none { IfNone result (self.now.given.metadata ≡ None) }
+    {
+        let _ = &self.shared;
+        None
     }
 
     /// How many items there are.

@@ -2,7 +2,7 @@
 use Rattle.std.proofs.Common.{◌≡◌, ℕ, ◌+◌, ◌-◌, ◌≤◌, ◌==◌, nat_lt, Bool, true, false, not}
 use Rattle.std.proofs.Common.{if◌then◌else◌, List, ◌++◌, length, Option, Some, None}
 use Rattle.std.proofs.Common.{refl, sym, ap, ◌∙◌, subst}
-use Rattle.std.specs.Prelude.{Result, Ok, Err}
+use Rattle.std.specs.Prelude.{Result, Ok, Err, OnOk, IfErr}
 use Rattle.std.specs.Option.{option_map}
 use Rattle.std.proofs.lemmas.Bool.{false≢true}
 use Rattle.arc_owners.specs.declared.error.TryReserveError.{TryReserveError}
@@ -80,7 +80,7 @@ module _ {N B M : Type 0} where
 
 -- Where nothing was given, the bare place tells the whole one.
 module _ {N B M : Type 0} where
-  filled : Place N M → Place N (Given B M)
+  abbrev filled : Place N M → Place N (Given B M)
   filled nowhere = nowhere
   filled static_data = static_data
   filled (on_block block offset info) = on_block block offset (record {
@@ -204,6 +204,19 @@ module _ {T B M : Type 0} where
       (sym (bare_room drops size w additional))
       (reclaimed-bare (room_for drops size w additional) w v found made)
 
+  -- as an arm's parts had it
+  pub reclaimed_arm : (drops : Bool) (size additional : ℕ) (w v self new : PartsView T (Given B M))
+      (found reply : Bool) → w ≡ self → new ≡ v → reply ≡ found
+      → Reclaims (room_for drops size (bare w) additional) (bare w) (bare v) found
+      → Reclaims (room_for drops size (bare self) additional) (bare self) (bare new) reply
+  reclaimed_arm drops size additional w v self new found reply old now said made =
+      subst (λ (s : PartsView T (Given B M)).
+      Reclaims (room_for drops size (bare s) additional) (bare s) (bare new) reply) old
+      (subst (λ (s : PartsView T (Given B M)).
+      Reclaims (room_for drops size (bare w) additional) (bare w) (bare s) reply) (sym now)
+      (subst (λ b. Reclaims (room_for drops size (bare w) additional) (bare w) (bare v) b)
+      (sym said) made))
+
   pub held_reclaimed : (drops : Bool) (size additional : ℕ) (w v : PartsView T (Given B M))
       (found : Bool) → Reclaims (room_for drops size w additional) (bare w) (bare v) found
       → Reclaims (room_for drops size (bare w) additional) (bare w) (bare v) found
@@ -280,3 +293,53 @@ module _ {T B M H : Type 0} (drops one_pass : Bool) where
           made-bare (room_for drops size w additional) w made.0 before after (Ok tt) made.1,
           bare_more xs made.0 v made.2,
         )
+
+    -- The same by the reply: of items that were pushed, and of a list;
+    pub extend_bare : {E : Type 0} (xs : List T) (reply : Result (Unit {0}) E)
+        → OnOk reply (Pushes drops one_pass (room_for drops size w additional) xs w v before after)
+        → OnOk reply (Pushes drops one_pass (room_for drops size (bare w) additional) xs (bare w)
+        (bare v) before after)
+    extend_bare xs (Ok done) pushed = bare_pushed xs pushed
+    extend_bare xs (Err e) pushed = tt
+
+    pub extend_held : {E : Type 0} (xs : List T) (reply : Result (Unit {0}) E)
+        → OnOk reply (Pushes drops one_pass (room_for drops size w additional) xs (bare w)
+        (bare v) before after)
+        → OnOk reply (Pushes drops one_pass (room_for drops size (bare w) additional) xs (bare w)
+        (bare v) before after)
+    extend_held xs (Ok done) pushed = held_pushed xs pushed
+    extend_held xs (Err e) pushed = tt
+
+    -- and of those that were refused
+    pub refuse_bare : (reply : Result (Unit {0}) TryReserveError)
+        → IfErr reply (λ e. MakesRoom drops one_pass (room_for drops size w additional) w v
+        before after (Err e))
+        → IfErr reply (λ e. MakesRoom drops one_pass (room_for drops size (bare w) additional)
+        (bare w) (bare v) before after (Err e))
+    refuse_bare (Ok done) refused = tt
+    refuse_bare (Err e) refused = bare_made (Err e) refused
+
+    pub refuse_held : (reply : Result (Unit {0}) TryReserveError)
+        → IfErr reply (λ e. MakesRoom drops one_pass (room_for drops size w additional) (bare w)
+        (bare v) before after (Err e))
+        → IfErr reply (λ e. MakesRoom drops one_pass (room_for drops size (bare w) additional)
+        (bare w) (bare v) before after (Err e))
+    refuse_held (Ok done) refused = tt
+    refuse_held (Err e) refused = held_made (Err e) refused
+
+    -- with the item
+    pub back_bare : {X : Type 0} (x : X) (reply : Result (Unit {0}) (TryReserveError × X))
+        → IfErr reply (λ r. (r.1 ≡ x) × MakesRoom drops one_pass (room_for drops size w additional)
+        w v before after (Err r.0))
+        → IfErr reply (λ r. (r.1 ≡ x) × MakesRoom drops one_pass
+        (room_for drops size (bare w) additional) (bare w) (bare v) before after (Err r.0))
+    back_bare x (Ok done) refused = tt
+    back_bare x (Err r) refused = (refused.0, bare_made (Err r.0) refused.1)
+
+    pub back_held : {X : Type 0} (x : X) (reply : Result (Unit {0}) (TryReserveError × X))
+        → IfErr reply (λ r. (r.1 ≡ x) × MakesRoom drops one_pass (room_for drops size w additional)
+        (bare w) (bare v) before after (Err r.0))
+        → IfErr reply (λ r. (r.1 ≡ x) × MakesRoom drops one_pass
+        (room_for drops size (bare w) additional) (bare w) (bare v) before after (Err r.0))
+    back_held x (Ok done) refused = tt
+    back_held x (Err r) refused = (refused.0, held_made (Err r.0) refused.1)

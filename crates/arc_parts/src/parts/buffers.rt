@@ -160,6 +160,7 @@ impl<S: Slice, B: Buffer<S::Item> + Drop, M: Drop, A: Allocator + Copy, H: Mark>
     {
         match &self.on {
             Storage::Block(block) => block.metadata(),
+            Storage::Raw(shared) => shared.metadata(),
             _ => None,
         }
     }

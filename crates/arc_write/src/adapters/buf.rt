@@ -104,17 +104,19 @@ impl<
     /// nothing: its contract is the law.
     pub fn known_after_reads(&self)
         ensures place { (n : ℕ) (old : PartsView S.Item (Given B M))
-            → kept_written self.now ≡ kept_written old → n ≤ length old.items → self.now.items ≡ drop n old.items
+            → kept_written self.now ≡ kept_written old → n ≤ length old.items
+            → self.now.items ≡ drop n old.items
             → without_metadata self.now.place ≡ moved n (without_metadata old.place) }
-        ensures spare { (old : PartsView S.Item (Given B M)) → kept_written self.now ≡ kept_written old
-            → spare_places self.now ≡ spare_places old }
+        ensures spare { (old : PartsView S.Item (Given B M))
+            → kept_written self.now ≡ kept_written old → spare_places self.now ≡ spare_places old }
         ensures pass { (old : PartsView S.Item (Given B M)) (pass : Pass H)
             → kept_written self.now ≡ kept_written old
             → IsPassAt old.place pass → IsPassAt self.now.place pass }
         ensures left { (old : PartsView S.Item (Given B M)) (before after : Pass H)
             → kept_written self.now ≡ kept_written old
             → LeavesAt self.now.place before after → LeavesAt old.place before after }
-        ensures block { (old : PartsView S.Item (Given B M)) (other : Place (Option Owner) (Given B M))
+        ensures block { (old : PartsView S.Item (Given B M))
+            (other : Place (Option Owner) (Given B M))
             → kept_written self.now ≡ kept_written old
             → IsOneBlock old.place other → IsOneBlock self.now.place other }
     {}

@@ -55,8 +55,8 @@ impl<
             × PushesEach H H.real R.Parts.several S.DROPS H.whole (type_size S.Item.row)
             B.list B.places B.grows B.refuses xs self.old self.new) }
         ensures refused { IfErr result (λ r. (it : I.IntoIter) × (xs : List S.Item)
-            × (rest : I.IntoIter) × (last : PartsView S.Item (Given B M)) × I.into_iter_gives iter it
-            × YieldsThen I.IntoIter.next_gives it xs (Some r.1) rest
+            × (rest : I.IntoIter) × (last : PartsView S.Item (Given B M))
+            × I.into_iter_gives iter it × YieldsThen I.IntoIter.next_gives it xs (Some r.1) rest
             × PushesEach H H.real R.Parts.several S.DROPS H.whole (type_size S.Item.row)
             B.list B.places B.grows B.refuses xs self.old last
             × RefusesOne H H.real R.Parts.several S.DROPS H.whole (type_size S.Item.row)
@@ -116,8 +116,8 @@ impl<
         ensures runs { IfOk result (λ window. (it : I.IntoIter) × I.into_iter_gives iter it
             × WholeRun I.IntoIter.next_gives it (λ p. window.items ≡ p.items)) }
         ensures refused { IfErr result (λ r. (it : I.IntoIter) × (xs : List S.Item)
-            × (rest : I.IntoIter) × (last : PartsView S.Item (Given B M)) × I.into_iter_gives iter it
-            × YieldsThen I.IntoIter.next_gives it xs (Some r.2) rest
+            × (rest : I.IntoIter) × (last : PartsView S.Item (Given B M))
+            × I.into_iter_gives iter it × YieldsThen I.IntoIter.next_gives it xs (Some r.2) rest
             × PushesEach H H.real false S.DROPS H.whole (type_size S.Item.row) B.list B.places
             B.grows B.refuses xs idle_writer last
             × RefusesOne H H.real false S.DROPS H.whole (type_size S.Item.row) B.list B.places

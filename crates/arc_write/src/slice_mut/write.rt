@@ -254,9 +254,9 @@ impl<
         ensures pass { (old : PartsView S.Item (Given B M)) (items : List S.Item) (pass : Pass H)
             → bare self.now ≡ with_more items (bare old) → IsPassAt old.place pass
             → IsPassAt self.now.place pass }
-        ensures left { (old : PartsView S.Item (Given B M)) (items : List S.Item) (before after : Pass H)
-            → bare self.now ≡ with_more items (bare old) → LeavesAt self.now.place before after
-            → LeavesAt old.place before after }
+        ensures left { (old : PartsView S.Item (Given B M)) (items : List S.Item)
+            (before after : Pass H) → bare self.now ≡ with_more items (bare old)
+            → LeavesAt self.now.place before after → LeavesAt old.place before after }
         ensures block { (old : PartsView S.Item (Given B M)) (items : List S.Item)
             (other : Place (Option Owner) (Given B M)) → bare self.now ≡ with_more items (bare old)
             → IsOneBlock old.place other → IsOneBlock self.now.place other }

@@ -48,8 +48,8 @@ impl<S: Slice, B: BufferMut<S::Item> + Drop, M: Drop, A: Allocator + Copy, H: Ma
         }
     }
 
-    /// On nothing and on a vector there is nothing that a caller gave as a buffer. Does nothing: its
-    /// contract is the law.
+    /// On nothing and on a vector there is nothing that a caller gave as a buffer. Does nothing:
+    /// its contract is the law.
     pub(crate) fn known_memory(&self)
         requires { IsAlonePlace self.now.place }
         ensures { given_at self.now.place ≡ None }

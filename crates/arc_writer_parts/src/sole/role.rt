@@ -81,6 +81,7 @@ impl<S: Slice, B: BufferMut<S::Item> + Drop, M: Drop, A: Allocator + Copy, H: Ma
     }
 
     #[inline(always)]
+    #[tactic(auto, using(crate::proofs::Bare::ungiven_written))]
     fn as_mut_slice(&mut self) -> &mut [S::Item] {
         match &mut self.on {
             SoleStorage::Native(parts) => {
@@ -116,7 +117,7 @@ impl<S: Slice, B: BufferMut<S::Item> + Drop, M: Drop, A: Allocator + Copy, H: Ma
     }
 
     #[inline(always)]
-    #[tactic(auto, using(arc_sort_writers::proofs::Growth::never_asked))]
+    #[tactic(auto, using(arc_sort_writers::proofs::Growth::never_asked, crate::proofs::Bare::bare_made, crate::proofs::Bare::held_made))]
     fn try_reserve_as(
         &mut self,
         additional: usize,
@@ -135,7 +136,7 @@ impl<S: Slice, B: BufferMut<S::Item> + Drop, M: Drop, A: Allocator + Copy, H: Ma
     }
 
     #[inline(always)]
-    #[tactic(auto, using(arc_sort_writers::proofs::Growth::never_asked))]
+    #[tactic(auto, using(arc_sort_writers::proofs::Growth::never_asked, crate::proofs::Bare::extend_bare, crate::proofs::Bare::extend_held, crate::proofs::Bare::back_bare, crate::proofs::Bare::back_held))]
     fn try_push_as(
         &mut self,
         item: S::Item,
@@ -335,7 +336,7 @@ where
     S::Item: Copy,
 {
     #[inline(always)]
-    #[tactic(auto, using(arc_sort_writers::proofs::Growth::never_asked))]
+    #[tactic(auto, using(arc_sort_writers::proofs::Growth::never_asked, crate::proofs::Bare::extend_bare, crate::proofs::Bare::extend_held, crate::proofs::Bare::refuse_bare, crate::proofs::Bare::refuse_held))]
     fn try_extend_from_slice_as(
         &mut self,
         items: &[S::Item],
@@ -353,6 +354,7 @@ where
     }
 
     #[inline(always)]
+    #[tactic(auto, using(crate::proofs::Bare::bare_more))]
     fn extend_reserved(&mut self, items: &[S::Item]) {
         match &mut self.on {
             SoleStorage::Other(SoleOther::Buffer(parts)) => parts.extend_reserved(items),

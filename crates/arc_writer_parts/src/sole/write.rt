@@ -32,6 +32,7 @@ impl<S: Slice, B: BufferMut<S::Item> + Drop, M: Drop, A: Allocator + Copy, H: Ma
 
     /// Appends an item. There is a place for it.
     #[inline(always)]
+    #[tactic(auto, using(crate::proofs::Bare::bare_more))]
     pub(crate) fn push_reserved(&mut self, item: S::Item)
         requires { length self.old.items + 1 ≤ capacity_of self.old.role }
         ensures { bare self.new ≡ with_more (item ∷ []) (bare self.old) }

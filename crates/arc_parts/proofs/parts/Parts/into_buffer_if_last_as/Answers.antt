@@ -12,4 +12,4 @@ returns-in-Some-clause-itself g c =
     let drops = g.S.Slice.DROPS in
     buffer_kept list places drops _ _ _ c.args.self _ c.self.view_is c.in-Block.is _
     c.in-Some.content c.in-Some.ensures.content
-    ∙ ap (λ x. buffer_of (content_info list places drops x).given) c.into_buffer.ensures
+    ∙ ap (λ x. buffer_of (content_info list places drops x).given) c.into_buffer-buffer.ensures

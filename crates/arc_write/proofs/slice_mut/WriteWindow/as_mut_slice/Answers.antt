@@ -10,7 +10,8 @@ returns g c =
       (
         refl,
         λ items. lent_seen g.B.BufferMut.with_part (of.seen parts)
-            (of.seen (of.with_list parts items)) c.args.self.now items (g.met.R.Parts.WriterParts.keeps parts items) c.self.view_is,
+            (of.seen (of.with_list parts items)) c.args.self.now items
+            (g.met.R.Parts.WriterParts.keeps parts items) c.self.view_is,
       ),
       record {
         writes_back = tt;
