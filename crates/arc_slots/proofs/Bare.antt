@@ -530,3 +530,19 @@ module _ {T B M : Type 0} (drops : Bool) (items : List T) where
           (refused.asked (have-back what place can));
       unasked = λ none. refused.unasked (λ can. none (bare_have what place can));
     }
+
+-- ---- what calls of any window of a slot use
+
+pub ruleset cloned_windows = (pass_back, bare_shares, bare_refuses)
+
+pub ruleset cut_windows = (pass_back, bare_cut_shares, bare_cut_refuses)
+
+pub ruleset ended_windows = (pass_back, bare_leaves, bare_releases)
+
+pub ruleset frozen_windows = (
+  pass_back,
+  bare_freezes,
+  bare_writer,
+  bare_one_of_several,
+  bare_refused,
+)

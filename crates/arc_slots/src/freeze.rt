@@ -25,15 +25,7 @@ use arc_read::slice::ArcSlice;
 use std::alloc::Allocator;
 
 /// A window that is written, as one that is read: `try_freeze_as`.
-#[tactic(
-    auto,
-    using(
-        crate::proofs::Bare::pass_back,
-        crate::proofs::Bare::bare_freezes,
-        crate::proofs::Bare::bare_writer,
-        crate::proofs::Bare::bare_refused
-    )
-)]
+#[tactic(auto, using(crate::proofs::Bare::frozen_windows))]
 fn freeze_window<
     S: TableKind,
     L: Layout,

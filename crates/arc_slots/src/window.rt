@@ -78,14 +78,7 @@ where
 
 /// Another window with the same items, by `try_clone_as` of a reader's or of a small one.
 #[inline(always)]
-#[tactic(
-    auto,
-    using(
-        crate::proofs::Bare::pass_back,
-        crate::proofs::Bare::bare_shares,
-        crate::proofs::Bare::bare_refuses
-    )
-)]
+#[tactic(auto, using(crate::proofs::Bare::cloned_windows))]
 pub(crate) fn clone_window<
     S: TableKind,
     L: Layout,
@@ -132,14 +125,7 @@ where
 /// A window over the items from `start` to `end`, by `try_subslice_as` of a reader's or of a small
 /// one.
 #[inline(always)]
-#[tactic(
-    auto,
-    using(
-        crate::proofs::Bare::pass_back,
-        crate::proofs::Bare::bare_cut_shares,
-        crate::proofs::Bare::bare_cut_refuses
-    )
-)]
+#[tactic(auto, using(crate::proofs::Bare::cut_windows))]
 pub(crate) fn cut_window<
     S: TableKind,
     L: Layout,
@@ -189,14 +175,7 @@ where
 }
 
 /// Ends a window.
-#[tactic(
-    auto,
-    using(
-        crate::proofs::Bare::pass_back,
-        crate::proofs::Bare::bare_leaves,
-        crate::proofs::Bare::bare_releases
-    )
-)]
+#[tactic(auto, using(crate::proofs::Bare::ended_windows))]
 pub(crate) fn end_window<
     S: TableKind,
     L: Layout,
