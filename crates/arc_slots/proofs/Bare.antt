@@ -1,5 +1,5 @@
--- What is said of a window is said of it without the value of its block's buffer (`bare`), as a slot
--- is seen.
+-- What is said of a window is said of it without the value of its block's buffer (`bare`), as a
+-- slot is seen.
 use Rattle.std.proofs.Common.{◌≡◌, ℕ, ◌-◌, ◌==◌, ◌&&◌, Bool, true, false, if◌then◌else◌, List}
 use Rattle.std.proofs.Common.{length, Option, Some, None, refl, sym, ap, ◌∙◌, subst}
 use Rattle.std.specs.Prelude.{drop}

@@ -40,7 +40,8 @@ where
     L::Writable: LayoutMut,
     S::Small: SmallOf<S, L, M, A>,
     requires writes { is_writer (role_in (bare_held window)) ≡ true }
-    requires pass { IsPassAt (window_in (bare_small S.Small.seen) (bare_held window)).place pass.old }
+    requires pass { IsPassAt
+        (window_in (bare_small S.Small.seen) (bare_held window)).place pass.old }
     ensures frozen { IfOk result (λ made. Freezes (layout_facts L.Layout) S.DROPS true
         (parts_in (bare_small S.Small.seen) (bare_held window)) (parts_of (bare_window made))
         pass.old pass.new) }

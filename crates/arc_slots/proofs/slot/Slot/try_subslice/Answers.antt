@@ -47,8 +47,9 @@ returns-in-Err-clause-refused g c =
 
 made : (g : Over) (c : After-part_block g)
     → MadeBeside c.args.self.now (held (bare_small g.S.Small.SmallOf.seen)
-    (bare_held c.hold_window.result) c.part_block.result) (part_of g.L.Layout.STATIC (row_of c.args.self.now) c.args.start
-    c.args.end) c.args.passes.now.of_blocks.items c.give_back.new.self.of_blocks.items
+    (bare_held c.hold_window.result) c.part_block.result)
+    (part_of g.L.Layout.STATIC (row_of c.args.self.now) c.args.start c.args.end)
+    c.args.passes.now.of_blocks.items c.give_back.new.self.of_blocks.items
 made g c =
     let small = bare_small g.S.Small.SmallOf.seen in
     let made = as_held (bare_read c.in-Ok.window) in

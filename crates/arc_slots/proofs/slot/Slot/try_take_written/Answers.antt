@@ -17,7 +17,8 @@ use Rattle.arc_slots.proofs.slot.Slot.try_take_written.Goals as goal
 
 apart : (g : Over) (c : After-into_parts g)
     → TakenApart c.self.inside.block c.args.self c.in-Write.window.role
-    (bare c.into_parts.result) c.args.passes.now.of_blocks.items c.lend-pass.new.self.of_blocks.items c.lend-pass.result
+    (bare c.into_parts.result) c.args.passes.now.of_blocks.items
+    c.lend-pass.new.self.of_blocks.items c.lend-pass.result
 apart g c =
     let small = bare_small g.S.Small.SmallOf.seen in
     let h = bare_held c.self.inside.window in
