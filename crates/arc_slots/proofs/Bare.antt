@@ -47,6 +47,13 @@ At B M = Place (Option Owner) (Given B M)
 
 -- ---- a place
 
+-- one of several may write his block
+memory-writes : (sort : Sort) → IsMemory sort → IsWritable sort
+memory-writes native memory = tt
+memory-writes vector memory = tt
+memory-writes (buffer writable) memory = absurd memory
+memory-writes raw memory = absurd memory
+
 module _ {N B M : Type 0} where
   -- the metadata is what is seen of what was given
   pub bare_given : (place : Place N (Given B M))
@@ -100,12 +107,6 @@ module _ {N B M : Type 0} where
   bare_shared static_data there = there
   bare_shared (on_block None offset info) there = there
   bare_shared (on_block (Some owner) offset info) there = there
-
-  memory-writes : (sort : Sort) → IsMemory sort → IsWritable sort
-  memory-writes native memory = tt
-  memory-writes vector memory = tt
-  memory-writes (buffer writable) memory = absurd memory
-  memory-writes raw memory = absurd memory
 
   pub bare_one_of_several : (place : Place (Option N) (Given B M)) → IsSharedPlace place
       → IsWriterPlace (bare_place place)
@@ -248,20 +249,21 @@ module _ {B M H : Type 0} where
 
 -- ---- cuts and splits of a window that is read
 
-module _ {T B M H : Type 0} (has_static : Bool) (w : Window T (Given B M)) where
+module _ {T B M : Type 0} (has_static : Bool) (w : Window T (Given B M)) where
   bare-sub : (start end : ℕ) → bare_place (sub_place has_static w start end)
       ≡ sub_place has_static (bare_window w) start end
   bare-sub start end =
       bare-part (has_static && (length (sub w.items start end) == 0)) start w.place
 
-  pub bare_cut_shares : (start end : ℕ) (there : At B M) (p q : Pass H)
+  pub bare_cut_shares : {H : Type 0} (start end : ℕ) (there : At B M) (p q : Pass H)
       → Shares (sub_place has_static w start end) p q there
       → Shares (sub_place has_static (bare_window w) start end) p q (bare_place there)
   bare_cut_shares start end there p q made =
       subst (λ (place : Place (Option Owner) M). Shares place p q (bare_place there))
       (bare-sub start end) (bare_shares (sub_place has_static w start end) there p q made)
 
-  pub bare_cut_refuses : (wants : Sort → Bool) (start end : ℕ) (p q : Pass H) (e : OwnerError)
+  pub bare_cut_refuses : {H : Type 0} (wants : Sort → Bool) (start end : ℕ) (p q : Pass H)
+      (e : OwnerError)
       → Refuses wants (sub_place has_static w start end) p q e
       → Refuses wants (sub_place has_static (bare_window w) start end) p q e
   bare_cut_refuses wants start end p q e why =
@@ -274,7 +276,7 @@ module _ {T B M H : Type 0} (has_static : Bool) (w : Window T (Given B M)) where
       ap {B = Window T M} (λ place. record { items = sub w.items start end; place = place })
       (bare_moved start w.place)
 
-  module _ (p q : Pass H) where
+  module _ {H : Type 0} (p q : Pass H) where
     bare-shares-part : (start end : ℕ) (part : Window T (Given B M))
         → SharesPart has_static w start end p q part
         → SharesPart has_static (bare_window w) start end p q (bare_window part)
@@ -327,6 +329,16 @@ module _ {T B M H : Type 0} (has_static : Bool) (w : Window T (Given B M)) where
 
 -- ---- a writer becomes a reader, and a reader a writer
 
+-- what is made of a list
+module _ {T : Type 0} (B M : Type 0) where
+  bare-made : (has_static drops : Bool) (owner : Owner) (items : List T)
+      → bare_window {B = B} {M = M} (made_window has_static drops owner items)
+      ≡ made_window has_static drops owner items
+  bare-made has_static drops owner items =
+      let info : BlockInfo (Given B M) = native_facts drops (length items) in
+      ap {B = Window T M} (λ place. record { items = items; place = place })
+      (bare-part (has_static && (length items == 0)) 0 (on_block (Some owner) 0 info))
+
 module _ {T B M : Type 0} where
   bare-sole-at : (drops : Bool) (items : List T) (place : At B M)
       → bare (sole_at drops items place) ≡ sole_at drops items (bare_place place)
@@ -338,20 +350,12 @@ module _ {T B M : Type 0} where
       → v ≡ as_sole drops (parts_of w) → bare v ≡ as_sole drops (parts_of (bare_window w))
   bare_sole drops w v is = ap bare is ∙ bare-sole-at drops w.items w.place
 
-  bare-made : (has_static drops : Bool) (owner : Owner) (items : List T)
-      → bare_window {B = B} {M = M} (made_window has_static drops owner items)
-      ≡ made_window has_static drops owner items
-  bare-made has_static drops owner items =
-      let info : BlockInfo (Given B M) = native_facts drops (length items) in
-      ap {B = Window T M} (λ place. record { items = items; place = place })
-      (bare-part (has_static && (length items == 0)) 0 (on_block (Some owner) 0 info))
-
   bare-makes : (has_static drops one_pass : Bool) (items : List T) (w : Window T (Given B M))
       → Makes has_static drops one_pass items w
       → Makes has_static drops one_pass items (bare_window w)
   bare-makes has_static drops one_pass items w makes = record {
     owner = makes.owner;
-    made = ap bare_window makes.made ∙ bare-made has_static drops makes.owner items;
+    made = ap bare_window makes.made ∙ bare-made B M has_static drops makes.owner items;
     first =
         bare-owner (Unit {0}) (λ o. IsFirst MAX_OWNERS one_pass Counted o) w.place makes.first;
   }
