@@ -144,7 +144,7 @@ where
     ghost use Rattle.std.specs.Prelude.{◌≡◌, ◌<◌, ◌≤◌, ◌↔◌, length, Bool, false, None, Some};
     ghost use Rattle.std.specs.Prelude.{IfOk, IfErr, IsOk, take, drop, true, is_some, MatchOption};
     ghost use Rattle.arc_buffer.specs.Slice.{IsRange, IsEdge, sub, range_answer, edge_answer};
-    ghost use Rattle.arc_block.specs.Place.{metadata_at, part_place};
+    ghost use Rattle.arc_block.specs.Place.{given_at, part_place};
     ghost use Rattle.std.specs.Prelude.{IfSome};
     ghost use Rattle.arc_block.specs.Table.{reader};
     ghost use Rattle.arc_parts.specs.Shared.{is_on_block};
@@ -297,8 +297,8 @@ where
     /// The metadata that the block of the window, which is no small one, was made with, or `None`.
     pub fn metadata(&self) -> Option<&M>
         requires { is_small self.now.role ≡ false }
-        ensures some { IfSome result (λ m. metadata_at self.now.window.place ≡ Some m.now) }
-        ensures none { result ≡ None → metadata_at self.now.window.place ≡ None }
+        ensures some { IfSome result (λ m. given_at self.now.window.place ≡ Some m.now) }
+        ensures none { result ≡ None → given_at self.now.window.place ≡ None }
     {
         match &self.window {
             Held::Read(window) => window.metadata(),
