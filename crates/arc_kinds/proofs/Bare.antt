@@ -87,7 +87,7 @@ module _ {B M : Type 0} where
   place-if false place = refl
 
 -- a part of a window was made
-module _ {T B M H : Type 0} (has_static : Bool) (w : PartsView T (Given B M)) (start end : ℕ)
+module _ {T B M : Type 0} (has_static : Bool) (w : PartsView T (Given B M)) (start end : ℕ)
   where
     part-bare : bare_place (sub_place has_static (window_of w) start end)
         ≡ sub_place has_static (window_of (bare w)) start end
@@ -96,14 +96,16 @@ module _ {T B M H : Type 0} (has_static : Bool) (w : PartsView T (Given B M)) (s
         place-if none (moved start w.place)
         ∙ ap (λ place. if none then nowhere else place) (bare_moved start w.place)
 
-    pub bare_part_shares : (there : Place (Option Owner) (Given B M)) (old new : Pass H)
+    pub bare_part_shares : {H : Type 0} (there : Place (Option Owner) (Given B M))
+        (old new : Pass H)
         → Shares (sub_place has_static (window_of w) start end) old new there
         → Shares (sub_place has_static (window_of (bare w)) start end) old new (bare_place there)
     bare_part_shares there old new made =
         subst (λ place. Shares place old new (bare_place there)) part-bare
         (bare_shares (sub_place has_static (window_of w) start end) there old new made)
 
-    pub bare_part_refuses : (wants : Sort → Bool) (old new : Pass H) (e : OwnerError)
+    pub bare_part_refuses : {H : Type 0} (wants : Sort → Bool) (old new : Pass H)
+        (e : OwnerError)
         → Refuses wants (sub_place has_static (window_of w) start end) old new e
         → Refuses wants (sub_place has_static (window_of (bare w)) start end) old new e
     bare_part_refuses wants old new e refused =

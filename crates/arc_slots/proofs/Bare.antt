@@ -6,8 +6,7 @@ use Rattle.std.specs.Prelude.{drop}
 use Rattle.arc_owners.specs.history.Histories.{Counted}
 use Rattle.arc_owners.specs.declared.count.tokens.Pass.{Pass}
 use Rattle.arc_owners.specs.declared.error.OwnerError.{OwnerError}
-use Rattle.arc_owners.specs.count.Calls.{Owner, Asks, IsFirst, IsFreshPass, IsPassOf, IsPassOfNone}
-use Rattle.arc_owners.specs.count.Calls.{Leaves, TakesBlock}
+use Rattle.arc_owners.specs.count.Calls.{Owner, Asks, IsFirst, IsFreshPass, Leaves, TakesBlock}
 use Rattle.arc_owners.specs.count.Invariant.{BlockId, Line}
 use Rattle.arc_buffer.specs.Slice.{sub}
 use Rattle.arc_block.specs.declared.block.TheConstants.{MAX_OWNERS}
@@ -26,11 +25,12 @@ use Rattle.arc_parts.specs.Moves.{Moves}
 use Rattle.arc_parts.specs.Shared.{IsOneBlock, IsSharedPlace, LeavesAt, LeavesShown, LeavesVector}
 use Rattle.arc_parts.specs.Shared.{RefusesSplitAt, SplitsWriter, StandsToSplit, StandsToSplitAt}
 use Rattle.arc_parts.specs.Shared.{can_join, ends_at, is_vector_at}
-use Rattle.arc_parts.specs.Steps.{IsPassAt, Makes, Refuses, RefusesTaking, Shares, TakesAt}
+use Rattle.arc_parts.specs.Steps.{Makes, Refuses, RefusesTaking, Shares, TakesAt}
 use Rattle.arc_parts.specs.Window.{IsOfBuffer, PartsView, Window, made_window, parts_of, window_of}
 use Rattle.arc_parts.specs.Writers.{BecomesSoleAt, Freezes, IsWriterPlace, RefusesSoleAt}
 use Rattle.arc_parts.specs.Writers.{after_advance, as_reader, as_sole, capacity_of, sole_at}
 use Rattle.arc_parts.specs.Writers.{with_capacity}
+use Rattle.arc_kinds.proofs.Bare.{bare_refuses, bare_shares, owner_back, owner_bare, pass_back}
 use Rattle.arc_read.specs.Cuts.{SharesPart, SplitsOff, SplitsTo, cut_window, sub_place}
 use Rattle.arc_slots.specs.Several.{handed_places, kept_places}
 use Rattle.arc_slots.specs.Slots.{bare_window}
@@ -135,21 +135,6 @@ module _ {N B M : Type 0} where
 
 -- ---- who stands there
 
-module _ {B M : Type 0} (none : Type 0) (some : Owner → Type 0) where
-  pub bare-owner : (place : At B M) → at_owner place none some
-      → at_owner (bare_place place) none some
-  bare-owner nowhere has = has
-  bare-owner static_data has = has
-  bare-owner (on_block None offset info) has = has
-  bare-owner (on_block (Some owner) offset info) has = has
-
-  pub owner-back : (place : At B M) → at_owner (bare_place place) none some
-      → at_owner place none some
-  owner-back nowhere has = has
-  owner-back static_data has = has
-  owner-back (on_block None offset info) has = has
-  owner-back (on_block (Some owner) offset info) has = has
-
 -- two stand on one block
 pub bare_one_block : {B M : Type 0} (here there : At B M)
     → IsOneBlock (bare_place here) (bare_place there) → IsOneBlock here there
@@ -157,7 +142,7 @@ bare_one_block nowhere there one = tt
 bare_one_block static_data there one = tt
 bare_one_block (on_block None offset info) there one = tt
 bare_one_block (on_block (Some owner) offset info) there one =
-    owner-back (Unit {0}) (λ other. owner.block ≡ other.block) there one
+    owner_back (Unit {0}) (λ other. owner.block ≡ other.block) there one
 
 -- so the other's places can be put behind
 bare-ends : {N B M : Type 0} (places : ℕ) (here there : Place N (Given B M))
@@ -181,16 +166,11 @@ bare_joins w other =
 -- ---- what calls do to the pass of the block
 
 module _ {B M H : Type 0} where
-  pub pass_back : (place : At B M) (p : Pass H) → IsPassAt (bare_place place) p
-      → IsPassAt place p
-  pass_back place p pass =
-      owner-back (IsPassOfNone p) (λ o. IsPassOf o.block p) place pass
-
   -- an owner ended
   pub bare_leaves : (place : At B M) (p q : Pass H) → LeavesAt place p q
       → LeavesAt (bare_place place) p q
   bare_leaves place p q left =
-      bare-owner (q ≡ p) (λ o. (last : Bool) × Leaves o p q last) place left
+      owner_bare (q ≡ p) (λ o. (last : Bool) × Leaves o p q last) place left
 
   -- the only one
   pub bare_releases : (place : At B M) (p q : Pass H)
@@ -200,23 +180,7 @@ module _ {B M H : Type 0} where
   bare_releases (on_block None offset info) p q left = left
   bare_releases (on_block (Some o) offset info) p q left = (true, left)
 
-  -- another stands there
-  pub bare_shares : (place there : At B M) (p q : Pass H) → Shares place p q there
-      → Shares (bare_place place) p q (bare_place there)
-  bare_shares nowhere there p q made = (ap bare_place made.0, made.1)
-  bare_shares static_data there p q made = (ap bare_place made.0, made.1)
-  bare_shares (on_block None offset info) there p q made = (ap bare_place made.0, made.1)
-  bare_shares (on_block (Some o) offset info) there p q made =
-      (made.0, made.1, ap bare_place made.2)
-
-  -- or none does
-  pub bare_refuses : (wants : Sort → Bool) (place : At B M) (p q : Pass H) (e : OwnerError)
-      → Refuses wants place p q e → Refuses wants (bare_place place) p q e
-  bare_refuses wants nowhere p q e why = why
-  bare_refuses wants static_data p q e why = why
-  bare_refuses wants (on_block None offset info) p q e why = why
-  bare_refuses wants (on_block (Some o) offset info) p q e why = why
-
+  -- no split was made
   pub bare_split_refused : (place : At B M) (p q : Pass H) (e : OwnerError)
       → RefusesSplitAt place p q e → RefusesSplitAt (bare_place place) p q e
   bare_split_refused nowhere p q e why = why
@@ -357,7 +321,7 @@ module _ {T B M : Type 0} where
     owner = makes.owner;
     made = ap bare_window makes.made ∙ bare-made B M has_static drops makes.owner items;
     first =
-        bare-owner (Unit {0}) (λ o. IsFirst MAX_OWNERS one_pass Counted o) w.place makes.first;
+        owner_bare (Unit {0}) (λ o. IsFirst MAX_OWNERS one_pass Counted o) w.place makes.first;
   }
 
 module _ {T B M H : Type 0} (drops one_pass : Bool) where
@@ -380,14 +344,14 @@ module _ {T B M H : Type 0} (drops one_pass : Bool) where
     bare-moves to.HandedBack moves = absurd moves
     bare-moves to.NewEmpty moves = (
       bare-makes false drops one_pass w.items (window_of v) moves.0,
-      bare-owner (q ≡ p) (λ o. IsFreshPass o q) v.place moves.1,
+      owner_bare (q ≡ p) (λ o. IsFreshPass o q) v.place moves.1,
       moves.2,
     )
     bare-moves to.NewCount moves =
         (moves.0, bare-owned-row (Some moves.0) moves.1, moves.2, moves.3)
     bare-moves to.LeavesCount moves = (
       bare-owned-row None moves.0,
-      bare-owner ⊥ (λ o. (last : Bool) × Leaves o p q last) w.place moves.1,
+      owner_bare ⊥ (λ o. (last : Bool) × Leaves o p q last) w.place moves.1,
     )
 
   pub bare_freezes : (layout : LayoutFacts) (w : PartsView T (Given B M))
@@ -432,7 +396,7 @@ module _ {T B M : Type 0} (H : Type 0) (real : BlockId → ℕ → List Line →
       made = ap bare stands.made;
       first = stands.first;
       pass = stands.pass;
-      left = bare-owner ⊥ (λ o. LeavesShown H real o p) w.place stands.left;
+      left = owner_bare ⊥ (λ o. LeavesShown H real o p) w.place stands.left;
     }
     bare-stands-by (buffer writable) stands = absurd stands
     bare-stands-by raw stands = absurd stands
@@ -474,7 +438,7 @@ bare_leaves_vector drops one_pass w v p q new leaves = record {
   made = ap bare leaves.made;
   first = leaves.first;
   pass = leaves.pass;
-  ended = bare-owner ⊥ (λ o. (last : Bool) × Leaves o p q last) w.place leaves.ended;
+  ended = owner_bare ⊥ (λ o. (last : Bool) × Leaves o p q last) w.place leaves.ended;
 }
 
 -- ---- what is taken out
@@ -524,13 +488,13 @@ module _ {T B M : Type 0} (drops : Bool) (items : List T) where
 
   module _ {H : Type 0} (what : Taking) (place : At B M) (p q : Pass H) where
     pub bare_taken : TakesAt place p q → TakesAt (bare_place place) p q
-    bare_taken did = bare-owner (q ≡ p) (λ o. TakesBlock o p q) place did
+    bare_taken did = owner_bare (q ≡ p) (λ o. TakesBlock o p q) place did
 
     pub bare_not_taken : RefusesTaking (CanHave drops what items place) place p q
         → RefusesTaking (CanHave drops what items (bare_place place)) (bare_place place) p q
     bare_not_taken refused = record {
       asked = λ can.
-          bare-owner ⊥ (λ o. Asks o p q false) place
+          owner_bare ⊥ (λ o. Asks o p q false) place
           (refused.asked (have-back what place can));
       unasked = λ none. refused.unasked (λ can. none (bare_have what place can));
     }

@@ -48,7 +48,7 @@ module _ {T B M : Type 0} where
   abbrev pub bare_window : Window T (Given B M) → Window T M
   bare_window w = record { items = w.items; place = bare_place w.place }
 
-  -- the one that a slot holds
+  -- the one that a slot holds; small ones are seen so already
   abbrev pub bare_held : {K : Type 0} → AnyWindow T (Given B M) K → AnyWindow T M K
   bare_held (Read window) = Read (bare_window window)
   bare_held (Write window) = Write (bare window)
@@ -60,10 +60,6 @@ module _ {T B M : Type 0} where
       → ReadOnly (Window T M) K
   bare_read (read_only.Read window) = read_only.Read (bare_window window)
   bare_read (read_only.Small window) = read_only.Small window
-
-  -- the row of a small one, where it is seen as these parts
-  abbrev pub bare_small : {K : Type 0} → (K → PartsView T (Given B M)) → K → PartsView T M
-  bare_small small window = bare (small window)
 
 -- ---- as it is seen of a slot
 

@@ -47,15 +47,15 @@ where
 {
     ghost use Rattle.std.specs.Prelude.{◌≡◌, true};
     ghost use Rattle.arc_slots.specs.Stands.{is_numbered};
-    ghost use Rattle.arc_slots.specs.Slots.{SlotView, bare_held, bare_small, held, may_be_shared};
+    ghost use Rattle.arc_slots.specs.Slots.{SlotView, bare_held, held, may_be_shared};
     ghost use Rattle.arc_slots.specs.Slots.{role_fits, window_in};
 
     ghost Value = { SlotView S.Item M };
 
-    ghost view = { λ s. held (bare_small S.Small.seen) (bare_held s.window) s.block };
+    ghost view = { λ s. held S.Small.seen (bare_held s.window) s.block };
 
     ghost invariant = { λ s. (is_numbered s.block
-        (window_in (bare_small S.Small.seen) (bare_held s.window)).place ≡ true)
+        (window_in S.Small.seen (bare_held s.window)).place ≡ true)
         × (role_fits (bare_held s.window) ≡ true)
         × (may_be_shared S.SHARES (bare_held s.window) ≡ true) };
 }

@@ -6,7 +6,7 @@ ghost use Rattle.arc_block.specs.Place.{at_owner};
 ghost use Rattle.arc_parts.specs.Steps.{IsPassAt, Refuses, Shares};
 ghost use Rattle.arc_commands.specs.Blocks.{is_writer};
 ghost use Rattle.arc_read.specs.Cuts.{sub_place};
-ghost use Rattle.arc_slots.specs.Slots.{as_held, bare_held, bare_read, bare_small, role_fits};
+ghost use Rattle.arc_slots.specs.Slots.{as_held, bare_held, bare_read, role_fits};
 ghost use Rattle.arc_slots.specs.Slots.{role_in, window_in};
 
 use arc_block::layout::{Layout, LayoutMut};
@@ -95,18 +95,18 @@ where
     S::Small: SmallOf<S, L, M, A>,
     requires cuts { is_writer (role_in (bare_held window.now)) ≡ false }
     requires fits { role_fits (bare_held window.now) ≡ true }
-    requires pass { IsPassAt (window_in (bare_small S.Small.seen) (bare_held window.now)).place
+    requires pass { IsPassAt (window_in S.Small.seen (bare_held window.now)).place
         pass.old }
     ensures items { IfOk result (λ made.
-        (window_in (bare_small S.Small.seen) (as_held (bare_read made))).items
-        ≡ (window_in (bare_small S.Small.seen) (bare_held window.now)).items) }
+        (window_in S.Small.seen (as_held (bare_read made))).items
+        ≡ (window_in S.Small.seen (bare_held window.now)).items) }
     ensures role { IfOk result (λ made.
         role_in (as_held (bare_read made)) ≡ role_in (bare_held window.now)) }
     ensures place { IfOk result (λ made. Shares
-        (window_in (bare_small S.Small.seen) (bare_held window.now)).place pass.old pass.new
-        (window_in (bare_small S.Small.seen) (as_held (bare_read made))).place) }
+        (window_in S.Small.seen (bare_held window.now)).place pass.old pass.new
+        (window_in S.Small.seen (as_held (bare_read made))).place) }
     ensures refused { IfErr result (λ e. Refuses L.clone_wants
-        (window_in (bare_small S.Small.seen) (bare_held window.now)).place
+        (window_in S.Small.seen (bare_held window.now)).place
         pass.old pass.new e) }
 {
     match window {
@@ -145,20 +145,20 @@ where
     requires cuts { is_writer (role_in (bare_held window.now)) ≡ false }
     requires fits { role_fits (bare_held window.now) ≡ true }
     requires range { IsRange S.boundary
-        (window_in (bare_small S.Small.seen) (bare_held window.now)).items start end }
-    requires pass { IsPassAt (window_in (bare_small S.Small.seen) (bare_held window.now)).place
+        (window_in S.Small.seen (bare_held window.now)).items start end }
+    requires pass { IsPassAt (window_in S.Small.seen (bare_held window.now)).place
         pass.old }
     ensures items { IfOk result (λ made.
-        (window_in (bare_small S.Small.seen) (as_held (bare_read made))).items
-        ≡ sub (window_in (bare_small S.Small.seen) (bare_held window.now)).items start end) }
+        (window_in S.Small.seen (as_held (bare_read made))).items
+        ≡ sub (window_in S.Small.seen (bare_held window.now)).items start end) }
     ensures role { IfOk result (λ made.
         role_in (as_held (bare_read made)) ≡ role_in (bare_held window.now)) }
     ensures place { IfOk result (λ made. Shares (sub_place L.STATIC
-        (window_in (bare_small S.Small.seen) (bare_held window.now)) start end)
+        (window_in S.Small.seen (bare_held window.now)) start end)
         pass.old pass.new
-        (window_in (bare_small S.Small.seen) (as_held (bare_read made))).place) }
+        (window_in S.Small.seen (as_held (bare_read made))).place) }
     ensures refused { IfErr result (λ e. Refuses L.clone_wants (sub_place L.STATIC
-        (window_in (bare_small S.Small.seen) (bare_held window.now)) start end)
+        (window_in S.Small.seen (bare_held window.now)) start end)
         pass.old pass.new e) }
 {
     match window {
@@ -186,8 +186,8 @@ pub(crate) fn end_window<
 >(window: AnyWindow<S, L, K, B, M, A>, pass: &mut Pass<Whole>)
 where
     S::Small: SmallOf<S, L, M, A>,
-    requires { IsPassAt (window_in (bare_small S.Small.seen) (bare_held window)).place pass.old }
-    ensures { at_owner (window_in (bare_small S.Small.seen) (bare_held window)).place
+    requires { IsPassAt (window_in S.Small.seen (bare_held window)).place pass.old }
+    ensures { at_owner (window_in S.Small.seen (bare_held window)).place
         (pass.new ≡ pass.old) (λ o. (last : Bool) × Leaves o pass.old pass.new last) }
 {
     match window {

@@ -1,7 +1,7 @@
 -- The pass of the vector comes back to its place, and that of the new block behind the others.
 use Rattle.std.proofs.Common.{◌≡◌, ◌∙◌, true, false, refl, sym, ap, subst, Some}
 use Rattle.arc_block.specs.Table.{bare}
-use Rattle.arc_slots.specs.Slots.{SlotView, bare_held, bare_small, stand_of, window_in}
+use Rattle.arc_slots.specs.Slots.{SlotView, bare_held, stand_of, window_in}
 use Rattle.arc_slots.specs.Stands.{HasNumber, HasPassFor, IsAttested}
 use Rattle.arc_slots.specs.declared.window.Held.TheVariants.{Several}
 use Rattle.arc_slots.proofs.Bare.{bare_leaves_vector, bare_vector}
@@ -18,7 +18,7 @@ pub try_leave_vector_as-requires-clause-vector : goal.try_leave_vector_as-requir
 try_leave_vector_as-requires-clause-vector g c =
     let w = c.in-Several.window in
     sym (bare_vector w.place)
-    ∙ shared-vector (bare_small g.S.Small.SmallOf.seen) (bare_held c.self.inside.window) (bare w)
+    ∙ shared-vector g.S.Small.SmallOf.seen (bare_held c.self.inside.window) (bare w)
     c.self.inside.block (ap bare_held c.in-Several.is) c.args.self.now c.self.view_is
     c.self.invariant.0
     ∙ c.requires.vector
@@ -38,7 +38,7 @@ did g c =
     let v = c.try_leave_vector_as.new.window in
     let p = c.lend-pass.result in
     let q = c.try_leave_vector_as.new.pass in
-    left-vector (bare_small g.S.Small.SmallOf.seen) (bare_held c.self.inside.window) (bare w)
+    left-vector g.S.Small.SmallOf.seen (bare_held c.self.inside.window) (bare w)
     c.self.inside.block (ap bare_held c.in-Several.is) c.args.self.now c.self.view_is
     c.self.invariant.0
     c.args.passes.now.of_blocks.items c.lend-pass.new.self.of_blocks.items p
@@ -81,7 +81,7 @@ attest-requires g c =
     subst (λ ps. HasNumber ps c.self.inside.block)
     (sym (same-passes g (goal.at.attest-requires g c).After-give_back-in-Err))
     (has-number passes c.self.inside.block
-    (window_in (bare_small g.S.Small.SmallOf.seen) (bare_held c.self.inside.window)).place
+    (window_in g.S.Small.SmallOf.seen (bare_held c.self.inside.window)).place
     c.self.invariant.0
     (subst (λ s. HasPassFor passes (stand_of (Some s))) (sym c.self.view_is) c.requires.pass))
 

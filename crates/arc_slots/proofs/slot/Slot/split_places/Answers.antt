@@ -5,7 +5,7 @@ use Rattle.arc_block.specs.Table.{bare}
 use Rattle.arc_parts.specs.Shared.{SplitsWriter}
 use Rattle.arc_kinds.specs.Passes.{is_any}
 use Rattle.arc_slots.specs.Several.{handed_places, kept_places}
-use Rattle.arc_slots.specs.Slots.{bare_held, bare_small}
+use Rattle.arc_slots.specs.Slots.{bare_held}
 use Rattle.arc_slots.specs.declared.window.Held.TheVariants.{Several}
 use Rattle.arc_slots.proofs.Bare.{bare_split_refused, bare_splits_places}
 use Rattle.arc_slots.proofs.Parted.{kept-fits, made-fits, places-refused, splits-there}
@@ -17,7 +17,7 @@ use Rattle.arc_slots.proofs.slot.Slot.split_places.Goals as goal
 pub returns-in-Err-clause-refused : goal.returns-in-Err-clause-refused
 returns-in-Err-clause-refused g c =
     let w = c.in-Several.window in
-    places-refused (bare_small g.S.Small.SmallOf.seen) (bare_held c.self.inside.window) (bare w)
+    places-refused g.S.Small.SmallOf.seen (bare_held c.self.inside.window) (bare w)
     c.self.inside.block (ap bare_held c.in-Several.is) c.args.self.now c.self.view_is
     c.self.invariant.0
     c.args.passes.now.of_blocks.items c.lend-pass.new.self.of_blocks.items c.lend-pass.result
@@ -38,7 +38,7 @@ splits g c =
 
 pub returns-clause-made : goal.returns-clause-made
 returns-clause-made g c =
-    splits-there (bare_small g.S.Small.SmallOf.seen) (bare_held c.self.inside.window)
+    splits-there g.S.Small.SmallOf.seen (bare_held c.self.inside.window)
     (bare c.in-Several.window) c.self.inside.block (ap bare_held c.in-Several.is)
     c.args.self.now c.self.view_is c.self.invariant.0
     c.args.passes.now.of_blocks.items c.lend-pass.new.self.of_blocks.items c.lend-pass.result
@@ -52,7 +52,7 @@ invariant_of-self-2 g c =
     let h = bare_held c.self.inside.window in
     let w = bare c.in-Several.window in
     let fits =
-    kept-fits (bare_small g.S.Small.SmallOf.seen) h w c.self.inside.block
+    kept-fits g.S.Small.SmallOf.seen h w c.self.inside.block
     (ap bare_held c.in-Several.is) c.args.self.now c.self.view_is c.self.invariant.0
     c.args.passes.now.of_blocks.items c.lend-pass.new.self.of_blocks.items c.lend-pass.result
     c.requires.pass c.lend-pass.ensures.taken c.requires.there c.args.part
@@ -71,7 +71,7 @@ invariant_of-result g c =
     let h = bare_held c.self.inside.window in
     let w = bare c.in-Several.window in
     let fits =
-    made-fits (bare_small g.S.Small.SmallOf.seen) h w c.self.inside.block
+    made-fits g.S.Small.SmallOf.seen h w c.self.inside.block
     (ap bare_held c.in-Several.is) c.args.self.now c.self.view_is c.self.invariant.0
     c.args.passes.now.of_blocks.items c.lend-pass.new.self.of_blocks.items c.lend-pass.result
     c.requires.pass c.lend-pass.ensures.taken c.requires.there c.args.part

@@ -1,6 +1,6 @@
 -- What the clone adds to the pass that was lent for it, it adds to the passes.
 use Rattle.std.proofs.Common.{ap}
-use Rattle.arc_slots.specs.Slots.{as_held, bare_held, bare_read, bare_small, held, role_in, row_of}
+use Rattle.arc_slots.specs.Slots.{as_held, bare_held, bare_read, held, role_in, row_of}
 use Rattle.arc_slots.specs.Slots.{window_in}
 use Rattle.arc_slots.proofs.Cuts.{MadeBeside, clone-fits, clone-made, clone-refused, holds-made}
 use Rattle.arc_slots.proofs.Slots.{held-call}
@@ -10,7 +10,7 @@ use Rattle.arc_slots.proofs.slot.Slot.try_clone.Goals as goal
 
 pub invariant_of-result : goal.invariant_of-result
 invariant_of-result g c =
-    let small = bare_small g.S.Small.SmallOf.seen in
+    let small = g.S.Small.SmallOf.seen in
     let made = bare_read c.in-Ok.window in
     holds-made small g.S.TableKind.SHARES made c.self.inside.block
     (bare_held c.hold_window.result) c.hold_window.ensures
@@ -20,19 +20,19 @@ invariant_of-result g c =
 
 pub returns-in-Err-clause-refused : goal.returns-in-Err-clause-refused
 returns-in-Err-clause-refused g c =
-    clone-refused (held-call (bare_small g.S.Small.SmallOf.seen)
+    clone-refused (held-call g.S.Small.SmallOf.seen
     (bare_held c.self.inside.window) c.self.view_is
     c.self.invariant.0 c.requires.pass c.lend-pass.ensures.taken) c.clone_window-made.new.pass
     g.L.Layout.clone_wants c.in-Err.e c.in-Err.ensures.refused
     c.give_back.new.self.of_blocks.items c.give_back.ensures
 
 made : (g : Over) (c : After-hold_window g)
-    → MadeBeside c.args.self.now (held (bare_small g.S.Small.SmallOf.seen)
+    → MadeBeside c.args.self.now (held g.S.Small.SmallOf.seen
     (bare_held c.hold_window.result) c.self.inside.block) (row_of c.args.self.now)
     c.args.passes.now.of_blocks.items
     c.give_back.new.self.of_blocks.items
 made g c =
-    let small = bare_small g.S.Small.SmallOf.seen in
+    let small = g.S.Small.SmallOf.seen in
     let made = as_held (bare_read c.in-Ok.window) in
     clone-made (held-call small (bare_held c.self.inside.window) c.self.view_is c.self.invariant.0
     c.requires.pass c.lend-pass.ensures.taken) c.clone_window-made.new.pass

@@ -3,7 +3,7 @@ use Rattle.std.proofs.Common.{Some, true, length, ap, ◌∙◌}
 use Rattle.arc_block.specs.LayoutFacts.{layout_facts}
 use Rattle.arc_parts.specs.Window.{parts_of}
 use Rattle.arc_block.specs.Table.{bare}
-use Rattle.arc_slots.specs.Slots.{SlotView, bare_held, bare_small, bare_window, row_of, stand_of}
+use Rattle.arc_slots.specs.Slots.{SlotView, bare_held, bare_window, row_of, stand_of}
 use Rattle.arc_write.proofs.Moves.{writer_is_sole}
 use Rattle.arc_slots.proofs.Bare.{bare_becomes_sole, bare_refuses_sole, bare_sole}
 use Rattle.arc_slots.proofs.Native.{BecomesWritten, StaysRead, read-becomes, read-stays}
@@ -21,7 +21,7 @@ did g c =
     writer_is_sole (layout_facts g.L.Writable.Layout) g.S.Slice.DROPS true (parts_of w)
     c.in-Ok.window c.lend-pass.result c.try_into_mut_as-asked.new.pass c.in-Ok.ensures.sole in
     read-becomes
-    (read-call (bare_small g.S.Small.SmallOf.seen) (bare_held c.self.inside.window)
+    (read-call g.S.Small.SmallOf.seen (bare_held c.self.inside.window)
     (bare_window w) (ap bare_held c.in-Read.is) c.self.view_is
     c.self.invariant.0 c.requires.pass c.lend-pass.ensures.taken)
     c.try_into_mut_as-asked.new.pass c.give_back.new.self.of_blocks.items c.give_back.ensures
@@ -54,7 +54,7 @@ stays : (g : Over) (c : In-Err g)
 stays g c =
     let w = c.in-Read.window in
     read-stays
-    (read-call (bare_small g.S.Small.SmallOf.seen) (bare_held c.self.inside.window)
+    (read-call g.S.Small.SmallOf.seen (bare_held c.self.inside.window)
     (bare_window w) (ap bare_held c.in-Read.is) c.self.view_is
     c.self.invariant.0 c.requires.pass c.lend-pass.ensures.taken)
     c.try_into_mut_as-asked.new.pass c.give_back.new.self.of_blocks.items c.give_back.ensures

@@ -4,7 +4,7 @@ use Rattle.arc_parts.specs.Shared.{AsksAlone}
 use Rattle.arc_writer_parts.proofs.Bare.{bare_asked}
 use Rattle.std.proofs.Common.{Bool, Some, true, false, ap, ◌∙◌}
 use Rattle.arc_slots.specs.Several.{AsksAt}
-use Rattle.arc_slots.specs.Slots.{bare_held, bare_small, row_of, stand_of}
+use Rattle.arc_slots.specs.Slots.{bare_held, row_of, stand_of}
 use Rattle.arc_slots.specs.declared.window.Held.TheVariants.{Several}
 use Rattle.arc_slots.proofs.FilledBeside.{beside-asked}
 use Rattle.arc_slots.proofs.FilledBeside.{beside-seen}
@@ -16,7 +16,7 @@ use Rattle.arc_slots.proofs.slot.Slot.try_into_unique.Goals as goal
 
 pub returns-in-Ok-clause-row : goal.returns-in-Ok-clause-row
 returns-in-Ok-clause-row g c =
-    let small = bare_small g.S.Small.SmallOf.seen in
+    let small = g.S.Small.SmallOf.seen in
     let h = bare_held c.self.inside.window in
     let w = bare c.in-Several.window in
     let b = c.self.inside.block in
@@ -35,7 +35,7 @@ asked : (g : Over) (c : After-give_back g) (found : Bool)
     c.give_back.new.self.of_blocks.items found
 asked g c found asks =
     let w = c.in-Several.window in
-    beside-asked (bare_small g.S.Small.SmallOf.seen) (bare_held c.self.inside.window) (bare w)
+    beside-asked g.S.Small.SmallOf.seen (bare_held c.self.inside.window) (bare w)
     c.self.inside.block (ap bare_held c.in-Several.is) c.args.self c.self.view_is
     g.S.TableKind.SHARES c.self.invariant c.args.passes.now.of_blocks.items c.requires.pass
     c.lend-pass.new.self.of_blocks.items c.lend-pass.result c.try_into_unique_as-made.new.pass

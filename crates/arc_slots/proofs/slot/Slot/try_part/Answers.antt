@@ -3,7 +3,7 @@
 use Rattle.std.proofs.Common.{◌≡◌, ◌≤◌, true, false, length, refl, sym, ap, ◌∙◌, subst}
 use Rattle.std.proofs.lemmas.Bool.{false≢true}
 use Rattle.arc_slots.specs.Parts.{is_end, is_itself, split_at}
-use Rattle.arc_slots.specs.Slots.{SlotView, bare_held, bare_small, bare_window, row_of}
+use Rattle.arc_slots.specs.Slots.{SlotView, bare_held, bare_window, row_of}
 use Rattle.arc_slots.specs.Splits.{SplitsPart}
 use Rattle.arc_slots.proofs.Bare.{bare_part_refused, bare_splits}
 use Rattle.arc_slots.proofs.Slots.{ReadCall, read-call}
@@ -17,7 +17,7 @@ reads : (g : Over) (c : After-give_back g)
     → ReadCall (bare_window c.in-Read.window) c.self.inside.block c.args.self.now
     c.args.passes.now.of_blocks.items c.lend-pass.new.self.of_blocks.items c.lend-pass.result
 reads g c =
-    read-call (bare_small g.S.Small.SmallOf.seen) (bare_held c.self.inside.window)
+    read-call g.S.Small.SmallOf.seen (bare_held c.self.inside.window)
     (bare_window c.in-Read.window) (ap bare_held c.in-Read.is)
     c.self.view_is c.self.invariant.0 c.requires.pass c.lend-pass.ensures.taken
 

@@ -3,7 +3,7 @@
 use Rattle.std.proofs.Common.{false, refl, ap}
 use Rattle.std.specs.Mem.{type_size}
 use Rattle.arc_block.specs.Table.{bare}
-use Rattle.arc_slots.specs.Slots.{bare_held, bare_small}
+use Rattle.arc_slots.specs.Slots.{bare_held}
 use Rattle.arc_slots.proofs.FilledBeside.{SlotReclaimsBeside, slot-reclaims-beside}
 use Rattle.arc_slots.proofs.slot.Slot.try_reclaim_beside.Given.{Over}
 use Rattle.arc_slots.proofs.slot.Slot.try_reclaim_beside.Goals.{After-give_back}
@@ -15,7 +15,7 @@ did : (g : Over) (c : After-give_back g)
     c.args.passes.now.of_blocks.items c.give_back.new.self.of_blocks.items
     c.try_reclaim_as-found.result
 did g c =
-    slot-reclaims-beside (bare_small g.S.Small.SmallOf.seen) (bare_held c.self.inside.window)
+    slot-reclaims-beside g.S.Small.SmallOf.seen (bare_held c.self.inside.window)
     (bare c.in-Several.window) c.self.inside.block (ap bare_held c.in-Several.is)
     c.args.self.now c.self.view_is g.S.TableKind.SHARES
     c.self.invariant false refl (type_size g.row.S-Item) c.args.additional

@@ -4,7 +4,7 @@ use Rattle.std.specs.Prelude.{IfNone}
 use Rattle.arc_block.specs.Given.{Given}
 use Rattle.arc_block.specs.Table.{bare}
 use Rattle.arc_parts.specs.Window.{IsOfBuffer, PartsView}
-use Rattle.arc_slots.specs.Slots.{bare_held, bare_small, row_of}
+use Rattle.arc_slots.specs.Slots.{bare_held, row_of}
 use Rattle.arc_slots.specs.declared.window.Held.TheVariants.{Write}
 use Rattle.arc_writer_parts.proofs.Bare.{bare_no_buffer}
 use Rattle.arc_slots.proofs.Bare.{bare_of_buffer, bare_writer}
@@ -14,7 +14,7 @@ use Rattle.arc_slots.proofs.slot.Slot.try_share.Goals as goal
 
 pub returns-in-Some-clause-row : goal.returns-in-Some-clause-row
 returns-in-Some-clause-row g c =
-    let small = bare_small g.S.Small.SmallOf.seen in
+    let small = g.S.Small.SmallOf.seen in
     let b = c.self.inside.block in
     let w = bare c.in-Write.window in
     let h = bare_held c.self.inside.window in
@@ -26,7 +26,7 @@ returns-in-Some-clause-row g c =
 
 pub returns-in-Some-clause-may : goal.returns-in-Some-clause-may
 returns-in-Some-clause-may g c =
-    let small = bare_small g.S.Small.SmallOf.seen in
+    let small = g.S.Small.SmallOf.seen in
     let b = c.self.inside.block in
     let place = c.in-Write.window.place in
     let w = bare c.in-Write.window in
@@ -39,7 +39,7 @@ returns-in-Some-clause-may g c =
 
 pub returns-clause-may_not : goal.returns-clause-may_not
 returns-clause-may_not g c =
-    let small = bare_small g.S.Small.SmallOf.seen in
+    let small = g.S.Small.SmallOf.seen in
     let b = c.self.inside.block in
     let place = c.in-Write.window.place in
     let w = bare c.in-Write.window in

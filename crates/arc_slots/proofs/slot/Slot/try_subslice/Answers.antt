@@ -3,7 +3,7 @@ use Rattle.std.proofs.Common.{◌≡◌, ◌==◌, ◌&&◌, if◌then◌else◌
 use Rattle.arc_buffer.specs.Slice.{sub}
 use Rattle.arc_buffer.proofs.Sub.{length-sub}
 use Rattle.arc_commands.specs.Changes.{part_of}
-use Rattle.arc_slots.specs.Slots.{SlotView, as_held, bare_held, bare_read, bare_small, held}
+use Rattle.arc_slots.specs.Slots.{SlotView, as_held, bare_held, bare_read, held}
 use Rattle.arc_slots.specs.Slots.{role_in, row_of, window_in}
 use Rattle.arc_slots.proofs.Cuts.{MadeBeside, holds-made, sub-fits, sub-made, sub-refused}
 use Rattle.arc_slots.proofs.Slots.{held-call}
@@ -14,7 +14,7 @@ use Rattle.arc_slots.proofs.slot.Slot.try_subslice.Goals as goal
 -- the block of the part
 part-block : (g : Over) (c : After-part_block g)
     → c.part_block.result ≡ (if g.L.Layout.STATIC
-    && (length (sub (window_in (bare_small g.S.Small.SmallOf.seen)
+    && (length (sub (window_in g.S.Small.SmallOf.seen
     (bare_held c.self.inside.window)).items c.args.start
     c.args.end) == 0) then None else c.self.inside.block)
 part-block g c =
@@ -28,7 +28,7 @@ part-block g c =
 
 pub invariant_of-result : goal.invariant_of-result
 invariant_of-result g c =
-    let small = bare_small g.S.Small.SmallOf.seen in
+    let small = g.S.Small.SmallOf.seen in
     let made = bare_read c.in-Ok.window in
     holds-made small g.S.TableKind.SHARES made c.part_block.result
     (bare_held c.hold_window.result) c.hold_window.ensures
@@ -39,19 +39,19 @@ invariant_of-result g c =
 
 pub returns-in-Err-clause-refused : goal.returns-in-Err-clause-refused
 returns-in-Err-clause-refused g c =
-    sub-refused (held-call (bare_small g.S.Small.SmallOf.seen)
+    sub-refused (held-call g.S.Small.SmallOf.seen
     (bare_held c.self.inside.window) c.self.view_is
     c.self.invariant.0 c.requires.pass c.lend-pass.ensures.taken) c.cut_window-made.new.pass
     g.L.Layout.STATIC c.args.start c.args.end g.L.Layout.clone_wants c.in-Err.e
     c.in-Err.ensures.refused c.give_back.new.self.of_blocks.items c.give_back.ensures
 
 made : (g : Over) (c : After-part_block g)
-    → MadeBeside c.args.self.now (held (bare_small g.S.Small.SmallOf.seen)
+    → MadeBeside c.args.self.now (held g.S.Small.SmallOf.seen
     (bare_held c.hold_window.result) c.part_block.result)
     (part_of g.L.Layout.STATIC (row_of c.args.self.now) c.args.start c.args.end)
     c.args.passes.now.of_blocks.items c.give_back.new.self.of_blocks.items
 made g c =
-    let small = bare_small g.S.Small.SmallOf.seen in
+    let small = g.S.Small.SmallOf.seen in
     let made = as_held (bare_read c.in-Ok.window) in
     sub-made (held-call small (bare_held c.self.inside.window) c.self.view_is c.self.invariant.0
     c.requires.pass c.lend-pass.ensures.taken) c.cut_window-made.new.pass g.L.Layout.STATIC

@@ -2,8 +2,9 @@
 use Rattle.arc_block.specs.Table.{reader}
 use Rattle.std.proofs.Common.{sym, ap, ◌∙◌, subst}
 use Rattle.arc_block.specs.Table.{bare}
-use Rattle.arc_slots.specs.Slots.{bare_held, bare_small, bare_window}
-use Rattle.arc_slots.proofs.Bare.{bare_have, bare_not_taken, bare_size, bare_taken, pass_back}
+use Rattle.arc_slots.specs.Slots.{bare_held, bare_window}
+use Rattle.arc_kinds.proofs.Bare.{pass_back}
+use Rattle.arc_slots.proofs.Bare.{bare_have, bare_not_taken, bare_size, bare_taken}
 use Rattle.arc_slots.specs.Places.{HandsOutPlaces, WrapsPlaces}
 use Rattle.arc_slots.proofs.Takes.{TakenApart, apart-reader, parts-pass, parts-size}
 use Rattle.arc_slots.proofs.Takes.{slot-refuses, slot-takes}
@@ -15,7 +16,7 @@ apart : (g : Over) (c : After-into_parts g)
     → TakenApart c.self.inside.block c.args.self reader (bare c.into_parts.result)
     c.args.passes.now.of_blocks.items c.lend-pass.new.self.of_blocks.items c.lend-pass.result
 apart g c =
-    apart-reader (bare_small g.S.Small.SmallOf.seen) (bare_held c.self.inside.window)
+    apart-reader g.S.Small.SmallOf.seen (bare_held c.self.inside.window)
     (bare_window c.in-Read.window) (ap bare_held c.in-Read.is) c.self.view_is
     c.self.invariant.0 (ap bare c.into_parts.ensures.parts) c.requires.pass
     c.lend-pass.ensures.taken

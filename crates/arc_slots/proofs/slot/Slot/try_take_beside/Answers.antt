@@ -5,7 +5,7 @@ use Rattle.arc_slots.proofs.FilledBeside.{beside-seen}
 use Rattle.arc_slots.proofs.Slots.{fits-as}
 use Rattle.std.proofs.Common.{sym, ap, ◌∙◌}
 use Rattle.arc_block.specs.Table.{bare}
-use Rattle.arc_slots.specs.Slots.{bare_held, bare_small}
+use Rattle.arc_slots.specs.Slots.{bare_held}
 use Rattle.arc_slots.proofs.Bare.{bare_have, bare_not_taken, bare_size, bare_taken}
 use Rattle.arc_slots.proofs.Takes.{TakenApart, apart-writer, parts-size}
 use Rattle.arc_slots.proofs.Takes.{slot-refuses, slot-takes}
@@ -18,7 +18,7 @@ apart : (g : Over) (c : After-into_parts g)
     (bare c.into_parts.result) c.args.passes.now.of_blocks.items
     c.lend-pass.new.self.of_blocks.items c.lend-pass.result
 apart g c =
-    let small = bare_small g.S.Small.SmallOf.seen in
+    let small = g.S.Small.SmallOf.seen in
     let h = bare_held c.self.inside.window in
     let w = bare c.in-Several.window in
     let b = c.self.inside.block in

@@ -4,8 +4,9 @@ use Rattle.arc_owners.specs.count.Calls.{Leaves}
 use Rattle.arc_block.specs.Given.{Given}
 use Rattle.arc_block.specs.Table.{bare}
 use Rattle.arc_parts.specs.Window.{PartsView}
-use Rattle.arc_slots.specs.Slots.{bare_held, bare_small, writer_slot}
-use Rattle.arc_slots.proofs.Bare.{bare_have, bare_have_not, bare_size, bare-owner, pass_back}
+use Rattle.arc_slots.specs.Slots.{bare_held, writer_slot}
+use Rattle.arc_kinds.proofs.Bare.{owner_bare, pass_back}
+use Rattle.arc_slots.proofs.Bare.{bare_have, bare_have_not, bare_size}
 use Rattle.arc_slots.specs.declared.window.Held.TheVariants.{Write}
 use Rattle.arc_slots.proofs.Slots.{fits-as, held-as}
 use Rattle.arc_slots.specs.Places.{HandsOutPlaces, WrapsPlaces}
@@ -20,7 +21,7 @@ apart : (g : Over) (c : After-into_parts g)
     (bare c.into_parts.result) c.args.passes.now.of_blocks.items
     c.lend-pass.new.self.of_blocks.items c.lend-pass.result
 apart g c =
-    let small = bare_small g.S.Small.SmallOf.seen in
+    let small = g.S.Small.SmallOf.seen in
     let h = bare_held c.self.inside.window in
     let w = bare c.in-Write.window in
     let b = c.self.inside.block in
@@ -47,7 +48,7 @@ pub returns-in-Ok-clause-left : goal.returns-in-Ok-clause-left
 returns-in-Ok-clause-left g c =
     sole-leaves (apart g (goal.at.returns-in-Ok-clause-left g c).After-into_parts)
     c.try_sole_into_reply-taken.new.pass c.give_back.new.self.of_blocks.items c.give_back.ensures
-    (bare-owner ⊥ (λ o. Leaves o c.lend-pass.result c.try_sole_into_reply-taken.new.pass true)
+    (owner_bare ⊥ (λ o. Leaves o c.lend-pass.result c.try_sole_into_reply-taken.new.pass true)
     c.into_parts.result.place c.in-Ok.ensures.entry)
 
 pub returns-in-Err-clause-back : goal.returns-in-Err-clause-back
@@ -57,7 +58,7 @@ returns-in-Err-clause-back g c =
           writer_slot (bare w) b)
           (c.from_parts.ensures ∙ c.in-Err.ensures.back ∙ c.into_parts.ensures.parts)
           ∙ sym (held-as (bare_held c.self.inside.window) (Write (bare c.in-Write.window))
-          (ap bare_held c.in-Write.is) (bare_small g.S.Small.SmallOf.seen) b)
+          (ap bare_held c.in-Write.is) g.S.Small.SmallOf.seen b)
           ∙ c.self.view_is,
       sole-back (apart g (goal.at.returns-in-Err-clause-back g c).After-into_parts)
           c.try_sole_into_reply-taken.new.pass c.give_back.new.self.of_blocks.items

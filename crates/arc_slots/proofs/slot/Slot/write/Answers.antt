@@ -3,7 +3,7 @@ use Rattle.std.proofs.Common.{refl, ◌<◌, length, Ok, Err, sym, ap, ◌∙◌
 use Rattle.std.specs.Mem.{type_size}
 use Rattle.std.specs.Vec.{vec_capacity}
 use Rattle.arc_block.specs.Table.{bare}
-use Rattle.arc_slots.specs.Slots.{bare_held, bare_small, row_of}
+use Rattle.arc_slots.specs.Slots.{bare_held, row_of}
 use Rattle.arc_slots.specs.Writing.{additional_of, items_of, seen_writing}
 use Rattle.arc_slots.proofs.Filled.{SlotFills, fresh-by, room-for-pass, slot-fills, slot-unfilled}
 use Rattle.arc_slots.proofs.slot.Slot.write.Given.{Over}
@@ -14,7 +14,7 @@ pub keep-self-inside-requires-clause-room : goal.keep-self-inside-requires-claus
 keep-self-inside-requires-clause-room g c begins =
     let wants = fresh-by g.S.Slice.DROPS (type_size g.row.S-Item) (row_of c.args.self.now)
     c.additional.ensures c.wants_block-begins.ensures in
-    room-for-pass (bare_small g.S.Small.SmallOf.seen) (bare_held c.self.inside.window)
+    room-for-pass g.S.Small.SmallOf.seen (bare_held c.self.inside.window)
     (bare c.in-Write.window) c.self.inside.block (ap bare_held c.in-Write.is) c.args.self.now
     c.self.view_is (c.self.invariant.0, c.self.invariant.1) g.S.Slice.DROPS (type_size g.row.S-Item)
     (additional_of (seen_writing c.args.what)) (items_of (seen_writing c.args.what))
@@ -31,7 +31,7 @@ filled : (g : Over) (c : After-keep-self-inside g)
 filled g c =
     let wants = fresh-by g.S.Slice.DROPS (type_size g.row.S-Item) (row_of c.args.self.now)
     c.additional.ensures c.wants_block-begins.ensures in
-    slot-fills (bare_small g.S.Small.SmallOf.seen) (bare_held c.self.inside.window)
+    slot-fills g.S.Small.SmallOf.seen (bare_held c.self.inside.window)
     (bare c.in-Write.window) c.self.inside.block (ap bare_held c.in-Write.is) _ c.self.view_is
     (c.self.invariant.0, c.self.invariant.1) _ _ _ _ _ c.lend-pass.new.self.of_blocks.items
     c.lend-pass.result c.write_as.new.pass c.lend-pass.ensures.taken
@@ -45,7 +45,7 @@ unfilled : (g : Over) (c : After-give_back g)
     c.self.inside.block c.args.passes.now.of_blocks.items c.give_back.new.self.of_blocks.items
     (Err c.in-Err.e)
 unfilled g c =
-    slot-unfilled (bare_small g.S.Small.SmallOf.seen) (bare_held c.self.inside.window)
+    slot-unfilled g.S.Small.SmallOf.seen (bare_held c.self.inside.window)
     (bare c.in-Write.window) c.self.inside.block (ap bare_held c.in-Write.is) _ c.self.view_is
     (c.self.invariant.0, c.self.invariant.1) _ _ _ _ _ c.lend-pass.new.self.of_blocks.items
     c.lend-pass.result c.write_as.new.pass c.lend-pass.ensures.taken c.in-Err.e

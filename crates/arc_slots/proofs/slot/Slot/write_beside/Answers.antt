@@ -3,7 +3,7 @@ use Rattle.std.proofs.Common.{◌<◌, length, Ok, Err, sym, ap, ◌∙◌, subs
 use Rattle.std.specs.Mem.{type_size}
 use Rattle.std.specs.Vec.{vec_capacity}
 use Rattle.arc_block.specs.Table.{bare}
-use Rattle.arc_slots.specs.Slots.{bare_held, bare_small, row_of}
+use Rattle.arc_slots.specs.Slots.{bare_held, row_of}
 use Rattle.arc_slots.specs.Writing.{additional_of, items_of, seen_writing}
 use Rattle.arc_slots.proofs.Bare.{bare_shared}
 use Rattle.arc_slots.proofs.Filled.{fresh-by}
@@ -17,7 +17,7 @@ pub keep-self-inside-requires-clause-room : goal.keep-self-inside-requires-claus
 keep-self-inside-requires-clause-room g c begins =
     let wants = fresh-by g.S.Slice.DROPS (type_size g.row.S-Item) (row_of c.args.self.now)
     c.additional.ensures c.wants_block-begins.ensures in
-    beside-room (bare_small g.S.Small.SmallOf.seen) (bare_held c.self.inside.window)
+    beside-room g.S.Small.SmallOf.seen (bare_held c.self.inside.window)
     (bare c.in-Several.window) c.self.inside.block (ap bare_held c.in-Several.is)
     c.args.self.now c.self.view_is g.S.TableKind.SHARES
     c.self.invariant g.S.Slice.DROPS c.known_undropped.ensures (type_size g.row.S-Item)
@@ -35,7 +35,7 @@ filled : (g : Over) (c : After-keep-self-inside g)
 filled g c =
     let wants = fresh-by g.S.Slice.DROPS (type_size g.row.S-Item) (row_of c.args.self.now)
     c.additional.ensures c.wants_block-begins.ensures in
-    slot-fills-beside (bare_small g.S.Small.SmallOf.seen) (bare_held c.self.inside.window)
+    slot-fills-beside g.S.Small.SmallOf.seen (bare_held c.self.inside.window)
     (bare c.in-Several.window) c.self.inside.block (ap bare_held c.in-Several.is) _
     c.self.view_is _ c.self.invariant _ c.known_undropped.ensures _ _ _
     c.lend-pass.new.self.of_blocks.items c.lend-pass.result c.write_beside_as.new.pass
@@ -51,7 +51,7 @@ unfilled : (g : Over) (c : After-give_back g)
     c.args.self.now (bare c.write_beside_as.new.window) c.self.inside.block
     c.args.passes.now.of_blocks.items c.give_back.new.self.of_blocks.items (Err c.in-Err.e)
 unfilled g c =
-    slot-unfills-beside (bare_small g.S.Small.SmallOf.seen) (bare_held c.self.inside.window)
+    slot-unfills-beside g.S.Small.SmallOf.seen (bare_held c.self.inside.window)
     (bare c.in-Several.window) c.self.inside.block (ap bare_held c.in-Several.is) _
     c.self.view_is _ c.self.invariant _ c.known_undropped.ensures _ _ _
     c.lend-pass.new.self.of_blocks.items c.lend-pass.result c.write_beside_as.new.pass
