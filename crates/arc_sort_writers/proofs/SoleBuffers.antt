@@ -390,7 +390,7 @@ lent_held {T} {B} {M} {A} list places drops one_pass o content start end w view 
     end =
     (here.0, here.1, omega (arith, here.2, long), omega (arith, here.3, long, room), here.4) in (
       subst (λ c. block_part drops (held_in list places drops o (with_buffer c new)) start end
-          ≡ with_items w ws) (sym is) seen,
+          ≡ with_written with_part w ws) (sym is) seen,
       subst (λ c. IsBufferWithin one_pass (held_in list places drops o (with_buffer c new)) start
           end) (sym is) fits,
     )
