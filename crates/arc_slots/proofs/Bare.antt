@@ -22,15 +22,15 @@ use Rattle.arc_block.specs.Place.{given_at, metadata_at, moved, owned_by, size_a
 use Rattle.arc_block.specs.Table.{bare}
 use Rattle.arc_block.specs.Unique.{AsksUniqueAt}
 use Rattle.arc_parts.specs.Moves.{Moves}
-use Rattle.arc_parts.specs.Shared.{IsOneBlock, IsSharedPlace, LeavesAt, LeavesShown, LeavesVector}
+use Rattle.arc_parts.specs.Shared.{IsSharedPlace, LeavesAt, LeavesShown, LeavesVector}
 use Rattle.arc_parts.specs.Shared.{RefusesSplitAt, SplitsWriter, StandsToSplit, StandsToSplitAt}
-use Rattle.arc_parts.specs.Shared.{can_join, ends_at, is_vector_at}
+use Rattle.arc_parts.specs.Shared.{is_vector_at}
 use Rattle.arc_parts.specs.Steps.{Makes, Refuses, RefusesTaking, Shares, TakesAt}
 use Rattle.arc_parts.specs.Window.{IsOfBuffer, PartsView, Window, made_window, parts_of, window_of}
 use Rattle.arc_parts.specs.Writers.{BecomesSoleAt, Freezes, IsWriterPlace, RefusesSoleAt}
 use Rattle.arc_parts.specs.Writers.{after_advance, as_reader, as_sole, capacity_of, sole_at}
 use Rattle.arc_parts.specs.Writers.{with_capacity}
-use Rattle.arc_kinds.proofs.Bare.{bare_refuses, bare_shares, owner_back, owner_bare, pass_back}
+use Rattle.arc_kinds.proofs.Bare.{bare_refuses, bare_shares, owner_bare, pass_back}
 use Rattle.arc_read.specs.Cuts.{SharesPart, SplitsOff, SplitsTo, cut_window, sub_place}
 use Rattle.arc_slots.specs.Several.{handed_places, kept_places}
 use Rattle.arc_slots.specs.Slots.{bare_window}
@@ -132,36 +132,6 @@ module _ {N B M : Type 0} where
   bare-owned owner nowhere = refl
   bare-owned owner static_data = refl
   bare-owned owner (on_block old offset info) = refl
-
--- ---- who stands there
-
--- two stand on one block
-pub bare_one_block : {B M : Type 0} (here there : At B M)
-    → IsOneBlock (bare_place here) (bare_place there) → IsOneBlock here there
-bare_one_block nowhere there one = tt
-bare_one_block static_data there one = tt
-bare_one_block (on_block None offset info) there one = tt
-bare_one_block (on_block (Some owner) offset info) there one =
-    owner_back (Unit {0}) (λ other. owner.block ≡ other.block) there one
-
--- so the other's places can be put behind
-bare-ends : {N B M : Type 0} (places : ℕ) (here there : Place N (Given B M))
-    → ends_at places (bare_place here) (bare_place there) ≡ ends_at places here there
-bare-ends places nowhere nowhere = refl
-bare-ends places nowhere static_data = refl
-bare-ends places nowhere (on_block other start info) = refl
-bare-ends places static_data nowhere = refl
-bare-ends places static_data static_data = refl
-bare-ends places static_data (on_block other start info) = refl
-bare-ends places (on_block block offset info) nowhere = refl
-bare-ends places (on_block block offset info) static_data = refl
-bare-ends places (on_block block offset info) (on_block other start its_info) = refl
-
-pub bare_joins : {T B M : Type 0} (w other : PartsView T (Given B M))
-    → can_join (bare w) (bare other) ≡ can_join w other
-bare_joins w other =
-    ap (λ b. (length w.items == capacity_of w.role) && b)
-    (bare-ends (capacity_of w.role) w.place other.place)
 
 -- ---- what calls do to the pass of the block
 
