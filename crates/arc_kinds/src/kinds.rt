@@ -165,7 +165,8 @@ pub fn vec_of<S: Commands<A>, A: Allocator>(items: S::Items) -> Vec<S::Item, A>
 /// A vector that is taken back, of a legal list. Takes no memory.
 pub fn items_of<S: Commands<A>, A: Allocator>(items: Vec<S::Item, A>) -> S::Items
     requires { ∥ S.is_legal items.items ∥₁ }
-    ensures { S.items_in result ≡ items.items }
+    ensures list { S.items_in result ≡ items.items }
+    ensures wraps { S.Items.wraps result items }
 {
     S::Items::from_inner(items)
 }

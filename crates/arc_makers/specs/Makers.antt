@@ -1,7 +1,5 @@
 -- What becomes of a command that makes a window of what it brings.
 use Rattle.std.specs.Prelude.{◌≡◌, ◌≤◌, ℕ, List, Option, Some, IfSome, MatchOption, length}
-use Rattle.std.specs.Vec.{vec_capacity}
-use Rattle.std.specs.declared.vec.Vec.{Vec}
 use Rattle.arc_owners.specs.declared.mark.Whole.{Whole}
 use Rattle.arc_owners.specs.declared.count.tokens.Pass.{Pass}
 use Rattle.arc_commands.specs.Additions.{Founds}
@@ -27,11 +25,6 @@ pub record Makes {T M : Type 0} (setting : Setting T) (windows : ℕ) (c : ListC
       (r ≡ reply.Kind) (λ row. r ≡ reply.Alloc))
       (λ s. (row_by setting places (length before) c ≡ Some (row_of s)) × (r ≡ reply.New windows)
       × Founds (stand_of (Some s)) before after)
-
--- a list has so many places: as many as the vector that it wraps
-abbrev pub WrapsPlaces : {X T A : Type 0} → (X → Vec T A → Type 0) → X → ℕ → Type 0
-WrapsPlaces {X} {T} {A} wraps given places =
-    (inner : Vec T A) × wraps given inner × (vec_capacity inner ≡ places)
 
 module _ {C X F B M T : Type 0} (has : X → ℕ → Type 0) (list : X → List T) (items : B → List T)
     (places : B → ℕ) where

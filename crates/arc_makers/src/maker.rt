@@ -10,7 +10,8 @@ ghost use Rattle.std.specs.Arc.{arc_value};
 ghost use Rattle.arc_commands.specs.Changes.{made_row, vector_row, writer_row};
 ghost use Rattle.arc_commands.specs.Changes.{buffer_row, raw_row, written_buffer_row};
 ghost use Rattle.arc_commands.specs.declared.command.Cmd.TheVariants as command;
-ghost use Rattle.arc_makers.specs.Makers.{HasOwnPlaces, Makes, WrapsPlaces};
+ghost use Rattle.arc_makers.specs.Makers.{HasOwnPlaces, Makes};
+ghost use Rattle.arc_slots.specs.Places.{WrapsPlaces};
 ghost use Rattle.arc_slots.specs.Slots.{row_of, stand_of};
 
 use arc_block::layout::{Layout, LayoutMut, stands_on_nothing};

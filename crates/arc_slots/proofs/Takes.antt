@@ -1,19 +1,19 @@
 -- What a slot's window stands on, taken out by its parts.
-use Rattle.std.proofs.Common.{◌≡◌, ℕ, Bool, true, false, List, length, Option, Some, sym, ap, ◌∙◌}
-use Rattle.std.proofs.Common.{subst}
+use Rattle.std.proofs.Common.{◌≡◌, ℕ, Bool, true, false, List, length, Option, Some, None, refl}
+use Rattle.std.proofs.Common.{sym, ap, ◌∙◌, subst}
 use Rattle.std.proofs.lemmas.Bool.{cases_Bool}
 use Rattle.std.proofs.Common.{inl, inr}
 use Rattle.arc_owners.specs.declared.count.tokens.Pass.{Pass}
-use Rattle.arc_owners.specs.count.Calls.{Leaves}
+use Rattle.arc_owners.specs.count.Calls.{Leaves, Owner}
 use Rattle.arc_block.specs.Owned.{Stand}
-use Rattle.arc_block.specs.Place.{at_owner}
+use Rattle.arc_block.specs.Place.{Place, nowhere, static_data, on_block, at_owner, size_at}
 use Rattle.arc_parts.specs.Steps.{IsPassAt, TakesAt, RefusesTaking}
 use Rattle.arc_block.specs.Table.{Role, reader}
 use Rattle.arc_parts.specs.Window.{Window, PartsView, parts_of, window_of}
 use Rattle.arc_slots.specs.Calls.{Along, RefusesOut, TakesOut}
 use Rattle.arc_slots.specs.Slots.{AnyWindow, SlotView, held, row_of, stand_of, window_in}
 use Rattle.arc_slots.specs.Slots.{writer_slot}
-use Rattle.arc_slots.specs.Stands.{HasPassFor, TakenOut, is_numbered, put_back}
+use Rattle.arc_slots.specs.Stands.{HasPassFor, TakenOut, is_numbered, numbered, put_back}
 use Rattle.arc_slots.specs.Stands.{stand_at}
 use Rattle.arc_slots.specs.Taking.{CanHave, can_have}
 use Rattle.arc_slots.specs.declared.take.Taking.{Taking}
@@ -22,6 +22,14 @@ use Rattle.arc_slots.proofs.Have.{have-is, have-numbered, have-says}
 use Rattle.arc_slots.proofs.Native.{refuses-out, takes}
 use Rattle.arc_slots.proofs.Slots.{along, fits-as, held-as, window-pass}
 use Rattle.arc_slots.proofs.Taken.{back-same}
+
+-- the block of a place has as many places, by its number and by its owner
+size-numbered : {M : Type 0} (b : Option ℕ) (place : Place (Option Owner) M)
+    → size_at (numbered b place) ≡ size_at place
+size-numbered b nowhere = refl
+size-numbered b static_data = refl
+size-numbered b (on_block None offset info) = refl
+size-numbered b (on_block (Some o) offset info) = refl
 
 -- What a call finds that takes apart a slot's window of this role: its parts are those that the
 -- slot shows, on a block of the slot's number, and the pass of that was taken out of the passes.
@@ -69,6 +77,12 @@ module _ {T M H : Type 0} {b : Option ℕ} {s : SlotView T M} {role : Role} {q :
 
   pub parts-pass : IsPassAt q.place p
   parts-pass = window-pass passes left p b q.place t.fits parts-has t.took
+
+  -- the block of the parts has as many places as that of the row
+  pub parts-size : size_at q.place ≡ size_at (row_of s).place
+  parts-size =
+      sym (size-numbered b q.place)
+      ∙ ap (λ (v : SlotView T M). size_at (row_of v).place) t.view
 
   -- what is wanted of the place, by its block's number and by its owner
   module _ (drops : Bool) (what : Taking) where

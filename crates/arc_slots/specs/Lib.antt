@@ -8,4 +8,5 @@ pub mod Writing
 pub mod Several
 pub mod Answers
 pub mod Taking
+pub mod Places
 pub mod Turning

@@ -1,12 +1,14 @@
 //! A command on the window under one number of a table.
 ghost use Rattle.std.specs.Prelude.{◌≡◌, ℕ, None, Some, false, true, length, IfSome};
 ghost use Rattle.std.specs.Prelude.{Err, IfErr, IfOk, IsOk};
+ghost use Rattle.std.specs.Option.{option_map};
 ghost use Rattle.arc_commands.specs.Seen.{map_command, seen_reply};
 ghost use Rattle.arc_commands.specs.Changes.{Setting};
 ghost use Rattle.arc_commands.specs.declared.command.Cmd.TheVariants as command;
 ghost use Rattle.arc_commands.specs.declared.command.Reply.TheVariants as reply;
 ghost use Rattle.arc_slots.specs.Answers.{Answers};
-ghost use Rattle.arc_slots.specs.Slots.{stand_of};
+ghost use Rattle.arc_slots.specs.Places.{TakesPlaces, WrapsPlaces};
+ghost use Rattle.arc_slots.specs.Slots.{row_of, stand_of};
 ghost use Rattle.arc_slots.specs.Stands.{HasBlockPass, HasPassFor, LivesOn};
 ghost use Rattle.arc_slots.specs.Turning.{is_turning};
 
@@ -104,10 +106,12 @@ where
     S::Small: SmallOf<S, L, M, A>,
     requires turns { is_turning command ≡ true }
     requires pass { HasPassFor passes.old.of_blocks.items (stand_of (Some slot)) }
-    ensures { (next : ℕ) → Answers ⟦<S as TableUnder<L, A>>⟧.setting next
+    ensures answers { (next : ℕ) → Answers ⟦<S as TableUnder<L, A>>⟧.setting next
         (map_command S.items_in S.static_in B.list command) slot passes.old.of_blocks.items
         (seen_reply S.items_in S.items_in_box B.list result.0) result.1 None
         passes.new.of_blocks.items }
+    ensures places { TakesPlaces (WrapsPlaces S.Items.wraps) B.places (λ _. Some (row_of slot))
+        command result.0 }
 {
     match command {
         Cmd::Freeze { .. } => slot.freeze(passes),
@@ -236,6 +240,8 @@ where
         ⟦<S as TableUnder<L, A>>⟧.setting next (map_command S.items_in S.static_in B.list command) s
         passes.old.of_blocks.items (seen_reply S.items_in S.items_in_box B.list r) place.new None
         passes.new.of_blocks.items)) }
+    ensures places { IfErr result (λ r. TakesPlaces (WrapsPlaces S.Items.wraps) B.places
+        (λ _. option_map row_of place.old) command r) }
     ensures none { place.old ≡ None → (result ≡ Err reply.NoWindow) × (place.new ≡ None)
         × (passes.new.of_blocks.items ≡ passes.old.of_blocks.items) }
     ensures room { IsOk result → has_room ≡ true }

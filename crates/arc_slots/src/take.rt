@@ -1,10 +1,11 @@
 //! What a window stands on, taken out of a table.
 ghost use Rattle.std.specs.Prelude.{◌≡◌, true, IfOk, IfErr};
 ghost use Rattle.arc_owners.specs.count.Calls.{Leaves};
-ghost use Rattle.arc_block.specs.Place.{at_owner};
+ghost use Rattle.arc_block.specs.Place.{at_owner, size_at};
 ghost use Rattle.arc_parts.specs.Steps.{IsPassAt, RefusesTaking, TakesAt};
 ghost use Rattle.arc_block.specs.Table.{reader};
 ghost use Rattle.arc_commands.specs.Seen.{seen_reply};
+ghost use Rattle.arc_slots.specs.Places.{HandsOutPlaces, WrapsPlaces};
 ghost use Rattle.arc_slots.specs.Taking.{CanHave, is_writers, take_reply};
 
 use crate::passes::Passes;
@@ -70,6 +71,8 @@ fn try_into_reply<S: Commands<A>, B: BufferMut<S::Item> + Drop, M: Drop, A: Allo
     requires pass { IsPassAt parts.place pass.old }
     ensures reply { IfOk result (λ r. seen_reply S.items_in S.items_in_box B.list r
         ≡ take_reply what parts.items) }
+    ensures places { IfOk result (λ r. HandsOutPlaces (WrapsPlaces S.Items.wraps) B.places
+        (size_at parts.place) r) }
     ensures taken { IfOk result (λ _. CanHave S.DROPS what parts.items parts.place) }
     ensures entries { IfOk result (λ _. TakesAt parts.place pass.old pass.new) }
     ensures back { IfErr result (λ back. back ≡ parts) }
@@ -115,6 +118,8 @@ fn try_sole_into_reply<S: Commands<A>, B: BufferMut<S::Item> + Drop, M: Drop, A:
     requires pass { IsPassAt parts.place pass.old }
     ensures reply { IfOk result (λ r. seen_reply S.items_in S.items_in_box B.list r
         ≡ take_reply what parts.items) }
+    ensures places { IfOk result (λ r. HandsOutPlaces (WrapsPlaces S.Items.wraps) B.places
+        (size_at parts.place) r) }
     ensures taken { IfOk result (λ _. CanHave S.DROPS what parts.items parts.place) }
     ensures entry { IfOk result (λ _. at_owner parts.place ⊥ (λ o.
         Leaves o pass.old pass.new true)) }
@@ -173,6 +178,8 @@ where
         requires pass { HasPassFor passes.old.of_blocks.items (stand_of (Some self)) }
         ensures reply { IfOk result (λ r. seen_reply S.items_in S.items_in_box B.list r
             ≡ take_reply what self.window.items) }
+        ensures places { IfOk result (λ r. HandsOutPlaces (WrapsPlaces S.Items.wraps) B.places
+            (size_at (row_of self).place) r) }
         ensures taken { IfOk result (λ _. TakesOut
             (can_have S.DROPS what (row_of self).place (length self.window.items))
             (stand_of (Some self)) passes.old.of_blocks.items passes.new.of_blocks.items) }
@@ -219,6 +226,8 @@ where
         requires pass { HasPassFor passes.old.of_blocks.items (stand_of (Some self)) }
         ensures reply { IfOk result (λ r. seen_reply S.items_in S.items_in_box B.list r
             ≡ take_reply what self.window.items) }
+        ensures places { IfOk result (λ r. HandsOutPlaces (WrapsPlaces S.Items.wraps) B.places
+            (size_at (row_of self).place) r) }
         ensures taken { IfOk result (λ _. can_have S.DROPS what (row_of self).place
             (length self.window.items) ≡ true) }
         ensures left { IfOk result (λ _. Along (stand_of (Some self)) passes.old.of_blocks.items
@@ -262,6 +271,8 @@ where
         requires pass { HasPassFor passes.old.of_blocks.items (stand_of (Some self)) }
         ensures reply { IfOk result (λ r. seen_reply S.items_in S.items_in_box B.list r
             ≡ take_reply vector_of self.window.items) }
+        ensures places { IfOk result (λ r. HandsOutPlaces (WrapsPlaces S.Items.wraps) B.places
+            (size_at (row_of self).place) r) }
         ensures taken { IfOk result (λ _. TakesOut
             (can_have S.DROPS vector_of (row_of self).place (length self.window.items))
             (stand_of (Some self)) passes.old.of_blocks.items passes.new.of_blocks.items) }
@@ -328,7 +339,7 @@ where
     ghost use Rattle.arc_commands.specs.Blocks.{is_several};
     ghost use Rattle.arc_commands.specs.declared.command.Cmd.TheVariants as command;
     ghost use Rattle.arc_slots.specs.Answers.{Answers};
-    ghost use Rattle.arc_slots.specs.Slots.{stand_of};
+    ghost use Rattle.arc_slots.specs.Slots.{row_of, stand_of};
     ghost use Rattle.arc_slots.specs.Stands.{HasPassFor};
     ghost use Rattle.arc_slots.specs.Taking.{take_command};
 
@@ -358,10 +369,12 @@ where
     ) -> (TableReply<S, B, M, A>, Option<Self>)
         requires role { is_several self.role ≡ true }
         requires pass { HasPassFor passes.old.of_blocks.items (stand_of (Some self)) }
-        ensures { (next i : ℕ) → Answers ⟦<S as TableUnder<L, A>>⟧.setting next
+        ensures answers { (next i : ℕ) → Answers ⟦<S as TableUnder<L, A>>⟧.setting next
             (take_command i what) self passes.old.of_blocks.items
             (seen_reply S.items_in S.items_in_box B.list result.0) result.1 None
             passes.new.of_blocks.items }
+        ensures places { HandsOutPlaces (WrapsPlaces S.Items.wraps) B.places
+            (size_at (row_of self).place) result.0 }
     {
         match what {
             Taking::Vector => match self.try_take_beside(passes) {
@@ -380,10 +393,12 @@ where
         passes: &mut Passes<A>,
     ) -> (TableReply<S, B, M, A>, Option<Self>)
         requires { HasPassFor passes.old.of_blocks.items (stand_of (Some self)) }
-        ensures { (next i : ℕ) → Answers ⟦<S as TableUnder<L, A>>⟧.setting next
+        ensures answers { (next i : ℕ) → Answers ⟦<S as TableUnder<L, A>>⟧.setting next
             (take_command i what) self passes.old.of_blocks.items
             (seen_reply S.items_in S.items_in_box B.list result.0) result.1 None
             passes.new.of_blocks.items }
+        ensures places { HandsOutPlaces (WrapsPlaces S.Items.wraps) B.places
+            (size_at (row_of self).place) result.0 }
     {
         if self.is_read() {
             return match self.try_take(what, passes) {

@@ -87,7 +87,8 @@ where
     ghost use Rattle.arc_block.specs.declared.block.TheConstants.{MAX_OWNERS};
     ghost use Rattle.arc_block.specs.Owned.{IsKept};
     ghost use Rattle.arc_block.specs.Table.{row_at};
-    ghost use Rattle.arc_makers.specs.Makers.{HasOwnPlaces, WrapsPlaces};
+    ghost use Rattle.arc_makers.specs.Makers.{HasOwnPlaces};
+    ghost use Rattle.arc_slots.specs.Places.{TakesPlaces, WrapsPlaces};
     ghost use Rattle.arc_commands.specs.Changes.{no_shortage};
     ghost use Rattle.arc_commands.specs.Step.{Step, other_of, shortage, window_of};
     ghost use Rattle.arc_commands.specs.Seen.{map_command, seen_by, seen_reply};
@@ -115,7 +116,8 @@ where
     }
 
     /// Carries out one command, and answers its reply (`CarriesOut`). A window that is made of a
-    /// vector or a buffer has just the places that came in (`places`).
+    /// vector or a buffer has just the places that came in (`places`). A vector or a buffer that is
+    /// taken out has just those of the block on which its window stood (`taken_places`).
     ///
     /// # Errors
     ///
@@ -164,6 +166,8 @@ where
         ensures places { HasOwnPlaces (WrapsPlaces S.Items.wraps) S.items_in B.list B.places
             ⟦<S as TableUnder<L, A>>⟧.setting self.old.table.blocks command
             (row_at self.new.table (length self.old.table.rows)) }
+        ensures taken_places { TakesPlaces (WrapsPlaces S.Items.wraps) B.places
+            (row_at self.old.table) command result }
     {
         let reply = self.answer(rt, command);
         self.agree();
@@ -185,6 +189,8 @@ where
         ensures places { HasOwnPlaces (WrapsPlaces S.Items.wraps) S.items_in B.list B.places
             ⟦<S as TableUnder<L, A>>⟧.setting self.old.table.blocks command
             (row_at self.new.table (length self.old.table.rows)) }
+        ensures taken_places { TakesPlaces (WrapsPlaces S.Items.wraps) B.places
+            (row_at self.old.table) command result }
     {
         let reply = self.answer_here(rt, command);
         self.agree();
@@ -208,6 +214,8 @@ where
         ensures places { HasOwnPlaces (WrapsPlaces S.Items.wraps) S.items_in B.list B.places
             ⟦<S as TableUnder<L, A>>⟧.setting self.old.table.blocks command
             (row_at self.new.table (length self.old.table.rows)) }
+        ensures taken_places { TakesPlaces (WrapsPlaces S.Items.wraps) B.places
+            (row_at self.old.table) command result }
     {
         match command {
             Cmd::Drop { window } => self.release(window),
@@ -232,6 +240,8 @@ where
         ensures places { HasOwnPlaces (WrapsPlaces S.Items.wraps) S.items_in B.list B.places
             ⟦<S as TableUnder<L, A>>⟧.setting self.old.table.blocks command
             (row_at self.new.table (length self.old.table.rows)) }
+        ensures taken_places { TakesPlaces (WrapsPlaces S.Items.wraps) B.places
+            (row_at self.old.table) command result }
     {
         match command {
             Cmd::Len { window } => self.on_window(rt, window, Cmd::Len { window }),
@@ -267,6 +277,8 @@ where
         ensures places { HasOwnPlaces (WrapsPlaces S.Items.wraps) S.items_in B.list B.places
             ⟦<S as TableUnder<L, A>>⟧.setting self.old.table.blocks command
             (row_at self.new.table (length self.old.table.rows)) }
+        ensures taken_places { TakesPlaces (WrapsPlaces S.Items.wraps) B.places
+            (row_at self.old.table) command result }
     {
         if let Some(i) = command.window() {
             if let Some(j) = command.other() {
@@ -298,6 +310,8 @@ where
         ensures passes { Adds ⟦<S as TableUnder<L, A>>⟧.setting self.old.table self.old.standing
             (map_command S.items_in S.static_in B.list command)
             (seen_reply S.items_in S.items_in_box B.list result) self.new.standing }
+        ensures taken_places { TakesPlaces (WrapsPlaces S.Items.wraps) B.places
+            (row_at self.old.table) command result }
     {
         let has_room = self.slots.room_if(command.makes_beside());
         let may_end = command.may_end();

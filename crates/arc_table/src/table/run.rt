@@ -24,9 +24,12 @@ where
     ghost use Rattle.arc_commands.specs.RunOf.{RunOf};
     ghost use Rattle.arc_commands.specs.Seen.{map_command, seen_reply};
     ghost use Rattle.arc_commands.specs.State.{CarriesOut};
+    ghost use Rattle.arc_slots.specs.Places.{WrapsPlaces};
+    ghost use Rattle.arc_table.specs.Carries.{CarriesPlaces};
 
     /// Carries out the commands one after another, each as `step` does, and answers the reply to
-    /// each at its place.
+    /// each at its place. What comes in and what is taken out has the places that `step` says
+    /// (`places`).
     ///
     /// # Errors
     ///
@@ -52,6 +55,9 @@ where
             (map (map_command S.items_in S.static_in B.list) commands.items)
             (map (seen_reply S.items_in S.items_in_box B.list) replies.items)
             self.new) }
+        ensures places { IfOk result (λ replies. RunOf (CarriesPlaces
+            ⟦<S as TableUnder<L, A>>⟧.setting (WrapsPlaces S.Items.wraps) S.items_in S.items_in_box
+            S.static_in B.list B.places) self.old commands.items replies.items self.new) }
         ensures many { IfOk result (λ replies. vec_len replies ≡ vec_len commands) }
         ensures succeeds { vec_len commands ≡ 0 → IsOk result }
         ensures back { IfErr result (λ refused. refused.0 ≡ commands) }

@@ -1,5 +1,6 @@
 //! How many places a window has that a table makes of a vector or a caller's buffer: as many as
-//! came in. One of a vector without places stands on nothing.
+//! came in. One of a vector without places stands on nothing. What is taken out of a window has as
+//! many places as its block.
 use crate::tables::{ByteTable, Said, told};
 use arc_table::command::{Cmd, Reply};
 use arc_table::table::Table;
@@ -96,6 +97,45 @@ fn of_buffers(rt: HostRuntime) -> Result<(), Fail> {
         let wanted = [Said::New(0), Said::Number(places), Said::New(1)];
         let found = of_buffer(&rt, places, bytes)?;
         assert!(rt; found == (wanted, [Some(places); 2]));
+    }
+    Ok(())
+}
+
+/// What a table gives back of a window over such a vector, without its first byte, after so many
+/// turns: as it reads, as a sole writer's, as one of several writers'. How many bytes the vector
+/// has, and how many places.
+fn given_back(
+    rt: &(impl Wait + AllocGlobal),
+    turns: usize,
+    places: usize,
+    bytes: &[u8],
+) -> Result<Option<(usize, usize)>, AllocError> {
+    let items = with_places(rt.alloc(), places, bytes)?;
+    let mut table: ByteTable<_> = Table::new(rt.alloc());
+    let window = 0;
+    let _ = told(table.step(rt, Cmd::Vec(items)));
+    let _ = told(table.step(rt, Cmd::Adv { window, by: 1 }));
+    if turns > 0 {
+        let _ = told(table.step(rt, Cmd::Mut { window }));
+    }
+    if turns > 1 {
+        let _ = told(table.step(rt, Cmd::Share { window }));
+    }
+    let back = match table.step(rt, Cmd::Take { window }) {
+        Reply::Vec(items) => Some((items.len(), items.capacity())),
+        _ => None,
+    };
+    let _ = table.end();
+    Ok(back)
+}
+
+#[test]
+fn of_vectors_given_back(rt: HostRuntime) -> Result<(), Fail> {
+    for turns in 0..3 {
+        for (places, bytes) in [(2, b"ab".as_slice()), (5, b"ab".as_slice())] {
+            let found = given_back(&rt, turns, places, bytes)?;
+            assert!(rt; found == Some((1, places)));
+        }
     }
     Ok(())
 }

@@ -17,8 +17,8 @@ setting g =
     g.S.Slice.DROPS g.S.Subsliceable.boundary (type_size g.row.S-Item) g.S.Zero.ZeroOf.zero
     g.S.Calls.CallsOf.calls
 
-pub returns-in-Ok : goal.returns-in-Ok
-returns-in-Ok g c next i =
+pub returns-in-Ok-clause-answers : goal.returns-in-Ok-clause-answers
+returns-in-Ok-clause-answers g c next i =
     let s = c.args.self in
     let passes = c.args.passes.now.of_blocks.items in
     let after = c.try_take_beside.new.passes.of_blocks.items in
@@ -30,8 +30,8 @@ returns-in-Ok g c next i =
     (took-shared (setting g) next s passes c.requires.pass c.requires.role i after
     c.in-Ok.ensures.taken))
 
-pub returns-in-Err : goal.returns-in-Err
-returns-in-Err g c next i =
+pub returns-in-Err-clause-answers : goal.returns-in-Err-clause-answers
+returns-in-Err-clause-answers g c next i =
     let s = c.args.self in
     let passes = c.args.passes.now.of_blocks.items in
     let after = c.try_take_beside.new.passes.of_blocks.items in

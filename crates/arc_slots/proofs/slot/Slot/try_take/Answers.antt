@@ -1,6 +1,8 @@
 -- What is taken out by the pass that was lent for it is taken out of the table.
 use Rattle.arc_block.specs.Table.{reader}
-use Rattle.arc_slots.proofs.Takes.{TakenApart, apart-reader, parts-pass}
+use Rattle.std.proofs.Common.{subst}
+use Rattle.arc_slots.specs.Places.{HandsOutPlaces, WrapsPlaces}
+use Rattle.arc_slots.proofs.Takes.{TakenApart, apart-reader, parts-pass, parts-size}
 use Rattle.arc_slots.proofs.Takes.{slot-refuses, slot-takes}
 use Rattle.arc_slots.proofs.slot.Slot.try_take.Given.{Over}
 use Rattle.arc_slots.proofs.slot.Slot.try_take.Goals.{After-into_parts}
@@ -30,3 +32,11 @@ returns-in-Err-clause-refused g c =
     slot-refuses (apart g (goal.at.returns-in-Err-clause-refused g c).After-into_parts)
     g.S.Slice.DROPS c.args.what c.try_into_reply-taken.new.pass
     c.give_back.new.self.of_blocks.items c.give_back.ensures c.in-Err.ensures.refused
+
+-- what is taken out has as many places as the block of the row
+pub returns-in-Ok-clause-places : goal.returns-in-Ok-clause-places
+returns-in-Ok-clause-places g c =
+    subst (λ n. HandsOutPlaces (WrapsPlaces g.S.Items.Wraps.wraps) g.B.Buffer.places n
+    c.in-Ok.reply)
+    (parts-size (apart g (goal.at.returns-in-Ok-clause-places g c).After-into_parts))
+    c.in-Ok.ensures.places

@@ -3,7 +3,8 @@ use Rattle.arc_slots.specs.declared.take.Taking.TheVariants.{Vector}
 use Rattle.arc_slots.specs.declared.window.Held.TheVariants.{Several}
 use Rattle.arc_slots.proofs.FilledBeside.{beside-seen}
 use Rattle.arc_slots.proofs.Slots.{fits-as}
-use Rattle.arc_slots.proofs.Takes.{TakenApart, apart-writer}
+use Rattle.std.proofs.Common.{◌∙◌}
+use Rattle.arc_slots.proofs.Takes.{TakenApart, apart-writer, parts-size}
 use Rattle.arc_slots.proofs.Takes.{slot-refuses, slot-takes}
 use Rattle.arc_slots.proofs.slot.Slot.try_take_beside.Given.{Over}
 use Rattle.arc_slots.proofs.slot.Slot.try_take_beside.Goals.{After-into_parts}
@@ -34,3 +35,12 @@ returns-in-Err-clause-refused g c =
     slot-refuses (apart g (goal.at.returns-in-Err-clause-refused g c).After-into_parts)
     g.S.Slice.DROPS Vector c.try_into_vec_as-taken.new.pass c.give_back.new.self.of_blocks.items
     c.give_back.ensures c.in-Err.ensures.refused.1
+
+-- the vector has as many places as the block of the row
+pub returns-in-Ok-clause-places : goal.returns-in-Ok-clause-places
+returns-in-Ok-clause-places g c = (
+  c.in-Ok.items,
+  c.items_of.ensures.wraps,
+  c.in-Ok.ensures.taken.2
+      ∙ parts-size (apart g (goal.at.returns-in-Ok-clause-places g c).After-into_parts),
+)

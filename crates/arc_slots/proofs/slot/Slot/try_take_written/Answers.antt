@@ -1,10 +1,11 @@
 -- What is taken out by the pass that was lent for it is taken out of the table.
-use Rattle.std.proofs.Common.{sym, ap, ◌∙◌}
+use Rattle.std.proofs.Common.{sym, ap, ◌∙◌, subst}
 use Rattle.arc_parts.specs.Window.{PartsView}
 use Rattle.arc_slots.specs.Slots.{writer_slot}
 use Rattle.arc_slots.specs.declared.window.Held.TheVariants.{Write}
 use Rattle.arc_slots.proofs.Slots.{fits-as, held-as}
-use Rattle.arc_slots.proofs.Takes.{TakenApart, apart-writer, parts-pass, sole-back}
+use Rattle.arc_slots.specs.Places.{HandsOutPlaces, WrapsPlaces}
+use Rattle.arc_slots.proofs.Takes.{TakenApart, apart-writer, parts-pass, parts-size, sole-back}
 use Rattle.arc_slots.proofs.Takes.{sole-leaves, sole-unwanted, sole-wanted}
 use Rattle.arc_slots.proofs.slot.Slot.try_take_written.Given.{Over}
 use Rattle.arc_slots.proofs.slot.Slot.try_take_written.Goals.{After-into_parts}
@@ -56,3 +57,11 @@ pub returns-in-Err-clause-refused : goal.returns-in-Err-clause-refused
 returns-in-Err-clause-refused g c =
     sole-unwanted (apart g (goal.at.returns-in-Err-clause-refused g c).After-into_parts)
     g.S.Slice.DROPS c.args.what c.in-Err.ensures.refused.0
+
+-- what is taken out has as many places as the block of the row
+pub returns-in-Ok-clause-places : goal.returns-in-Ok-clause-places
+returns-in-Ok-clause-places g c =
+    subst (λ n. HandsOutPlaces (WrapsPlaces g.S.Items.Wraps.wraps) g.B.Buffer.places n
+    c.in-Ok.reply)
+    (parts-size (apart g (goal.at.returns-in-Ok-clause-places g c).After-into_parts))
+    c.in-Ok.ensures.places

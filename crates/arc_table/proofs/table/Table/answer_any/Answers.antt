@@ -10,13 +10,14 @@ use Rattle.arc_table.proofs.Done.{Done}
 use Rattle.std.proofs.Common.{◌≡◌, None, length, sym, ap, ◌∙◌, subst}
 use Rattle.arc_commands.specs.Seen.{map_command, seen_reply}
 use Rattle.arc_block.specs.Table.{row_at}
-use Rattle.arc_makers.specs.Makers.{HasOwnPlaces, Makes, WrapsPlaces}
+use Rattle.arc_makers.specs.Makers.{HasOwnPlaces, Makes}
+use Rattle.arc_slots.specs.Places.{WrapsPlaces}
 use Rattle.arc_slots.proofs.Index.{many-windows, same-indexed, same-parts}
 use Rattle.arc_slots.specs.Index.{windows_of}
 use Rattle.arc_slots.specs.Slots.{row_of, with_slot}
 use Rattle.std.specs.Prelude.{map}
 use Rattle.std.specs.Option.{option_map}
-use Rattle.arc_table.proofs.Own.{own_on, own_row}
+use Rattle.arc_table.proofs.Own.{own_on, own_row, takes_nowhere, takes_two}
 use Rattle.arc_table.proofs.Stepped.{made-window}
 use Rattle.arc_table.proofs.table.Table.answer_any.Given.{Over}
 use Rattle.arc_table.proofs.table.Table.answer_any.Goals.{After-push_made}
@@ -152,3 +153,15 @@ returns-in-Some-other-clause-places g c =
     own_on (WrapsPlaces g.S.Items.Wraps.wraps) g.S.Commands.items_in g.B.Buffer.list
     g.B.Buffer.places (setting g) _ c.args.command _ _
     (sym c.window.ensures ∙ c.in-Some.is)
+
+-- a command that makes a window takes nothing out, and nor does a join
+pub returns-clause-taken_places : goal.returns-clause-taken_places
+returns-clause-taken_places g c =
+    takes_nowhere (WrapsPlaces g.S.Items.Wraps.wraps) g.B.Buffer.places
+    (row_at c.args.self.now.table) c.args.command c.make-reply.result.0
+    (sym c.window.ensures ∙ c.in_default.is)
+
+pub returns-in-Some-other-clause-taken_places : goal.returns-in-Some-other-clause-taken_places
+returns-in-Some-other-clause-taken_places g c =
+    takes_two (WrapsPlaces g.S.Items.Wraps.wraps) g.B.Buffer.places (row_at c.args.self.now.table)
+    c.args.command c.join.result _ (sym c.other.ensures ∙ c.in-Some-other.is)

@@ -25,6 +25,12 @@ use Rattle.arc_slots.specs.Stands.{HasPassFor}
 use Rattle.arc_slots.proofs.Index.{many-windows, same-indexed, same-parts, set-indexed, set-window}
 use Rattle.arc_slots.proofs.Index.{window-there}
 use Rattle.arc_slots.proofs.Taken.{has_life}
+use Rattle.arc_block.specs.Table.{row_at}
+use Rattle.arc_commands.proofs.Windows.{window-seen}
+use Rattle.arc_slots.specs.Places.{TakesPlaces, WrapsPlaces}
+use Rattle.arc_slots.specs.Slots.{row_of}
+use Rattle.std.specs.Option.{option_map}
+use Rattle.arc_table.proofs.Own.{slot_row, takes_at, takes_none}
 use Rattle.arc_table.proofs.Stepped.{at-next, at-place, carried, known, unanswered}
 use Rattle.arc_table.proofs.table.Table.on_window.Given.{Over}
 use Rattle.arc_table.proofs.table.Table.on_window.Goals.{After-index_mut-slot, After-push_made}
@@ -302,3 +308,29 @@ invariant_of-self g c =
       same-indexed mid.index.items s.index.items mid.numbers.items s.numbers.items
           mid.places.items s.places.items kept.index kept.numbers kept.places c.self.invariant.1,
     )
+
+-- what is taken out of the window has the places of its row's block
+pub returns-in-Err-clause-taken_places : goal.returns-in-Err-clause-taken_places
+returns-in-Err-clause-taken_places g c =
+    let found = (goal.at.returns-in-Err-clause-taken_places g c).After-index_mut-slot in
+    let has = WrapsPlaces g.S.Items.Wraps.wraps in
+    let places = g.B.Buffer.places in
+    let passes = c.self.inside.passes.of_blocks.items in
+    let here = c.index_mut-slot.result.now in
+    subst (λ (o : State g.row.S-Item.Denot g.row.M.Denot). TakesPlaces has places (row_at o.table)
+    c.args.command c.in-Err.reply) c.self.view_is
+    (takes_at has places (row_at (state_of (windows g found) passes).table)
+    (λ _. option_map row_of here) c.args.command c.in-Err.reply c.args.i
+    (sym (window-seen g.S.Commands.items_in g.S.Commands.static_in g.B.Buffer.list c.args.command)
+    ∙ c.requires.on) (slot_row (windows g found) c.args.i here (stood g found))
+    c.in-Err.ensures.places)
+
+pub returns-in-Ok-clause-taken_places : goal.returns-in-Ok-clause-taken_places
+returns-in-Ok-clause-taken_places g c =
+    takes_none (WrapsPlaces g.S.Items.Wraps.wraps) g.B.Buffer.places (row_at c.args.self.now.table)
+    c.args.command _ (λ n. tt)
+
+pub returns-in_default-clause-taken_places : goal.returns-in_default-clause-taken_places
+returns-in_default-clause-taken_places g c =
+    takes_none (WrapsPlaces g.S.Items.Wraps.wraps) g.B.Buffer.places (row_at c.args.self.now.table)
+    c.args.command _ (λ n. tt)
