@@ -12,7 +12,8 @@ pub returns : goal.returns
 returns g c =
     elim c.match-self.branch [
       | in-Several w ↦ ap (λ s. bare (shared_on s.on)) w.self-inside-is
-          ∙ ap (λ n. bare {B = g.row.B.Denot} {M = g.row.M.Denot} (native_row n)) w.push_reserved.ensures
+          ∙ ap (λ n. bare {B = g.row.B.Denot} {M = g.row.M.Denot} (native_row n))
+          w.push_reserved.ensures
           ∙ ap (λ v. extended (c.args.item ∷ []) (bare v))
           (sym (ap shared_on w.in-Several.is) ∙ c.self.view_is)
       | in-Alone w ↦ let parts = w.in-Alone.parts in
