@@ -102,6 +102,16 @@ module _ {N B M : Type 0} where
   place_back old new was is same =
       sym (filled_bare new is) ∙ ap filled same ∙ filled_bare old was
 
+-- what an arm's parts, their pass and their reply say is said of all
+of_arm : {W P R : Type 0} (says : W → W → P → R → Type 0) (w v self new : W) (after left : P)
+    (found reply : R) → w ≡ self → new ≡ v → left ≡ after → reply ≡ found → says w v after found
+    → says self new left reply
+of_arm says w v self new after left found reply old now passed said made =
+    subst (λ s. says s new left reply) old
+    (subst (λ s. says w s left reply) (sym now)
+    (subst (λ p. says w v p reply) (sym passed)
+    (subst (λ r. says w v after r) (sym said) made)))
+
 -- a sole writer is none of several
 pub not_several : {P : Type 0} → false ≡ true → P
 not_several same = absurd (false≢true same)
@@ -210,12 +220,9 @@ module _ {T B M : Type 0} where
       → Reclaims (room_for drops size (bare w) additional) (bare w) (bare v) found
       → Reclaims (room_for drops size (bare self) additional) (bare self) (bare new) reply
   reclaimed_arm drops size additional w v self new found reply old now said made =
-      subst (λ (s : PartsView T (Given B M)).
-      Reclaims (room_for drops size (bare s) additional) (bare s) (bare new) reply) old
-      (subst (λ (s : PartsView T (Given B M)).
-      Reclaims (room_for drops size (bare w) additional) (bare w) (bare s) reply) (sym now)
-      (subst (λ b. Reclaims (room_for drops size (bare w) additional) (bare w) (bare v) b)
-      (sym said) made))
+      of_arm (λ (s t : PartsView T (Given B M)) (u : Unit {0}) (b : Bool).
+      Reclaims (room_for drops size (bare s) additional) (bare s) (bare t) b)
+      w v self new tt tt found reply old now refl said made
 
   pub held_reclaimed : (drops : Bool) (size additional : ℕ) (w v : PartsView T (Given B M))
       (found : Bool) → Reclaims (room_for drops size w additional) (bare w) (bare v) found
@@ -343,3 +350,41 @@ module _ {T B M H : Type 0} (drops one_pass : Bool) where
         (room_for drops size (bare w) additional) (bare w) (bare v) before after (Err r.0))
     back_held x (Ok done) refused = tt
     back_held x (Err r) refused = (refused.0, held_made (Err r.0) refused.1)
+
+-- The same of an arm's parts.
+module _ {T B M H : Type 0} (drops one_pass : Bool) (size additional : ℕ)
+    (w v self new : PartsView T (Given B M)) (before after left : Pass H) (old : w ≡ self)
+    (now : new ≡ v) (passed : left ≡ after) where
+  pub pushed_arm : {E : Type 0} (xs : List T) (found reply : Result (Unit {0}) E) → reply ≡ found
+      → OnOk found (Pushes drops one_pass (room_for drops size (bare w) additional) xs (bare w)
+      (bare v) before after)
+      → OnOk reply (Pushes drops one_pass (room_for drops size (bare self) additional) xs
+      (bare self) (bare new) before left)
+  pushed_arm {E} xs found reply said pushed =
+      of_arm (λ (s t : PartsView T (Given B M)) (p : Pass H) (r : Result (Unit {0}) E).
+      OnOk r (Pushes drops one_pass (room_for drops size (bare s) additional) xs (bare s) (bare t)
+      before p)) w v self new after left found reply old now passed said pushed
+
+  pub refused_arm : (found reply : Result (Unit {0}) TryReserveError) → reply ≡ found
+      → IfErr found (λ e. MakesRoom drops one_pass (room_for drops size (bare w) additional)
+      (bare w) (bare v) before after (Err e))
+      → IfErr reply (λ e. MakesRoom drops one_pass (room_for drops size (bare self) additional)
+      (bare self) (bare new) before left (Err e))
+  refused_arm found reply said refused =
+      of_arm (λ (s t : PartsView T (Given B M)) (p : Pass H)
+      (r : Result (Unit {0}) TryReserveError). IfErr r (λ e. MakesRoom drops one_pass
+      (room_for drops size (bare s) additional) (bare s) (bare t) before p (Err e)))
+      w v self new after left found reply old now passed said refused
+
+  pub back_arm : {X : Type 0} (x : X) (found reply : Result (Unit {0}) (TryReserveError × X))
+      → reply ≡ found
+      → IfErr found (λ r. (r.1 ≡ x) × MakesRoom drops one_pass
+      (room_for drops size (bare w) additional) (bare w) (bare v) before after (Err r.0))
+      → IfErr reply (λ r. (r.1 ≡ x) × MakesRoom drops one_pass
+      (room_for drops size (bare self) additional) (bare self) (bare new) before left (Err r.0))
+  back_arm {X} x found reply said refused =
+      of_arm (λ (s t : PartsView T (Given B M)) (p : Pass H)
+      (r : Result (Unit {0}) (TryReserveError × X)). IfErr r (λ e. (e.1 ≡ x)
+      × MakesRoom drops one_pass (room_for drops size (bare s) additional) (bare s) (bare t)
+      before p (Err e.0)))
+      w v self new after left found reply old now passed said refused

@@ -344,7 +344,7 @@ where
     S::Item: Copy,
 {
     #[inline(always)]
-    #[tactic(auto, using(crate::proofs::Bare::bare_extended, crate::proofs::Rooms::shared_asked))]
+    #[tactic(auto, using(crate::proofs::Rooms::shared_asked))]
     fn try_extend_from_slice_as(
         &mut self,
         items: &[S::Item],

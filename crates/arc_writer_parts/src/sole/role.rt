@@ -136,7 +136,7 @@ impl<S: Slice, B: BufferMut<S::Item> + Drop, M: Drop, A: Allocator + Copy, H: Ma
     }
 
     #[inline(always)]
-    #[tactic(auto, using(arc_sort_writers::proofs::Growth::never_asked, crate::proofs::Bare::extend_bare, crate::proofs::Bare::extend_held, crate::proofs::Bare::back_bare, crate::proofs::Bare::back_held))]
+    #[tactic(auto, using(arc_sort_writers::proofs::Growth::never_asked))]
     fn try_push_as(
         &mut self,
         item: S::Item,
@@ -336,7 +336,7 @@ where
     S::Item: Copy,
 {
     #[inline(always)]
-    #[tactic(auto, using(arc_sort_writers::proofs::Growth::never_asked, crate::proofs::Bare::extend_bare, crate::proofs::Bare::extend_held, crate::proofs::Bare::refuse_bare, crate::proofs::Bare::refuse_held))]
+    #[tactic(auto, using(arc_sort_writers::proofs::Growth::never_asked))]
     fn try_extend_from_slice_as(
         &mut self,
         items: &[S::Item],

@@ -24,8 +24,8 @@ enum Told {
 /// be.
 type Seen = (Told, usize, bool);
 
-fn told(result: io::Result<usize>) -> Told {
-    match result {
+fn told(read: io::Result<usize>) -> Told {
+    match read {
         Ok(count) => Told::Count(count),
         Err(e) => Told::Refused(e.kind() == ErrorKind::OutOfMemory),
     }
