@@ -89,7 +89,8 @@ impl<
             → kept_read self.now.place self.now.items ≡ kept_read place items
             → n ≤ length items → self.now.items ≡ drop n items
             → without_metadata self.now.place ≡ moved n (without_metadata place) }
-        ensures pass { (place : Place (Option Owner) (Given B M)) (items : List S.Item) (pass : Pass H)
+        ensures pass { (place : Place (Option Owner) (Given B M)) (items : List S.Item)
+            (pass : Pass H)
             → kept_read self.now.place self.now.items ≡ kept_read place items
             → IsPassAt place pass → IsPassAt self.now.place pass }
         ensures left { (place : Place (Option Owner) (Given B M)) (items : List S.Item)
