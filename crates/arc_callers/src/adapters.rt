@@ -151,6 +151,21 @@ pub fn read(
     ]
 }
 
+/// Moves the bytes of a writer, of a small window and of a short list behind those of a vector.
+/// Each read that gets no memory leaves its bytes where they are.
+pub fn read_out(
+    writer: &mut ArcBytesMut,
+    small: &mut SmallArcBytes,
+    short: &mut SmallBytes,
+    bytes: &mut Vec<u8>,
+) -> [bool; 3] {
+    [
+        writer.read_to_end(bytes).is_ok(),
+        small.read_to_end(bytes).is_ok(),
+        short.read_to_end(bytes).is_ok(),
+    ]
+}
+
 /// The first byte that is left, if there is one.
 pub fn first<R: Buf>(window: &mut R) -> Option<u8> {
     if window.remaining() < 1 {
