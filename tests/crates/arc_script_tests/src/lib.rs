@@ -2,6 +2,8 @@
 //! and what the program does with its words.
 #![tactic(auto)]
 
+#[cfg(test)]
+mod broken;
 pub mod devices;
 #[cfg(test)]
 mod lines;
@@ -16,3 +18,5 @@ pub mod rows;
 mod scripts;
 #[cfg(test)]
 mod storms;
+#[cfg(test)]
+mod wants;

@@ -3,12 +3,22 @@ use crate::devices::{Pieces, Taken};
 use crate::rows::{HELLO, HELLO_REPLIES, REPLIES_IN_NEED, USAGE};
 use arc_script::io::Counted;
 use arc_script::program::{Arguments, run_args, start, words};
+use arc_script::storm::OpenGate;
 use linked_list_allocator::LocalHeap;
-use std::alloc::{AllocError, Allocator};
+use std::alloc::{AllocError, Allocator, Global};
 use std::env::FillError;
 use std::sync::Wait;
 use std::test::Fail;
 use std::thread::Threads;
+
+/// Words of the program's own.
+pub fn words_in(alloc: Global, words: &[&str]) -> Result<Vec<String>, AllocError> {
+    let mut owned = Vec::new(alloc);
+    for word in words {
+        owned.push(String::from_str(alloc, word)?)?;
+    }
+    Ok(owned)
+}
 
 /// Runs the program over memory.
 fn program<A: Allocator + Copy>(
@@ -19,14 +29,19 @@ fn program<A: Allocator + Copy>(
     writer: &mut Taken,
     faults: &mut Taken,
 ) -> Result<u8, AllocError> {
-    let mut owned = Vec::new(rt.alloc());
-    for word in words {
-        owned.push(String::from_str(rt.alloc(), word)?)?;
-    }
+    let owned = words_in(rt.alloc(), words)?;
     let mut source = Counted::new(reader);
     let mut sink = Counted::new(writer);
     let mut told = Counted::new(faults);
-    Ok(run_args(rt, alloc, &owned, &mut source, &mut sink, &mut told))
+    Ok(run_args(
+        rt,
+        &OpenGate,
+        alloc,
+        &owned,
+        &mut source,
+        &mut sink,
+        &mut told,
+    ))
 }
 
 /// Other words are told the usage: at once, a byte a call, and where no byte is taken. More of them

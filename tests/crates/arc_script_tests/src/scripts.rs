@@ -10,7 +10,7 @@ use std::sync::Wait;
 use std::test::Fail;
 
 /// Runs a script over memory.
-fn run<A: Allocator + Copy>(
+pub fn run<A: Allocator + Copy>(
     rt: &impl Wait,
     alloc: A,
     reader: &mut Pieces,

@@ -9,6 +9,8 @@ mod ended;
 mod kinds;
 #[cfg(test)]
 mod needs;
+#[cfg(test)]
+mod places;
 pub mod tables;
 #[cfg(test)]
 mod texts;

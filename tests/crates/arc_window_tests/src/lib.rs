@@ -56,6 +56,8 @@ mod with_passes;
 #[cfg(test)]
 mod writer_adapters;
 #[cfg(test)]
+mod writer_numbers;
+#[cfg(test)]
 mod writers;
 #[cfg(test)]
 mod written_buffers;
