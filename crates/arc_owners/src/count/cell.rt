@@ -1,13 +1,17 @@
 //! The word of a block that begins without a count.
-ghost use Rattle.std.specs.Prelude.{ℕ};
+ghost use Rattle.std.specs.Prelude.{◌≡◌, ℕ, Bool, true, false};
 ghost use mathlib.Core.Option.{Option};
 ghost use base.Fml.{fsep, fex};
+ghost use denote.RawPtr.{Ptr, coded_ptr};
 ghost use Rattle.arc_owners.specs.count.Invariant.{BlockId, block_id_coded, pointer, cell_holds};
 ghost use Rattle.arc_owners.specs.count.Invariant.{cell_shares};
+ghost use Rattle.arc_owners.specs.count.Leads.{target, known_at, pending};
 
-use super::word::{OwnerToken, PassState};
-use std::marker::{Move, Owns, PhantomData};
+use super::word::{EndTokens, OwnerToken, PassState, Word};
+use std::marker::{Brand, Model, Move, Owns, PhantomData};
 use std::ptr::null_mut;
+use std::sync::atomic::Ordering::SeqCst;
+use std::sync::atomic::raw::ptr;
 
 /// The word of a block that began without a count: null while it is lone, and after a promotion,
 /// for good, the place of the count. Contracts see which block it is of.
@@ -28,10 +32,37 @@ impl Move for Cell {
         fsep (Fields.own_val (record { at = pointer x }) vs) (cell_holds t x)) };
 }
 
+/// What a load of a cell found: null, or the place of the count, where it lies for good.
+pub struct Lead {
+    pub(crate) at: *mut u64,
+    pub(crate) ghost block: { BlockId } by { block_id_coded },
+}
+
+impl Model for Lead {
+    ghost also_owns = { λ l. known_at l.block (target l.at) };
+}
+
+/// That a count of two lies at a place to which no cell leads yet, where it is held. It has no
+/// bytes.
+pub struct PendingCount {
+    pub(crate) marker: PhantomData<()>,
+    pub(crate) ghost held: { Bool },
+    pub(crate) ghost block: { BlockId } by { block_id_coded },
+    pub(crate) ghost at: { Ptr } by { coded_ptr },
+}
+
+impl Model for PendingCount {
+    ghost also_owns = { λ c. pending c.held c.block c.at };
+}
+
 impl Cell {
-    ghost use Rattle.std.specs.Prelude.{◌≡◌, ◌≤◌};
+    ghost use Rattle.std.specs.Prelude.{◌≤◌, not, is_ok};
+    ghost use denote.RawPtr.{Testable};
+    ghost use Rattle.arc_owners.specs.declared.history.entry.Entry.TheVariants.{Joined};
     ghost use Rattle.arc_owners.specs.history.Histories.{Lone};
-    ghost use Rattle.arc_owners.specs.count.Steps.{IsOpened};
+    ghost use Rattle.arc_owners.specs.count.Leads.{is_null};
+    ghost use Rattle.arc_owners.specs.count.Steps.{IsHeld, IsOf, IsRightOf, IsOpened, Looked};
+    ghost use Rattle.arc_owners.specs.count.Steps.{Claimed};
 
     /// The cell of a new block, which has no count yet, its one owner's right, and a pass. The block
     /// is lent to that owner, or not.
@@ -52,11 +83,63 @@ impl Cell {
             },
         )
     }
+
+    /// Reads where the count lies, if the word has one. The pass has seen the history up to there,
+    /// and is ready where the word is lone.
+    pub(crate) fn look<H>(&self, by: &OwnerToken<H>, pass: &mut PassState) -> Lead
+        requires { IsRightOf self.now by.now × IsOf self.now pass.old }
+        ensures { Looked by.now pass.old pass.new (is_null result.at)
+            × (result.block ≡ self.now) × Testable result.at }
+    {
+        let at = unsafe { ptr::load::<u64, Brand>(self as *const Self as *const *mut u64, SeqCst) };
+        Lead { at }
+    }
+
+    /// As `look`, but the pass stays as it was where the word has a count.
+    pub(crate) fn seek<H>(&self, by: &OwnerToken<H>, pass: &mut PassState) -> Lead
+        requires { IsRightOf self.now by.now × IsOf self.now pass.old }
+        ensures { (is_null result.at ≡ true → Looked by.now pass.old pass.new true)
+            × (is_null result.at ≡ false → pass.new ≡ pass.old)
+            × (result.block ≡ self.now) × Testable result.at }
+    {
+        let at = unsafe { ptr::load::<u64, Brand>(self as *const Self as *const *mut u64, SeqCst) };
+        Lead { at }
+    }
+
+    /// Reads where the count lies. An owner that finds the word lone takes the block back whole.
+    pub(crate) fn claim<H>(
+        &self,
+        own: &mut OwnerToken<H>,
+        pass: &mut PassState,
+        last: &mut EndTokens,
+    ) -> Lead
+        requires { IsHeld self.now own.old × IsOf self.now pass.old }
+        ensures { (is_null result.at ≡ true → Looked own.old pass.old pass.new true)
+            × (is_null result.at ≡ false → pass.new ≡ pass.old)
+            × Claimed self.now own.old own.new (is_null result.at)
+            × (last.new.last ≡ is_null result.at) × (last.new.lease ≡ own.old.lease)
+            × (result.block ≡ self.now) × Testable result.at }
+    {
+        let at = unsafe { ptr::load::<u64, Brand>(self as *const Self as *const *mut u64, SeqCst) };
+        Lead { at }
+    }
 }
 
 impl Drop for Cell {
     fn drop(self) {
         let Self { at: _ } = self;
+    }
+}
+
+impl Drop for Lead {
+    fn drop(self) {
+        let Self { at: _ } = self;
+    }
+}
+
+impl Drop for PendingCount {
+    fn drop(self) {
+        let Self { marker: _ } = self;
     }
 }
 

@@ -69,7 +69,7 @@ open_spec 𝓤 𝓛 𝓜 𝓡 wired T L =
     use0 𝓛 (later (some (λ (x : BlockId × Lease). given ((x.0.most ≡ most) × (x.0.began ≡ Lone)
     × (x.0.whole ≡ w) × (x.1.is_lent ≡ lent) × (x.0.bank ≡ gh.0) × (x.0.receipts ≡ gh.1))
     (‵ (cell_holds x.0 none) ⊛ ‵ (right_owns true x.0 0 x.1 []) ⊛ ‵
-    (trace_owns true x.0 0 false []))))) 
+    (trace_owns true x.0 0 false [])))))
     (begins.begins 𝓛 most Lone w lent gh asked are.0.1) $
     await ! tt $ pick ! (λ x. learn ! (λ so. types.Kit.split3 ! $ let t = x.0 in
     -- [the word's; the right's; the pass's; no token]

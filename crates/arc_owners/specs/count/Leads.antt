@@ -1,0 +1,35 @@
+-- The pointer in the cell of a block that began lone: what a load of it says, and a count that no
+-- cell leads to yet.
+use Rattle.std.specs.Prelude.{ℕ, ◌^◌, ◌<◌, Bool, true, false}
+use mathlib.Core.Option.{Option, none, some}
+use base.Fml.{Fml, ftrue, ffalse, fsep, fex}
+use base.Growing.{at_least}
+use denote.RawPtr.{Ptr, block_ptr, null_ptr}
+use Rattle.core.specs.Sync.RawAtomic.{word}
+use Rattle.arc_owners.specs.count.Invariant.{BlockId, places, told, receipt}
+
+abbrev pub is_null : Ptr → Bool
+is_null null_ptr = true
+is_null (block_ptr b o) = false
+
+-- where a pointer leads
+abbrev pub target : Ptr → Option (ℕ × ℕ)
+target null_ptr = none
+target (block_ptr b o) = some (b, o)
+
+-- what is known for good of the place of a count: the word has it there, and it can be compared with
+-- null
+abbrev pub known_at : BlockId → Option (ℕ × ℕ) → Fml
+known_at t none = ftrue
+known_at t (some x) = fsep (told (x.1 < 2 ^ 63)) (at_least places t.place (some x))
+
+-- a count of two that no cell leads to yet, and the receipt for its memory
+abbrev pub pending_at : BlockId → ℕ × ℕ → Fml
+pending_at t x = fsep (word x.0 x.1 2)
+    (fsep (told (x.1 < 2 ^ 63)) (fex ℕ (λ k. receipt t.receipts k x)))
+
+-- such a count that is held, or none
+abbrev pub pending : Bool → BlockId → Ptr → Fml
+pending true t (block_ptr b o) = pending_at t (b, o)
+pending true t null_ptr = ffalse
+pending false t p = ftrue
