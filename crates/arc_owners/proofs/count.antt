@@ -4,6 +4,8 @@ pub mod Begins
 pub mod Blocks
 pub mod Calls
 pub mod CellBorrows
+pub mod CellReadings
+pub mod CellWalks
 pub mod Cells
 pub mod Ends
 pub mod Fields

@@ -1,17 +1,26 @@
 -- What the steps on the cell of a lone word leave, as contracts say it.
 use Rattle.std.proofs.Common.{if◌then◌else◌, inl, ◌≡◌, ℕ, Bool, true, List, [], ◌∷◌, ◌++◌, refl}
-use Rattle.std.proofs.Common.{sym, ap, ◌∙◌, subst}
-use Rattle.std.specs.Prelude.{IsTrue}
+use Rattle.std.proofs.Common.{false, sym, ap, ◌∙◌, subst}
+use Rattle.std.specs.Prelude.{IsTrue, not}
+use Rattle.std.proofs.lemmas.Bool.{false≢true}
+use mathlib.Core.List.{IsPrefix}
+use seplogic.Ra.Ura.{Ura}
+use types.Logic.{Logic}
+use denote.RawPtr.{Ptr, block_ptr, null_ptr}
 use Rattle.std.proofs.lemmas.List.{append-nil, append_cancel_left}
 use Rattle.arc_owners.specs.declared.history.entry.Entry.TheVariants.{Up, Alone, Promote, Joined}
 use Rattle.arc_owners.specs.declared.count.tokens.Pass.{Pass}
 use Rattle.arc_owners.specs.declared.count.word.OwnerToken.{OwnerToken}
-use Rattle.arc_owners.specs.history.Histories.{IsAlone}
-use Rattle.arc_owners.specs.count.Invariant.{BlockId, Line, entries_of, next_owner}
-use Rattle.arc_owners.specs.count.Steps.{SamePass, Wrote, Looked, Promoted}
+use Rattle.arc_owners.specs.declared.count.word.PassState.{PassState}
+use Rattle.arc_owners.specs.history.Histories.{IsAlone, IsLegal, Lives, is_counted}
+use Rattle.arc_owners.specs.count.Invariant.{BlockId, Line, entries_of, made_by, next_owner}
+use Rattle.arc_owners.specs.count.Leads.{is_null, target}
+use Rattle.arc_owners.specs.count.Steps.{SamePass, Wrote, Looked, Promoted, IsRightOf, IsOf}
 use Rattle.arc_owners.specs.count.Calls.{Owner, Appends, Asks, Looks, Joins, MakesAnother}
 use Rattle.arc_owners.proofs.history.LoneWords.{lone-one}
 use Rattle.arc_owners.proofs.count.Calls.{appends, others, none_own}
+use Rattle.arc_owners.proofs.count.Walks.{a_pass}
+use Rattle.arc_owners.proofs.count.LoneSteps.{Looks_at, Seeks_at}
 
 module _ {H : Type 0} (by : OwnerToken H) (p r : Pass H) where
   abbrev o : Owner
@@ -71,3 +80,49 @@ module _ {H : Type 0} (by : OwnerToken H) (p r : Pass H) where
             (λ i. (sym so.added.0.may.2 i, sym so.owner i)) here;
         made = λ i. record { block = so.block i; number = so.owner i; born = so.born i };
       }
+
+-- what a load of the cell leaves of the pass, as the contracts of `look` and `seek` say it
+module _ {M : Type 1} {𝓤 : Ura M} (𝓛 : Logic 𝓤) {X : Type 0} (t : BlockId) (own : OwnerToken X)
+    (p : PassState) (y : Bool) (ls : List Line) (asked : IsRightOf t own × IsOf t p) where
+  of_all : (lone : Bool) → (lone ≡ true → y ≡ true) → (p.ready ≡ true → y ≡ true)
+      → IsPrefix p.lines ls × (made_by p.number ls ≡ made_by p.number p.lines)
+      × (t.whole ≡ true → p.lines ≡ ls) × (is_counted t.began (entries_of ls) ≡ not lone)
+      × IsLegal t.most t.began (entries_of ls) × Lives own.owner (entries_of ls)
+      → Looked own p (a_pass t p.number y ls) lone
+  of_all lone now still all = subst
+      (λ (b : BlockId). Looked (record own { block = b }) p (a_pass t p.number y ls) lone)
+      (sym asked.0.1) (record {
+        same = (refl, refl, refl);
+        ready = (now, still);
+        kept = all.0;
+        own = all.1.0;
+        undisturbed = all.1.1.0;
+        told = all.1.1.1.0;
+        legal = all.1.1.1.1.0;
+        lives = all.1.1.1.1.1;
+      })
+
+  pub looked_at : (r : Ptr)
+      → Looks_at 𝓛 t p.number p.ready p.lines own.owner own.lease (target r) y ls
+      → Looked own p (a_pass t p.number y ls) (is_null r)
+  looked_at null_ptr so = of_all true (λ _. so.0) (λ _. so.0) so.1
+  looked_at (block_ptr b o) so =
+      of_all false (λ wrong. absurd (false≢true wrong)) (λ e. so.0 ∙ e) so.1
+
+  pub sought_at : (r : Ptr)
+      → Seeks_at 𝓛 t p.number p.ready p.lines own.owner own.lease (target r) y ls
+      → (is_null r ≡ true → Looked own p (a_pass t p.number y ls) true)
+      × (is_null r ≡ false → a_pass t p.number y ls ≡ p)
+  sought_at null_ptr so =
+      ((λ _. looked_at null_ptr so), (λ wrong. absurd (false≢true (sym wrong))))
+  sought_at (block_ptr b o) so = (
+    (λ wrong. absurd (false≢true wrong)),
+    (λ _ i. record {
+      marker = p.marker;
+      bound = sym asked.1.0 i;
+      block = sym asked.1.1 i;
+      number = p.number;
+      ready = so.0 i;
+      lines = so.1 i;
+    }),
+  )
