@@ -193,7 +193,7 @@ module _ {M : Type 1} {𝓤 : Ura M} (𝓛 : Logic 𝓤) (𝓜 : Model 𝓤 𝓛
         let after : Pass.Denot = a_pass t p.number z.0 z.1 in
         move ! (0 ∷ 4 ∷ 5 ∷ 6 ∷ []) $ pass_in ! tt b₂ o₂ (no_pass p) after $
         -- [two parts of the pass; its token; the answer; the other tokens]
-        move ! (6 ∷ []) $ move ! (3 ∷ 0 ∷ []) $ fjoin ! $ 
+        move ! (6 ∷ []) $ move ! (3 ∷ 0 ∷ []) $ fjoin ! $
         move ! (5 ∷ 0 ∷ []) $ fjoin ! $ move ! (4 ∷ 0 ∷ []) $ fjoin ! $
         nothing ! $ move ! (2 ∷ 3 ∷ 0 ∷ []) $ given_back ! b₂ o₂ $ nothing ! $ fjoin ! $
         nothing ! $ fjoin ! $ now ! $ keep ! (1 ∷ 0 ∷ 2 ∷ []) $

@@ -84,10 +84,12 @@ module _ {H : Type 0} (by : OwnerToken H) (p r : Pass H) where
 -- what a load of the cell leaves of the pass, as the contracts of `look` and `seek` say it
 module _ {M : Type 1} {𝓤 : Ura M} (𝓛 : Logic 𝓤) {X : Type 0} (t : BlockId) (own : OwnerToken X)
     (p : PassState) (y : Bool) (ls : List Line) (asked : IsRightOf t own × IsOf t p) where
-  of_all : (lone : Bool) → (lone ≡ true → y ≡ true) → (p.ready ≡ true → y ≡ true)
-      → IsPrefix p.lines ls × (made_by p.number ls ≡ made_by p.number p.lines)
+  abbrev Sees : Bool → Type 0
+  Sees lone = IsPrefix p.lines ls × (made_by p.number ls ≡ made_by p.number p.lines)
       × (t.whole ≡ true → p.lines ≡ ls) × (is_counted t.began (entries_of ls) ≡ not lone)
       × IsLegal t.most t.began (entries_of ls) × Lives own.owner (entries_of ls)
+
+  of_all : (lone : Bool) → (lone ≡ true → y ≡ true) → (p.ready ≡ true → y ≡ true) → Sees lone
       → Looked own p (a_pass t p.number y ls) lone
   of_all lone now still all = subst
       (λ (b : BlockId). Looked (record own { block = b }) p (a_pass t p.number y ls) lone)
@@ -95,11 +97,11 @@ module _ {M : Type 1} {𝓤 : Ura M} (𝓛 : Logic 𝓤) {X : Type 0} (t : Block
         same = (refl, refl, refl);
         ready = (now, still);
         kept = all.0;
-        own = all.1.0;
-        undisturbed = all.1.1.0;
-        told = all.1.1.1.0;
-        legal = all.1.1.1.1.0;
-        lives = all.1.1.1.1.1;
+        own = all.1;
+        undisturbed = all.2;
+        told = all.3;
+        legal = all.4;
+        lives = all.5;
       })
 
   pub looked_at : (r : Ptr)

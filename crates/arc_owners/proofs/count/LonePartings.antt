@@ -1,7 +1,7 @@
 -- A load of the cell by an owner that asks for its block back. By the cell's place it opens the cell
 -- with the owner's own part of the lifetime: the borrow shuts before the block's invariant, for
 -- which that part is wanted. Assumes `Logic`.
-use Rattle.std.proofs.Common.{◌≡◌, ℕ, ◌<◌, Bool, true, List, [], ◌∷◌, refl, sym, arith}
+use Rattle.std.proofs.Common.{◌≡◌, ℕ, ◌<◌, Bool, true, false, List, [], ◌∷◌, refl, sym, arith}
 use mathlib.Core.Option.{Option, none, some}
 use mathlib.Core.List.{Mem, mem-cons, not-mem-nil}
 use mathlib.Core.HLevel.{⊥_prop}

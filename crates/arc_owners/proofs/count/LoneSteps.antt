@@ -7,14 +7,14 @@ use mathlib.Core.Bool.{cond}
 use mathlib.Core.Option.{Option, none, some}
 use seplogic.Ra.Ura.{Ura}
 use base.Share.{quarter}
-use base.Logic.{ex, upd, upd_i}
+use base.Logic.{ex, guard, upd, upd_i, ex_i}
 use base.Fml.{Lft, Share, Fml, ftrue, fsep, fex, flft, fbor, fnamed}
 use base.Growing.{at_least}
 use types.Logic.{Logic}
 use types.Growing.{latest_shows}
 use types.Kit.{‵, raw, ◌⊛◌, ◌$◌, ◌∵◌, !, qed, by, move, drop, split, split3, group, fsplit, fsplit3}
 use types.Kit.{fjoin, fpick, fpack, frame, assume, show, done, use0, use1, use2, rewrite, suffices}
-use types.Kit.{settle}
+use types.Kit.{settle, given, learn, check}
 use denote.RawPtr.{Ptr, block_ptr, null_ptr}
 use denote.Steps.{nothing}
 use Rattle.core.specs.Sync.RawAtomic.{word}
@@ -29,7 +29,7 @@ use Rattle.arc_owners.specs.count.Invariant.{counting}
 use Rattle.arc_owners.specs.count.Leads.{target, known_at, pending_at}
 use Rattle.arc_owners.proofs.count.Signs.{signs}
 use Rattle.arc_owners.proofs.count.Places.{resumes, outside}
-use Rattle.arc_owners.proofs.count.LoneMoves.{sees, sees_as, holding, sees_all, lost_at, lost, joins}
+use Rattle.arc_owners.proofs.count.LoneMoves.{IsAll, sees, holding, sees_all, lost_at, lost, joins}
 use Rattle.arc_owners.proofs.count.LoneMoves.{won, promotion, promoted, promotes}
 
 pub target-pointer : (x : Option (ℕ × ℕ)) → target (pointer x) ≡ x
@@ -241,6 +241,33 @@ module _ {M : Type 1} {𝓤 : Ura M} (𝓛 : Logic 𝓤) (t : BlockId) (p : ℕ)
             move ! (2 ∷ 0 ∷ []) $ fjoin ! $ move ! (1 ∷ 0 ∷ []) $ fjoin ! $
             fpack ! (Option (ℕ × ℕ)) (cell_lies t b o) here $ done !
 
+        -- where another count lies already
+        abbrev Lost : ℕ × ℕ → Pr
+        Lost y = ⟦ cell b o (pointer (some y)) ⟧ -∗ upd 𝓤 (⟦ I ⟧ ∗ ⟦ J ⟧ ∗ ⟦ after_lost ⟧)
+
+        tested : (y : ℕ × ℕ) → ⟦ cell_holds t (some y) ⟧
+            ⊢ guard 𝓤 (y.1 < 2 ^ 63) ⟦ cell_holds t (some y) ⟧
+        tested y = qed 𝓛 (‵ (cell_holds t (some y)) ∷ []) ∵ fsplit3 ! $ move ! (1 ∷ []) $
+            fpick ! (λ fits. check ! fits $ fpack ! (y.1 < 2 ^ 63) (λ _. ftrue) fits $
+            move ! (0 ∷ 2 ∷ []) $ fjoin ! $ move ! (1 ∷ 0 ∷ []) $ fjoin ! $ done !)
+
+        loses : (y : ℕ × ℕ) → ⟦ cell_holds t (some y) ⟧ ∗ ⟦ J ⟧ ∗ ⟦ N ⟧ ∗ ⟦ B ⟧ ∗ ⟦ R ⟧
+            ∗ ⟦ mine ⟧ ⊢ Lost y
+        loses y = let C : Fml = cell_holds t (some y) in let r : Ptr = pointer (some y) in
+            let L : Fml = lost 𝓛 t p ready seen own l (pass_holds t p ready) q in
+            let L' : Fml = lost 𝓛 t p ready seen own l (T ready) q in
+            let Z : Pr = ⟦ I ⟧ ∗ ⟦ J ⟧ ∗ ⟦ after_lost ⟧ in
+            qed 𝓛 (‵ C ∷ ‵ J ∷ ‵ N ∷ ‵ B ∷ ‵ R ∷ ‵ mine ∷ []) ∵ assume ! (‵ (cell b o r)) $
+            -- [the cell; the cell's; the invariant; its name; the pass; the right; what is prepared]
+            move ! (1 ∷ 2 ∷ 4 ∷ 5 ∷ []) $ group ! 4 $
+            use1 𝓛 (raw (upd 𝓤 (⟦ C ⟧ ∗ ⟦ J ⟧ ∗ ⟦ L ⟧))) (joins 𝓛 t p ready seen own l lone q y) $
+            settle 𝓛 Z (‵ C ⊛ ‵ J ⊛ ‵ L) $ split3 ! $ suffices ! _ (upd_i 𝓤 Z) $
+            -- [the cell's; the invariant; what is lost; the cell; the name; what is prepared]
+            move ! (4 ∷ 2 ∷ []) $ use2 𝓛 (‵ L') named_lost $ move ! (3 ∷ 1 ∷ []) $ fjoin ! $
+            fpack ! (Option (ℕ × ℕ)) (cell_lies t b o) (some y) $
+            -- [the cell; what is lost; the invariant; what is prepared]
+            move ! (3 ∷ 1 ∷ []) $ fjoin ! $ move ! (1 ∷ 2 ∷ 0 ∷ []) $ done !
+
         turns : (y : Option (ℕ × ℕ)) → ⟦ cell b o (pointer y) ⟧ ∗ ⟦ cell_holds t y ⟧ ∗ ⟦ J ⟧ ∗ ⟦ N ⟧
             ∗ ⟦ B ⟧ ∗ ⟦ R ⟧ ∗ ⟦ mine ⟧ ⊢ upd 𝓤 (ex 𝓤 Turned)
         turns none = let C : Fml = cell_holds t none in
@@ -264,27 +291,12 @@ module _ {M : Type 1} {𝓤 : Ura M} (𝓛 : Logic 𝓤) (t : BlockId) (p : ℕ)
             move ! (4 ∷ 2 ∷ 3 ∷ 5 ∷ []) $ group ! 4 $ use1 𝓛 (‵ I) in_place $
             move ! (0 ∷ 2 ∷ 1 ∷ []) $ done !
         turns (some y) = let C : Fml = cell_holds t (some y) in let r : Ptr = pointer (some y) in
-            let L : Fml = lost 𝓛 t p ready seen own l (pass_holds t p ready) q in
-            let L' : Fml = lost 𝓛 t p ready seen own l (T ready) q in
-            let Z : Pr = ⟦ I ⟧ ∗ ⟦ J ⟧ ∗ ⟦ after_lost ⟧ in
             qed 𝓛 (‵ (cell b o r) ∷ ‵ C ∷ ‵ J ∷ ‵ N ∷ ‵ B ∷ ‵ R ∷ ‵ mine ∷ []) ∵
-            suffices ! _ (upd_i 𝓤 (ex 𝓤 Turned)) $ show ! Turned (r, false) $ frame ! $
-            fsplit ! $ move ! (1 ∷ []) $ fsplit ! $ fpick ! (λ fits. drop ! $
-            use0 𝓛 (‵ (alike r null_ptr false)) (alike_null 𝓛 r fits) $ frame ! $
-            assume ! (‵ (cell b o r)) $
-            -- [the cell; the receipt and the count; the place; the invariant; its name; the pass; the
-            -- right; what is prepared]
-            move ! (1 ∷ []) $ nothing ! $ fpack ! (y.1 < 2 ^ 63) (λ _. ftrue) fits $
-            fjoin ! $ move ! (2 ∷ 0 ∷ []) $ fjoin ! $
-            -- [the cell's; the cell; the invariant; its name; the pass; the right; what is prepared]
-            move ! (0 ∷ 2 ∷ 4 ∷ 5 ∷ []) $ group ! 4 $
-            use1 𝓛 (raw (upd 𝓤 (⟦ C ⟧ ∗ ⟦ J ⟧ ∗ ⟦ L ⟧))) (joins 𝓛 t p ready seen own l lone q y) $
-            settle 𝓛 Z (‵ C ⊛ ‵ J ⊛ ‵ L) $ split3 ! $ suffices ! _ (upd_i 𝓤 Z) $
-            -- [the cell's; the invariant; what is lost; the cell; the name; what is prepared]
-            move ! (4 ∷ 2 ∷ []) $ use2 𝓛 (‵ L') named_lost $ move ! (3 ∷ 1 ∷ []) $ fjoin ! $
-            fpack ! (Option (ℕ × ℕ)) (cell_lies t b o) (some y) $
-            -- [the cell; what is lost; the invariant; what is prepared]
-            move ! (3 ∷ 1 ∷ []) $ fjoin ! $ move ! (1 ∷ 2 ∷ 0 ∷ []) $ done !)
+            suffices ! _ (upd_i 𝓤 (ex 𝓤 Turned)) $ move ! (1 ∷ []) $
+            use1 𝓛 (given (y.1 < 2 ^ 63) (‵ C)) (tested y) $ learn ! (λ fits.
+            move ! (0 ∷ 2 ∷ 3 ∷ 4 ∷ 5 ∷ 6 ∷ []) $ group ! 6 $ use1 𝓛 (raw (Lost y)) (loses y) $
+            use0 𝓛 (‵ (alike r null_ptr false)) (alike_null 𝓛 r fits) $ move ! (2 ∷ 0 ∷ 1 ∷ []) $
+            by ! (ex_i 𝓤 Turned (r, false)))
 
         -- the exchange from null: the count is put in place, or another is there
         pub exchanges_cell : At.named i (fbor κ I) ∗ ⟦ N ⟧ ∗ At.lft κ e ∗ ⟦ N ⟧ ∗ ⟦ B ⟧ ∗ ⟦ R ⟧
