@@ -4,6 +4,7 @@ pub mod Begins
 pub mod Blocks
 pub mod Calls
 pub mod CellBorrows
+pub mod CellPartings
 pub mod CellReadings
 pub mod CellWalks
 pub mod Cells

@@ -31,6 +31,11 @@ use Rattle.arc_owners.specs.count.Leads.{target, known_at}
 use Rattle.arc_owners.proofs.count.LoneSteps.{target-pointer, knows, passed, Seeks_at, with_name}
 use Rattle.arc_owners.proofs.count.LoneSteps.{as_it_was}
 
+-- whether the word was found lone
+abbrev pub lone_at : Option (ℕ × ℕ) → Bool
+lone_at none = true
+lone_at (some x) = false
+
 module _ {M : Type 1} {𝓤 : Ura M} (𝓛 : Logic 𝓤) (i j b o : ℕ) (apart : ¬ (j ≡ i)) (κ : Lft)
     (e : Share) (I J : Fml) (C : Type 0) (was new : C → Ptr) (tells after : C → Fml) where
   open 𝓛 use {A as At}
@@ -123,11 +128,6 @@ module _ {M : Type 1} {𝓤 : Ura M} (𝓛 : Logic 𝓤) (t : BlockId) (p : ℕ)
 
   abbrev T : Fml
   T = trace_owns true t p ready seen
-
-  -- whether the word was found lone
-  abbrev pub lone_at : Option (ℕ × ℕ) → Bool
-  lone_at none = true
-  lone_at (some x) = false
 
   -- what such a load leaves: the block, where the word was lone; else the owner and the pass as they
   -- were
