@@ -5,6 +5,7 @@ pub mod Blocks
 pub mod Calls
 pub mod CellBorrows
 pub mod CellPartings
+pub mod CellPromotions
 pub mod CellReadings
 pub mod CellWalks
 pub mod Cells

@@ -56,13 +56,13 @@ impl Model for PendingCount {
 }
 
 impl Cell {
-    ghost use Rattle.std.specs.Prelude.{◌≤◌, not, is_ok};
-    ghost use denote.RawPtr.{Testable};
+    ghost use Rattle.std.specs.Prelude.{◌≤◌, IfOk, IfErr};
+    ghost use denote.RawPtr.{Testable, InBlock};
     ghost use Rattle.arc_owners.specs.declared.history.entry.Entry.TheVariants.{Joined};
     ghost use Rattle.arc_owners.specs.history.Histories.{Lone};
     ghost use Rattle.arc_owners.specs.count.Leads.{is_null};
     ghost use Rattle.arc_owners.specs.count.Steps.{IsHeld, IsOf, IsRightOf, IsOpened, Looked};
-    ghost use Rattle.arc_owners.specs.count.Steps.{Claimed};
+    ghost use Rattle.arc_owners.specs.count.Steps.{Claimed, SamePass, Wrote, Promoted};
 
     /// The cell of a new block, which has no count yet, its one owner's right, and a pass. The block
     /// is lent to that owner, or not.
@@ -122,6 +122,53 @@ impl Cell {
     {
         let at = unsafe { ptr::load::<u64, Brand>(self as *const Self as *const *mut u64, SeqCst) };
         Lead { at }
+    }
+
+    /// Makes the count at `at` the word's, where the word is lone: its two owners are this one and a
+    /// new one. Where the word has a count already, that at `at` stays as it is.
+    ///
+    /// # Errors
+    ///
+    /// Where the word has a count already, which is an entry.
+    pub(crate) fn promote<H>(
+        &self,
+        by: &OwnerToken<H>,
+        pass: &mut PassState,
+        new: &mut OwnerToken<H>,
+        count: &mut PendingCount,
+        at: *mut u64,
+    ) -> Result<*mut u64, *mut u64>
+        requires { IsHeld self.now by.now × IsOf self.now pass.old × (self.now.began ≡ Lone)
+            × (count.old.held ≡ true) × (count.old.block ≡ self.now) × (count.old.at ≡ at)
+            × InBlock at }
+        ensures { SamePass self.now pass.old pass.new
+            × IfOk result (λ _. Promoted by.now pass.old pass.new new.new
+            × (count.new.held ≡ false))
+            × IfErr result (λ _. Wrote self.now pass.old pass.new (Joined by.now.owner)
+            × (new.new ≡ new.old) × (count.new ≡ count.old)) }
+    {
+        unsafe {
+            ptr::compare_exchange::<u64, Brand>(
+                self as *const Self as *const *mut u64,
+                null_mut(),
+                at,
+                SeqCst,
+                SeqCst,
+            )
+        }
+    }
+}
+
+impl Lead {
+    ghost use Rattle.arc_owners.specs.count.Leads.{is_null};
+
+    /// The count that the cell leads to, for as long as the cell is borrowed.
+    pub(crate) fn word<'a>(self, cell: &'a Cell) -> &'a Word
+        requires { (self.block ≡ cell.now) × (is_null self.at ≡ false) }
+        ensures { result.now ≡ cell.now }
+    {
+        let Self { at } = self;
+        unsafe { &*(at as *const Word) }
     }
 }
 
