@@ -1,10 +1,11 @@
 -- A load of a cell through a borrowed owner, and one by an owner that asks for the block back: what is
 -- had before the call and after it, whatever it says of the pass. Assumes `Logic`.
-use Rattle.std.proofs.Common.{◌≡◌, ℕ, ◌^◌, ◌<◌, Bool, true, false, List, [], ◌∷◌, refl, lit<}
+use Rattle.std.proofs.Common.{◌≡◌, ℕ, ◌^◌, ◌<◌, Bool, List, [], ◌∷◌, ◌++◌, refl, ap, ◌∙◌, lit<}
 use mathlib.Core.Option.{Option, none, some}
 use seplogic.Ra.Ura.{Ura}
 use mir.Syntax.{Fn, Callee, named}
-use mir.Val.{Val, vptr, vstruct, vcons, vnil}
+use mir.Val.{Val, vptr, vstruct, vcons, vnil, of_list}
+use denote.Laws.{Is}
 use base.Share.{quarter}
 use base.Logic.{emp, via, guard, ent, id⊢}
 use base.Fml.{Share, Fml, ftrue, fsep, flft}
@@ -68,6 +69,9 @@ lead t r = record { at = r; block = t }
 -- the struct that it is, round the pointer
 abbrev pub wrap : Val → Val
 wrap v = vstruct (vcons v vnil)
+
+pub lead_told : (r : Ptr) (vs : List Val) → Is LeadData (r, tt) vs → vs ≡ wrap (ptr_val r) ∷ []
+lead_told r vs is = is.1.0 ∙ ap (λ (ws : List Val). vstruct (of_list (ws ++ [])) ∷ []) is.1.1.0
 
 pub lead_made : {M : Type 1} {𝓤 : Ura M} (𝓛 : Logic 𝓤) (t : BlockId) (r : Ptr)
     → ent 𝓤 (sem 𝓛 (known_at t (target r)))

@@ -13,7 +13,8 @@ use Rattle.arc_owners.specs.declared.count.tokens.Pass.{Pass}
 use Rattle.arc_owners.specs.declared.count.word.OwnerToken.{OwnerToken}
 use Rattle.arc_owners.specs.declared.count.word.PassState.{PassState}
 use Rattle.arc_owners.specs.history.Histories.{IsAlone, IsLegal, Lives, is_counted}
-use Rattle.arc_owners.specs.count.Invariant.{BlockId, Line, entries_of, made_by, next_owner}
+use Rattle.arc_owners.specs.declared.history.entry.Entry.{Entry}
+use Rattle.arc_owners.specs.count.Invariant.{BlockId, Line, entries_of, made_by, next_owner, Adds}
 use Rattle.arc_owners.specs.count.Leads.{is_null, target}
 use Rattle.arc_owners.specs.count.Steps.{SamePass, Wrote, Looked, Promoted, IsRightOf, IsOf}
 use Rattle.arc_owners.specs.count.Calls.{Owner, Appends, Asks, Looks, Joins, MakesAnother}
@@ -128,3 +129,39 @@ module _ {M : Type 1} {𝓤 : Ura M} (𝓛 : Logic 𝓤) {X : Type 0} (t : Block
       lines = so.1 i;
     }),
   )
+
+-- what an exchange leaves that won
+module _ {X : Type 0} (t : BlockId) (own : OwnerToken X) (p : PassState)
+    (asked : IsRightOf t own × IsOf t p) (before : List Line) where
+  abbrev e : Entry
+  e = Promote own.owner (next_owner before)
+
+  abbrev more : List Line
+  more = before ++ (p.number, e) ∷ []
+
+  pub promoted_at : Adds t p.number p.lines before e
+      → Promoted own p (a_pass t p.number p.ready more) (record {
+        marker = record {};
+        held = true;
+        block = t;
+        owner = next_owner before;
+        lease = own.lease;
+        born = more;
+      })
+  promoted_at adds = subst (λ (b : BlockId). Promoted (record own { block = b }) p
+      (a_pass t p.number p.ready more) (record {
+        marker = record {};
+        held = true;
+        block = t;
+        owner = next_owner before;
+        lease = own.lease;
+        born = more;
+      })) (sym asked.0.1) (record {
+        before = before;
+        added = (adds, refl);
+        held = refl;
+        block = refl;
+        owner = refl;
+        lease = refl;
+        born = refl;
+      })
