@@ -235,4 +235,4 @@ promote_spec 𝓤 𝓛 𝓜 𝓡 wired T L =
       (refl, refl, refl, refl),
       tt,
       ((before, (so.0, refl)), refl, refl),
-    ))))))))))
+    )))))))))))

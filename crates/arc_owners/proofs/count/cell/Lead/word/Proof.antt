@@ -92,4 +92,4 @@ word_spec 𝓤 𝓛 𝓜 𝓡 wired =
     fjoin ! $ nothing ! $ fjoin ! $
     returns ! (look_at ! 0 refl) $ free_all ! refl $ keep ! (2 ∷ 0 ∷ 1 ∷ []) $
     by ! (ends 𝓛 En hs c y (vptr pb po) (record { ref_ptr = (pb, po); now = t })
-    (tt, (tt, tt)) (tt, (tt, tt)) (fact_i 𝓤 _ (emp 𝓤) refl)))))))
+    (tt, (tt, tt)) (tt, (tt, tt)) (fact_i 𝓤 _ (emp 𝓤) refl))))))))
