@@ -1,6 +1,6 @@
 -- The exchange that promotes a lone word, through a borrowed owner: what is had before the call and
 -- after it. Assumes `Logic`.
-use Rattle.std.proofs.Common.{◌≡◌, ℕ, ◌<◌, Bool, true, List, [], ◌∷◌, refl, subst}
+use Rattle.std.proofs.Common.{◌≡◌, ℕ, ◌<◌, Bool, true, List, [], ◌∷◌, refl, sym, subst}
 use mathlib.Core.Option.{Option, none, some}
 use seplogic.Ra.Ura.{Ura}
 use mir.Syntax.{Callee, Place}
@@ -42,11 +42,11 @@ use Rattle.arc_owners.proofs.count.CellWalks.{said, Answers, carries, by_cell}
 use Rattle.arc_owners.proofs.count.Partings.{held_by, left_mut}
 use Rattle.arc_owners.proofs.count.Walks.{given_back}
 
-abbrev W : Type 0
+abbrev pub W : Type 0
 W = Answer.Denot
 
 module _ {M : Type 1} {𝓤 : Ura M} {𝓛 : Logic 𝓤} {K : Type 0} {Γ : List (Item 𝓤)}
-    {E : Env 𝓤 𝓛.H} {d : Place} {q : Post 𝓤 𝓛.H} {v : Val} where
+    {E : Env 𝓤 𝓛.H} {d : Place} {q : Post 𝓤 𝓛.H} where
   either : (out : W → Fml)
       → ((r : Ptr) → Seq K 𝓛 (‵ (out (Ok r)) ∷ Γ) (settles E d (answer_val (Ok r)) q))
       → ((r : Ptr) → Seq K 𝓛 (‵ (out (Err r)) ∷ Γ) (settles E d (answer_val (Err r)) q))
@@ -55,12 +55,12 @@ module _ {M : Type 1} {𝓤 : Ura M} {𝓛 : Logic 𝓤} {K : Type 0} {Γ : List
   either out won lost (Err r) = lost r
 
   -- after `Calls-last`
-  pub hears : K → (out : W → Fml)
+  pub hears : {v : Val} → K → (out : W → Fml)
       → ((r : Ptr) → Seq K 𝓛 (‵ (out (Ok r)) ∷ Γ) (settles E d (answer_val (Ok r)) q))
       → ((r : Ptr) → Seq K 𝓛 (‵ (out (Err r)) ∷ Γ) (settles E d (answer_val (Err r)) q))
       → Seq K 𝓛 (said 𝓛 W answer_val out v ∷ Γ) (settles E d v q)
   hears t out won lost = await t tt $ pick t (λ w. learn t (λ e.
-      regoal t (λ (u : Val). settles E d u q) (Rattle.std.proofs.Common.sym e) refl $
+      regoal t (λ (u : Val). settles E d u q) (sym e) refl $
       either out won lost w))
 
 module _ {M : Type 1} {𝓤 : Ura M} {𝓛 : Logic 𝓤} {K : Type 0} {Γ : List (Item 𝓤)}
@@ -128,7 +128,7 @@ module _ {M : Type 1} {𝓤 : Ura M} (𝓛 : Logic 𝓤) (𝓜 : Model 𝓤 𝓛
   lost_at n = left t p seen T n (λ _. some (Joined own)) (λ _. ftrue)
 
   abbrev pub left_lost : Fml
-  left_lost = fsep (pending_at t x) (fex ℕ lost_at)
+  left_lost = fsep (pending_at t x 2) (fex ℕ lost_at)
 
   abbrev pub outcome : W → Fml
   outcome (Ok r) = left_won
@@ -168,9 +168,9 @@ module _ {M : Type 1} {𝓤 : Ura M} (𝓛 : Logic 𝓤) (𝓜 : Model 𝓤 𝓛
 
   pub promotes_by : Compares → (κ₁ : Lft) (q₁ : Share) (born : List Line)
       → ⟦ cell_shares t (block_ptr b o) κ₀ ⟧ ∗ At.lft κ₀ q₀ ∗ ⟦ T seen ⟧
-      ∗ ⟦ right_shares true t own l born κ₁ ⟧ ∗ At.lft κ₁ q₁ ∗ ⟦ pending_at t x ⟧
+      ∗ ⟦ right_shares true t own l born κ₁ ⟧ ∗ At.lft κ₁ q₁ ∗ ⟦ pending_at t x 2 ⟧
       ⊢ H.⇛ (Hears (λ w. fsep (flft κ₀ q₀) (fsep (flft κ₁ q₁) (outcome w))))
-  promotes_by compare κ₁ q₁ born = let mine : Fml = pending_at t x in
+  promotes_by compare κ₁ q₁ born = let mine : Fml = pending_at t x 2 in
       let out : W → Fml = λ w. fsep (flft κ₀ q₀) (fsep (flft κ₁ q₁) (outcome w)) in
       qed 𝓛 (‵ (cell_shares t (block_ptr b o) κ₀) ∷ ‵ (flft κ₀ q₀) ∷ ‵ (T seen)
       ∷ ‵ (right_shares true t own l born κ₁) ∷ ‵ (flft κ₁ q₁) ∷ ‵ mine ∷ []) ∵ updating ! $

@@ -117,6 +117,13 @@ module _ {M : Type 1} {𝓤 : Ura M} (𝓛 : Logic 𝓤) (t : BlockId) (p : ℕ)
     abbrev R : Fml
     R = right t own l q
 
+    -- what the exchange leaves where it won, and where it lost, of a count of two at this place
+    abbrev pub after_won : Fml
+    after_won = won 𝓛 t p ready seen own l (T ready) q
+
+    abbrev pub after_lost : ℕ × ℕ → Fml
+    after_lost x = fsep (pending_at t x 2) (lost 𝓛 t p ready seen own l (T ready) q)
+
     -- what a load leaves that found this
     abbrev pub loaded : Glance → Option (ℕ × ℕ) → Fml
     loaded G x = fsep R (fsep (known_at t x) (passed G x))
@@ -193,19 +200,11 @@ module _ {M : Type 1} {𝓤 : Ura M} (𝓛 : Logic 𝓤) (t : BlockId) (p : ℕ)
         abbrev here : Option (ℕ × ℕ)
         here = some x
 
-        -- a count of two that isn't in place, and the receipt for its memory
         abbrev mine : Fml
-        mine = pending_at t x
-
-        -- what the exchange leaves where it won, and where it lost
-        abbrev pub after_won : Fml
-        after_won = won 𝓛 t p ready seen own l (T ready) q
-
-        abbrev pub after_lost : Fml
-        after_lost = fsep mine (lost 𝓛 t p ready seen own l (T ready) q)
+        mine = pending_at t x 2
 
         abbrev after_both : Ptr × Bool → Fml
-        after_both z = cond z.1 after_won after_lost
+        after_both z = cond z.1 after_won (after_lost x)
 
         abbrev next : Ptr × Bool → Ptr
         next z = cond z.1 (pointer here) z.0
@@ -243,7 +242,7 @@ module _ {M : Type 1} {𝓤 : Ura M} (𝓛 : Logic 𝓤) (t : BlockId) (p : ℕ)
 
         -- where another count lies already
         abbrev Lost : ℕ × ℕ → Pr
-        Lost y = ⟦ cell b o (pointer (some y)) ⟧ -∗ upd 𝓤 (⟦ I ⟧ ∗ ⟦ J ⟧ ∗ ⟦ after_lost ⟧)
+        Lost y = ⟦ cell b o (pointer (some y)) ⟧ -∗ upd 𝓤 (⟦ I ⟧ ∗ ⟦ J ⟧ ∗ ⟦ after_lost x ⟧)
 
         tested : (y : ℕ × ℕ) → ⟦ cell_holds t (some y) ⟧
             ⊢ guard 𝓤 (y.1 < 2 ^ 63) ⟦ cell_holds t (some y) ⟧
@@ -256,7 +255,7 @@ module _ {M : Type 1} {𝓤 : Ura M} (𝓛 : Logic 𝓤) (t : BlockId) (p : ℕ)
         loses y = let C : Fml = cell_holds t (some y) in let r : Ptr = pointer (some y) in
             let L : Fml = lost 𝓛 t p ready seen own l (pass_holds t p ready) q in
             let L' : Fml = lost 𝓛 t p ready seen own l (T ready) q in
-            let Z : Pr = ⟦ I ⟧ ∗ ⟦ J ⟧ ∗ ⟦ after_lost ⟧ in
+            let Z : Pr = ⟦ I ⟧ ∗ ⟦ J ⟧ ∗ ⟦ after_lost x ⟧ in
             qed 𝓛 (‵ C ∷ ‵ J ∷ ‵ N ∷ ‵ B ∷ ‵ R ∷ ‵ mine ∷ []) ∵ assume ! (‵ (cell b o r)) $
             -- [the cell; the cell's; the invariant; its name; the pass; the right; what is prepared]
             move ! (1 ∷ 2 ∷ 4 ∷ 5 ∷ []) $ group ! 4 $
@@ -301,11 +300,11 @@ module _ {M : Type 1} {𝓤 : Ura M} (𝓛 : Logic 𝓤) (t : BlockId) (p : ℕ)
         -- the exchange from null: the count is put in place, or another is there
         pub exchanges_cell : At.named i (fbor κ I) ∗ ⟦ N ⟧ ∗ At.lft κ e ∗ ⟦ N ⟧ ∗ ⟦ B ⟧ ∗ ⟦ R ⟧
             ∗ ⟦ mine ⟧ ⊢ compares 𝓛 (block_ptr b o) null_ptr (pointer here)
-            (λ r. fsep (flft κ e) after_won) (λ r. fsep (flft κ e) after_lost)
+            (λ r. fsep (flft κ e) after_won) (λ r. fsep (flft κ e) (after_lost x))
         exchanges_cell = subst (λ (F : Ptr × Bool → Fml). At.named i (fbor κ I) ∗ ⟦ N ⟧ ∗ At.lft κ e
             ∗ ⟦ N ⟧ ∗ ⟦ B ⟧ ∗ ⟦ R ⟧ ∗ ⟦ mine ⟧
             ⊢ asks_by_cases 𝓛 (Ptr × Bool) (λ z. z.0) next same F (block_ptr b o))
-            (λ j z. beside z.1 (flft κ e) after_won after_lost j)
+            (λ j z. beside z.1 (flft κ e) after_won (after_lost x) j)
             (borrowed_ptr_with 𝓛 κ e I b o (Ptr × Bool) (λ z. z.0) next same after_both i t.number J
             apart (⟦ N ⟧ ∗ ⟦ B ⟧ ∗ ⟦ R ⟧ ∗ ⟦ mine ⟧)
             (qed 𝓛 (‵ I ∷ ‵ J ∷ ‵ N ∷ ‵ B ∷ ‵ R ∷ ‵ mine ∷ []) ∵

@@ -1,5 +1,5 @@
 -- The pointer in the cell of a block that began lone: what a load of it says, and a count that no
--- cell leads to yet.
+-- cell leads to.
 use Rattle.std.specs.Prelude.{ℕ, ◌^◌, ◌<◌, Bool, true, false}
 use mathlib.Core.Option.{Option, none, some}
 use base.Fml.{Fml, ftrue, ffalse, fsep, fex}
@@ -23,13 +23,13 @@ abbrev pub known_at : BlockId → Option (ℕ × ℕ) → Fml
 known_at t none = ftrue
 known_at t (some x) = fsep (told (x.1 < 2 ^ 63)) (at_least places t.place (some x))
 
--- a count of two that no cell leads to yet, and the receipt for its memory
-abbrev pub pending_at : BlockId → ℕ × ℕ → Fml
-pending_at t x = fsep (word x.0 x.1 2)
+-- a count of so many that no cell leads to, and the receipt for its memory
+abbrev pub pending_at : BlockId → ℕ × ℕ → ℕ → Fml
+pending_at t x n = fsep (word x.0 x.1 n)
     (fsep (told (x.1 < 2 ^ 63)) (fex ℕ (λ k. receipt t.receipts k x)))
 
 -- such a count that is held, or none
-abbrev pub pending : Bool → BlockId → Ptr → Fml
-pending true t (block_ptr b o) = pending_at t (b, o)
-pending true t null_ptr = ffalse
-pending false t p = ftrue
+abbrev pub pending : Bool → BlockId → Ptr → ℕ → Fml
+pending true t (block_ptr b o) n = pending_at t (b, o) n
+pending true t null_ptr n = ffalse
+pending false t p n = ftrue

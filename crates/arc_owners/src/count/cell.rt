@@ -42,17 +42,18 @@ impl Model for Lead {
     ghost also_owns = { λ l. known_at l.block (target l.at) };
 }
 
-/// That a count of two lies at a place to which no cell leads yet, where it is held. It has no
-/// bytes.
+/// That a count lies at a place to which no cell leads, where it is held: before a promotion, or
+/// when its cell is gone. It has no bytes.
 pub struct PendingCount {
     pub(crate) marker: PhantomData<()>,
     pub(crate) ghost held: { Bool },
     pub(crate) ghost block: { BlockId } by { block_id_coded },
     pub(crate) ghost at: { Ptr } by { coded_ptr },
+    pub(crate) ghost number: { ℕ },
 }
 
 impl Model for PendingCount {
-    ghost also_owns = { λ c. pending c.held c.block c.at };
+    ghost also_owns = { λ c. pending c.held c.block c.at c.number };
 }
 
 impl Cell {
@@ -140,7 +141,7 @@ impl Cell {
     ) -> Result<*mut u64, *mut u64>
         requires { IsHeld self.now by.now × IsOf self.now pass.old × (self.now.began ≡ Lone)
             × (count.old.held ≡ true) × (count.old.block ≡ self.now) × (count.old.at ≡ at)
-            × InBlock at }
+            × InBlock at × (count.old.number ≡ 2) }
         ensures { SamePass self.now pass.old pass.new
             × IfOk result (λ _. Promoted by.now pass.old pass.new new.new
             × (count.new.held ≡ false))

@@ -163,8 +163,8 @@ promote_spec 𝓤 𝓛 𝓜 𝓡 wired T L =
     move ! (6 ∷ []) $ owner_shown R ! b₁ o₁ t own (asked.0.0, asked.0.1) $
     move ! (1 ∷ 2 ∷ 10 ∷ []) $ pass_out ! tt b₂ o₂ t p asked.1 $
     move ! (7 ∷ 8 ∷ 10 ∷ []) $ count_out ! tt b₄ o₄ n $
-    rewrite ! 0 (λ (k : Bool × BlockId × Ptr). ‵ (pending k.0 k.1 k.2))
-    (λ i. (asked.3 i, asked.4 i, (asked.5 ∙ here) i)) refl $
+    rewrite ! 0 (λ (k : Bool × BlockId × Ptr × ℕ). ‵ (pending k.0 k.1 k.2 k.3))
+    (λ i. (asked.3 i, asked.4 i, (asked.5 ∙ here) i, asked.7 i)) refl $
     move ! (11 ∷ []) $ unhide ! $
     -- [the cell; the count; its two parts and token; the pass; its two parts and token; the owner;
     -- two of the new right; the tokens]
@@ -215,8 +215,8 @@ promote_spec 𝓤 𝓛 𝓜 𝓡 wired T L =
     exec ! 𝓣.C 𝓣.Λ Ev (tail fn.body) (at_ret Ev Post) $
     sets ! (of_opd ! (get ! refl)) refl (answer_good (Err r)) $
     fsplit3 ! $ move ! (2 ∷ []) $ fsplit ! $
-    rewrite ! 0 (λ (k : Bool × BlockId × Ptr). ‵ (pending k.0 k.1 k.2))
-    (λ i. (sym asked.3 i, sym asked.4 i, sym (asked.5 ∙ here) i)) refl $
+    rewrite ! 0 (λ (k : Bool × BlockId × Ptr × ℕ). ‵ (pending k.0 k.1 k.2 k.3))
+    (λ i. (sym asked.3 i, sym asked.4 i, sym (asked.5 ∙ here) i, sym asked.7 i)) refl $
     move ! (0 ∷ 4 ∷ 5 ∷ 6 ∷ []) $ count_in ! tt b₄ o₄ (no_count n) n $
     move ! (3 ∷ []) $ fpick ! (λ m. fpick ! (λ before. fsplit ! $ fpick ! (λ so. drop ! $ fsplit ! $
     let ls : List Line = with_entry p.number before (mathlib.Core.Option.some
