@@ -3,7 +3,7 @@
 use contract.BorrowLft.{◌⊑◌}
 use denote.Param.{param}
 use Rattle.std.proofs.Common.{◌≡◌, ℕ, Bool, true, List, [], ◌∷◌, refl, sym, ◌∙◌, subst}
-use mir.Syntax.{named}
+use mir.Syntax.{named, Callee}
 use mir.Val.{Val, vptr, vnull}
 use base.Logic.{SProp, ent, emp, id⊢}
 use base.Share.{quarter}
@@ -32,6 +32,8 @@ use Rattle.core.proofs.atomic.Steps.{tail}
 use Rattle.core.proofs.result.Made.{Ok-of, Err-of}
 use Rattle.std.proofs.raw_atomic.Walks.{proved}
 use Rattle.std.proofs.raw_atomic.Calls.{fm, seq_cst}
+use Rattle.core.proofs.raw_atomic.ptr.compare_exchange.Symbol as exchange_is
+use Rattle.std.proofs.raw_atomic.PtrCalls.{picked}
 use Rattle.std.proofs.raw_atomic.PtrCalls.{Answer, answer_val, answer_good, exchanges, seq_cst_good}
 use Rattle.logbook.proofs.Fields.{ends}
 use Rattle.arc_owners.specs.count.Invariant.{BlockId, Line, next_owner}
@@ -168,6 +170,7 @@ promote_spec 𝓤 𝓛 𝓜 𝓡 wired T L =
     move ! (11 ∷ []) $ unhide ! $
     -- [the cell; the count; its two parts and token; the pass; its two parts and token; the owner;
     -- two of the new right; the tokens]
+    let k : Callee = exchange_is.name (picked u64) in
     let vs : List Val = vptr b o ∷ vnull ∷ vptr pb po ∷ seq_cst ∷ seq_cst ∷ [] in
     first ! $ blocks ! $ sets ! (addr ! (through ! refl (stop !))) refl (tt, tt) $
     sets ! (of_opd ! (get ! refl)) refl (tt, tt) $
@@ -175,10 +178,10 @@ promote_spec 𝓤 𝓛 𝓜 𝓡 wired T L =
     sets ! (agg ! (and_then ! (lit ! tt) (no_more !))) refl seq_cst_good $
     move ! (0 ∷ 14 ∷ 5 ∷ 9 ∷ 13 ∷ 1 ∷ []) $ group ! 6 $
     let out : W → Fml = λ w. fsep (flft κs.0 qs.0) (fsep (flft κs.1.0 qs.1.0)
-    (outcome 𝓛 𝓜 𝓡 _ vs t p.number p.ready p.lines own.owner own.lease κs.0 qs.0 b o (pb, po)
+    (outcome 𝓛 𝓜 𝓡 k vs t p.number p.ready p.lines own.owner own.lease κs.0 qs.0 b o (pb, po)
     asked.0.2 asked.2 w)) in
-    use1 𝓛 (later (raw (Answers 𝓛 𝓜 𝓡 W answer_val _ vs out)))
-    (promotes_by 𝓛 𝓜 𝓡 _ vs t p.number p.ready p.lines own.owner own.lease κs.0 qs.0 b o (pb, po)
+    use1 𝓛 (later (raw (Answers 𝓛 𝓜 𝓡 W answer_val k vs out)))
+    (promotes_by 𝓛 𝓜 𝓡 k vs t p.number p.ready p.lines own.owner own.lease κs.0 qs.0 b o (pb, po)
     asked.0.2 asked.2 (λ won lost. exchanges 𝓛 𝓜 𝓡
     (code.calls-core::raw_atomic::ptr::compare_exchange 𝓡.env wired) u64 word_laws
     (block_ptr b o) null_ptr (block_ptr pb po) won lost) κs.1.0 qs.1.0 own.born) $
