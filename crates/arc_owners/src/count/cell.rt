@@ -161,15 +161,22 @@ impl Cell {
 }
 
 impl Lead {
+    ghost use Rattle.std.specs.Prelude.{MatchOption};
+    ghost use denote.RawPtr.{Testable};
     ghost use Rattle.arc_owners.specs.count.Leads.{is_null};
 
-    /// The count that the cell leads to, for as long as the cell is borrowed.
-    pub(crate) fn word<'a>(self, cell: &'a Cell) -> &'a Word
-        requires { (self.block ≡ cell.now) × (is_null self.at ≡ false) }
-        ensures { result.now ≡ cell.now }
+    /// The count that the cell leads to, for as long as the cell is borrowed: `None` where the word
+    /// was lone.
+    pub(crate) fn count<'a>(self, cell: &'a Cell) -> Option<&'a Word>
+        requires { (self.block ≡ cell.now) × Testable self.at }
+        ensures { MatchOption result (is_null self.at ≡ true)
+            (λ word. (is_null self.at ≡ false) × (word.now ≡ cell.now)) }
     {
         let Self { at } = self;
-        unsafe { &*(at as *const Word) }
+        if at.is_null() {
+            return None;
+        }
+        Some(unsafe { &*(at as *const Word) })
     }
 }
 

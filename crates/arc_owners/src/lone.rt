@@ -1,0 +1,3 @@
+//! Blocks whose word has no count when they begin.
+
+pub mod testable;
