@@ -1,5 +1,6 @@
 pub mod AtType
 pub mod Bank
+pub mod Banks
 pub mod Begins
 pub mod Blocks
 pub mod Calls

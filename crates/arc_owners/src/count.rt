@@ -3,6 +3,7 @@
 
 pub(crate) mod cell;
 mod counted;
+pub(crate) mod lone;
 pub(crate) mod owner_without_lifetime;
 mod passes;
 mod raw;

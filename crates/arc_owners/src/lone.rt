@@ -1,3 +1,4 @@
 //! Blocks whose word has no count when they begin.
 
+pub(crate) mod bank;
 pub mod testable;

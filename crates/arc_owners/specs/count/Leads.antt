@@ -2,11 +2,15 @@
 -- cell leads to.
 use Rattle.std.specs.Prelude.{ℕ, ◌^◌, ◌<◌, Bool, true, false}
 use mathlib.Core.Option.{Option, none, some}
-use base.Fml.{Fml, ftrue, ffalse, fsep, fex}
+use mir.Syntax.{Ty}
+use mir.Raw.{raw}
+use base.Fml.{Fml, ftrue, ffalse, fsep, fex, fnamed}
 use base.Growing.{at_least}
+use denote.Builtin.{u64}
+use denote.Memory.{lone}
 use denote.RawPtr.{Ptr, block_ptr, null_ptr}
 use Rattle.core.specs.Sync.RawAtomic.{word}
-use Rattle.arc_owners.specs.count.Invariant.{BlockId, places, told, receipt}
+use Rattle.arc_owners.specs.count.Invariant.{BlockId, places, told, receipt, banked}
 
 abbrev pub is_null : Ptr → Bool
 is_null null_ptr = true
@@ -33,3 +37,11 @@ abbrev pub pending : Bool → BlockId → Ptr → ℕ → Fml
 pending true t (block_ptr b o) n = pending_at t (b, o) n
 pending true t null_ptr n = ffalse
 pending false t p n = ftrue
+
+-- the right to free the memory of a count at a place
+abbrev pub frees_count : (Ty → Ptr → Fml) → ℕ × ℕ → Fml
+frees_count holds x = holds (raw (lone u64.mir)) (block_ptr x.0 x.1)
+
+-- a bank for such rights: its number, and the name of the receipts
+abbrev pub bank_of : (Ty → Ptr → Fml) → ℕ → ℕ → Fml
+bank_of holds n δ = fnamed n (banked (frees_count holds) δ)
