@@ -13,6 +13,7 @@ pub mod Cells
 pub mod Ends
 pub mod Fields
 pub mod Lodgings
+pub mod LoneAnswers
 pub mod LoneCalls
 pub mod LoneMoves
 pub mod LonePartings

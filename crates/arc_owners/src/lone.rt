@@ -1,4 +1,5 @@
 //! Blocks whose word has no count when they begin.
 
 pub(crate) mod bank;
+pub(crate) mod loose;
 pub mod testable;

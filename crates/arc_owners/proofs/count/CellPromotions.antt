@@ -29,7 +29,7 @@ use Rattle.arc_owners.specs.count.Invariant.{BlockId, Line, Lease, right, right_
 use Rattle.arc_owners.specs.count.Invariant.{contents, pass_holds, trace_owns, cell_at, cell_shares}
 use Rattle.arc_owners.specs.count.Invariant.{pointer, next_owner}
 use Rattle.arc_owners.specs.count.Leads.{pending_at}
-use Rattle.arc_owners.specs.contracts.count.cell.PendingCount as PendingCount
+use Rattle.arc_owners.specs.contracts.lone.loose.PendingCount as PendingCount
 use Rattle.arc_owners.specs.contracts.count.word.PassState as PassState
 use Rattle.arc_owners.specs.contracts.count.word.OwnerToken as OwnerToken
 use Rattle.arc_owners.proofs.count.Signs.{signs}
@@ -128,7 +128,7 @@ module _ {M : Type 1} {𝓤 : Ura M} (𝓛 : Logic 𝓤) (𝓜 : Model 𝓤 𝓛
   lost_at n = left t p seen T n (λ _. some (Joined own)) (λ _. ftrue)
 
   abbrev pub left_lost : Fml
-  left_lost = fsep (pending_at t x 2) (fex ℕ lost_at)
+  left_lost = fsep (pending_at t.receipts x 2) (fex ℕ lost_at)
 
   abbrev pub outcome : W → Fml
   outcome (Ok r) = left_won
@@ -168,9 +168,9 @@ module _ {M : Type 1} {𝓤 : Ura M} (𝓛 : Logic 𝓤) (𝓜 : Model 𝓤 𝓛
 
   pub promotes_by : Compares → (κ₁ : Lft) (q₁ : Share) (born : List Line)
       → ⟦ cell_shares t (block_ptr b o) κ₀ ⟧ ∗ At.lft κ₀ q₀ ∗ ⟦ T seen ⟧
-      ∗ ⟦ right_shares true t own l born κ₁ ⟧ ∗ At.lft κ₁ q₁ ∗ ⟦ pending_at t x 2 ⟧
+      ∗ ⟦ right_shares true t own l born κ₁ ⟧ ∗ At.lft κ₁ q₁ ∗ ⟦ pending_at t.receipts x 2 ⟧
       ⊢ H.⇛ (Hears (λ w. fsep (flft κ₀ q₀) (fsep (flft κ₁ q₁) (outcome w))))
-  promotes_by compare κ₁ q₁ born = let mine : Fml = pending_at t x 2 in
+  promotes_by compare κ₁ q₁ born = let mine : Fml = pending_at t.receipts x 2 in
       let out : W → Fml = λ w. fsep (flft κ₀ q₀) (fsep (flft κ₁ q₁) (outcome w)) in
       qed 𝓛 (‵ (cell_shares t (block_ptr b o) κ₀) ∷ ‵ (flft κ₀ q₀) ∷ ‵ (T seen)
       ∷ ‵ (right_shares true t own l born κ₁) ∷ ‵ (flft κ₁ q₁) ∷ ‵ mine ∷ []) ∵ updating ! $

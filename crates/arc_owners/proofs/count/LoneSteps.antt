@@ -122,7 +122,7 @@ module _ {M : Type 1} {𝓤 : Ura M} (𝓛 : Logic 𝓤) (t : BlockId) (p : ℕ)
     after_won = won 𝓛 t p ready seen own l (T ready) q
 
     abbrev pub after_lost : ℕ × ℕ → Fml
-    after_lost x = fsep (pending_at t x 2) (lost 𝓛 t p ready seen own l (T ready) q)
+    after_lost x = fsep (pending_at t.receipts x 2) (lost 𝓛 t p ready seen own l (T ready) q)
 
     -- what a load leaves that found this
     abbrev pub loaded : Glance → Option (ℕ × ℕ) → Fml
@@ -201,7 +201,7 @@ module _ {M : Type 1} {𝓤 : Ura M} (𝓛 : Logic 𝓤) (t : BlockId) (p : ℕ)
         here = some x
 
         abbrev mine : Fml
-        mine = pending_at t x 2
+        mine = pending_at t.receipts x 2
 
         abbrev after_both : Ptr × Bool → Fml
         after_both z = cond z.1 after_won (after_lost x)

@@ -34,7 +34,7 @@ use Rattle.arc_owners.specs.count.Invariant.{BlockId, Line, Lease, known, right,
 use Rattle.arc_owners.specs.count.Invariant.{right_owns, right_shares, right_shown, trace_owns}
 use Rattle.arc_owners.specs.count.Invariant.{end_tokens, trace_shares, word_borrow}
 use Rattle.arc_owners.specs.count.Leads.{pending}
-use Rattle.arc_owners.specs.contracts.count.cell.PendingCount as PendingCount
+use Rattle.arc_owners.specs.contracts.lone.loose.PendingCount as PendingCount
 use Rattle.arc_owners.specs.contracts.count.word.OwnerToken as OwnerToken
 use Rattle.arc_owners.specs.contracts.count.word.PassState as PassState
 use Rattle.arc_owners.specs.contracts.count.word.EndTokens as EndTokens
@@ -139,18 +139,18 @@ module _ {M : Type 1} {𝓤 : Ura M} {𝓛 : Logic 𝓤} {K : Type 0} {Γ : List
 
   swaps_count : K → Soaks G → {κ : Lft} {q : Share} {γ : GName} (b o : ℕ)
       (h h' : PendingCount.the_row.Denot)
-      → Step K 𝓛 (‵ (pending h.held h.block h.at h.number)
+      → Step K 𝓛 (‵ (pending h.held h.receipts h.at h.number)
       ∷ ‵ (fobs γ (PendingCount.the_row.coded.code h'))
       ∷ ‵ (fbor κ (Body (mem PendingCount.the_row) b o γ)) ∷ ‵ (flft κ q) ∷ Γ) G
-      (‵ (pending h'.held h'.block h'.at h'.number) ∷ ‵ (fobs γ (PendingCount.the_row.coded.code h))
+      (‵ (pending h'.held h'.receipts h'.at h'.number) ∷ ‵ (fobs γ (PendingCount.the_row.coded.code h))
       ∷ ‵ (fbor κ (Body (mem PendingCount.the_row) b o γ)) ∷ ‵ (flft κ q) ∷ Γ) G
   swaps_count t z b o h h' = swaps t z PendingCount.the_row
       (λ vs. (Token unit).own_val (record {}, tt) vs)
-      (λ c. pending c.held c.block c.at c.number) (λ c vs. refl) b o h h'
+      (λ c. pending c.held c.receipts c.at c.number) (λ c vs. refl) b o h h'
 
   pub count_out : K → Soaks G → {κ : Lft} {q : Share} {γ : GName} (b o : ℕ)
       (h : PendingCount.the_row.Denot)
-      → Step K 𝓛 (‵ (pending h.held h.block h.at h.number)
+      → Step K 𝓛 (‵ (pending h.held h.receipts h.at h.number)
       ∷ ‵ (fobs γ (PendingCount.the_row.coded.code (no_count h)))
       ∷ ‵ (fbor κ (Body (mem PendingCount.the_row) b o γ)) ∷ ‵ (flft κ q) ∷ Γ) G
       (‵ (fobs γ (PendingCount.the_row.coded.code h))
@@ -161,7 +161,7 @@ module _ {M : Type 1} {𝓤 : Ura M} {𝓛 : Logic 𝓤} {K : Type 0} {Γ : List
       (was h : PendingCount.the_row.Denot)
       → Step K 𝓛 (‵ (fobs γ (PendingCount.the_row.coded.code h))
       ∷ ‵ (fbor κ (Body (mem PendingCount.the_row) b o γ)) ∷ ‵ (flft κ q) ∷ Γ) G
-      (‵ (pending h.held h.block h.at h.number) ∷ ‵ (fobs γ (PendingCount.the_row.coded.code was))
+      (‵ (pending h.held h.receipts h.at h.number) ∷ ‵ (fobs γ (PendingCount.the_row.coded.code was))
       ∷ ‵ (fbor κ (Body (mem PendingCount.the_row) b o γ)) ∷ ‵ (flft κ q) ∷ Γ) G
   count_in t z b o was h = step (λ s. swaps_count t z b o was h $ drop t $ s)
 

@@ -28,15 +28,15 @@ known_at t none = ftrue
 known_at t (some x) = fsep (told (x.1 < 2 ^ 63)) (at_least places t.place (some x))
 
 -- a count of so many that no cell leads to, and the receipt for its memory
-abbrev pub pending_at : BlockId → ℕ × ℕ → ℕ → Fml
-pending_at t x n = fsep (word x.0 x.1 n)
-    (fsep (told (x.1 < 2 ^ 63)) (fex ℕ (λ k. receipt t.receipts k x)))
+abbrev pub pending_at : ℕ → ℕ × ℕ → ℕ → Fml
+pending_at δ x n = fsep (word x.0 x.1 n)
+    (fsep (told (x.1 < 2 ^ 63)) (fex ℕ (λ k. receipt δ k x)))
 
 -- such a count that is held, or none
-abbrev pub pending : Bool → BlockId → Ptr → ℕ → Fml
-pending true t (block_ptr b o) n = pending_at t (b, o) n
-pending true t null_ptr n = ffalse
-pending false t p n = ftrue
+abbrev pub pending : Bool → ℕ → Ptr → ℕ → Fml
+pending true δ (block_ptr b o) n = pending_at δ (b, o) n
+pending true δ null_ptr n = ffalse
+pending false δ p n = ftrue
 
 -- the right to free the memory of a count at a place
 abbrev pub frees_count : (Ty → Ptr → Fml) → ℕ × ℕ → Fml

@@ -1,13 +1,13 @@
 //! The word of a block that begins without a count.
-ghost use Rattle.std.specs.Prelude.{◌≡◌, ℕ, Bool, true, false};
+ghost use Rattle.std.specs.Prelude.{◌≡◌, ℕ, true, false};
 ghost use mathlib.Core.Option.{Option};
 ghost use base.Fml.{fsep, fex};
-ghost use denote.RawPtr.{Ptr, coded_ptr};
 ghost use Rattle.arc_owners.specs.count.Invariant.{BlockId, block_id_coded, pointer, cell_holds};
 ghost use Rattle.arc_owners.specs.count.Invariant.{cell_shares};
-ghost use Rattle.arc_owners.specs.count.Leads.{target, known_at, pending};
+ghost use Rattle.arc_owners.specs.count.Leads.{target, known_at};
 
 use super::word::{EndTokens, OwnerToken, PassState, Word};
+use crate::lone::loose::PendingCount;
 use std::marker::{Brand, Model, Move, Owns, PhantomData};
 use std::ptr::null_mut;
 use std::sync::atomic::Ordering::SeqCst;
@@ -42,22 +42,8 @@ impl Model for Lead {
     ghost also_owns = { λ l. known_at l.block (target l.at) };
 }
 
-/// That a count lies at a place to which no cell leads, where it is held: before a promotion, or
-/// when its cell is gone. It has no bytes.
-pub struct PendingCount {
-    pub(crate) marker: PhantomData<()>,
-    pub(crate) ghost held: { Bool },
-    pub(crate) ghost block: { BlockId } by { block_id_coded },
-    pub(crate) ghost at: { Ptr } by { coded_ptr },
-    pub(crate) ghost number: { ℕ },
-}
-
-impl Model for PendingCount {
-    ghost also_owns = { λ c. pending c.held c.block c.at c.number };
-}
-
 impl Cell {
-    ghost use Rattle.std.specs.Prelude.{◌≤◌, IfOk, IfErr};
+    ghost use Rattle.std.specs.Prelude.{◌≤◌, not, IfOk, IfErr};
     ghost use denote.RawPtr.{Testable, InBlock};
     ghost use Rattle.arc_owners.specs.declared.history.entry.Entry.TheVariants.{Joined};
     ghost use Rattle.arc_owners.specs.history.Histories.{Lone};
@@ -125,6 +111,21 @@ impl Cell {
         Lead { at }
     }
 
+    /// The cell is gone: where it led, and the count there, if the word had one.
+    pub(crate) fn close(self) -> (*mut u64, PendingCount)
+        ensures { (result.1.held ≡ not (is_null result.0))
+            × (result.1.receipts ≡ self.receipts) × (result.1.at ≡ result.0)
+            × Testable result.0 }
+    {
+        let Self { at } = self;
+        (
+            at,
+            PendingCount {
+                marker: PhantomData,
+            },
+        )
+    }
+
     /// Makes the count at `at` the word's, where the word is lone: its two owners are this one and a
     /// new one. Where the word has a count already, that at `at` stays as it is.
     ///
@@ -140,7 +141,8 @@ impl Cell {
         at: *mut u64,
     ) -> Result<*mut u64, *mut u64>
         requires { IsHeld self.now by.now × IsOf self.now pass.old × (self.now.began ≡ Lone)
-            × (count.old.held ≡ true) × (count.old.block ≡ self.now) × (count.old.at ≡ at)
+            × (count.old.held ≡ true) × (count.old.receipts ≡ self.now.receipts)
+            × (count.old.at ≡ at)
             × InBlock at × (count.old.number ≡ 2) }
         ensures { SamePass self.now pass.old pass.new
             × IfOk result (λ _. Promoted by.now pass.old pass.new new.new
@@ -189,12 +191,6 @@ impl Drop for Cell {
 impl Drop for Lead {
     fn drop(self) {
         let Self { at: _ } = self;
-    }
-}
-
-impl Drop for PendingCount {
-    fn drop(self) {
-        let Self { marker: _ } = self;
     }
 }
 

@@ -8,12 +8,11 @@ ghost use Rattle.arc_owners.specs.count.Calls.{Asks, MakesAnother, FindsFull, Le
 ghost use Rattle.arc_owners.specs.count.Releases.{is_last, IfLast};
 
 use super::cell::Cell;
-use super::counted::{released, try_up};
+use super::counted::{released, up};
 use super::sole::claimed;
 use super::tokens::{LifetimeEnd, Pass, Release, Share, Sole};
 use super::word::EndTokens;
 use crate::error::CountFull;
-use crate::leave::RaiseLeave;
 use crate::mark::{Mark, Open};
 use std::marker::PhantomData;
 use std::sync::Wait;
@@ -92,17 +91,11 @@ impl<const MAX: u64, H: Mark> LoneCount<MAX, H> {
         ensures lent { IfOk result (λ s. lease_of s ≡ lease_of by.now) }
         ensures full { IfErr result (λ _. FindsFull (owner_of by.now) pass.old pass.new) }
     {
-        let leave = RaiseLeave::of(rt);
         let lead = self.cell.seek(&by.right, &mut pass.trace);
         let Some(word) = lead.count(&self.cell) else {
             unreachable!()
         };
-        for _ in rt.forever() {
-            if let Some(made) = try_up(word, leave, MAX, by, pass) {
-                return made;
-            }
-        }
-        unreachable!()
+        up(word, rt, MAX, by, pass)
     }
 
     /// Ends an owner: without a step on the count where the word is lone, else by one subtraction

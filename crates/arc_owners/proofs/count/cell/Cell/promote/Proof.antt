@@ -36,10 +36,10 @@ use Rattle.core.proofs.raw_atomic.ptr.compare_exchange.Symbol as exchange_is
 use Rattle.std.proofs.raw_atomic.PtrCalls.{picked}
 use Rattle.std.proofs.raw_atomic.PtrCalls.{Answer, answer_val, answer_good, exchanges, seq_cst_good}
 use Rattle.logbook.proofs.Fields.{ends}
-use Rattle.arc_owners.specs.count.Invariant.{BlockId, Line, next_owner}
+use Rattle.arc_owners.specs.count.Invariant.{Line, next_owner}
 use Rattle.arc_owners.specs.count.Leads.{pending}
 use Rattle.arc_owners.specs.contracts.count.cell.Cell as Cell
-use Rattle.arc_owners.specs.contracts.count.cell.PendingCount as PendingCount
+use Rattle.arc_owners.specs.contracts.lone.loose.PendingCount as PendingCount
 use Rattle.arc_owners.specs.contracts.count.word.PassState as PassState
 use Rattle.arc_owners.proofs.count.AtType.{layouts_at, code_at, Right}
 use Rattle.arc_owners.proofs.count.Operations.{with_entry}
@@ -165,7 +165,7 @@ promote_spec 𝓤 𝓛 𝓜 𝓡 wired T L =
     move ! (6 ∷ []) $ owner_shown R ! b₁ o₁ t own (asked.0.0, asked.0.1) $
     move ! (1 ∷ 2 ∷ 10 ∷ []) $ pass_out ! tt b₂ o₂ t p asked.1 $
     move ! (7 ∷ 8 ∷ 10 ∷ []) $ count_out ! tt b₄ o₄ n $
-    rewrite ! 0 (λ (k : Bool × BlockId × Ptr × ℕ). ‵ (pending k.0 k.1 k.2 k.3))
+    rewrite ! 0 (λ (k : Bool × ℕ × Ptr × ℕ). ‵ (pending k.0 k.1 k.2 k.3))
     (λ i. (asked.3 i, asked.4 i, (asked.5 ∙ here) i, asked.7 i)) refl $
     move ! (11 ∷ []) $ unhide ! $
     -- [the cell; the count; its two parts and token; the pass; its two parts and token; the owner;
@@ -218,7 +218,7 @@ promote_spec 𝓤 𝓛 𝓜 𝓡 wired T L =
     exec ! 𝓣.C 𝓣.Λ Ev (tail fn.body) (at_ret Ev Post) $
     sets ! (of_opd ! (get ! refl)) refl (answer_good (Err r)) $
     fsplit3 ! $ move ! (2 ∷ []) $ fsplit ! $
-    rewrite ! 0 (λ (k : Bool × BlockId × Ptr × ℕ). ‵ (pending k.0 k.1 k.2 k.3))
+    rewrite ! 0 (λ (k : Bool × ℕ × Ptr × ℕ). ‵ (pending k.0 k.1 k.2 k.3))
     (λ i. (sym asked.3 i, sym asked.4 i, sym (asked.5 ∙ here) i, sym asked.7 i)) refl $
     move ! (0 ∷ 4 ∷ 5 ∷ 6 ∷ []) $ count_in ! tt b₄ o₄ (no_count n) n $
     move ! (3 ∷ []) $ fpick ! (λ m. fpick ! (λ before. fsplit ! $ fpick ! (λ so. drop ! $ fsplit ! $
