@@ -18,6 +18,7 @@ pub mod LoneCalls
 pub mod LoneMoves
 pub mod LonePartings
 pub mod LoneSteps
+pub mod LooseCounts
 pub mod Markers
 pub mod Moves
 pub mod OneCall

@@ -42,18 +42,10 @@ use Rattle.arc_owners.specs.contracts.count.cell.Lead as Lead
 use Rattle.arc_owners.specs.contracts.count.word.Word as Word
 use Rattle.arc_owners.proofs.memory.Endings.{enters}
 use Rattle.arc_owners.proofs.count.CellReadings.{wrap, lead_told}
+use Rattle.arc_owners.proofs.count.LooseCounts.{null_or_not}
 use Rattle.arc_owners.specs.contracts.count.cell.Lead.count as f
 use Rattle.arc_owners.proofs.count.cell.Lead.count.Statement.{statement}
 use Rattle.arc_owners.proofs.count.cell.Lead.count.Code as code
-
-module _ {M : Type 1} {𝓤 : Ura M} {𝓛 : Logic 𝓤} {K : Type 0} {Γ : List (Item 𝓤)}
-    {G : Goal 𝓤 𝓛.H} where
-  -- a pointer is null or leads to a place
-  null_or_not : K → (r : Ptr) (F : Ptr → Fml) → (r ≡ null_ptr → Seq K 𝓛 (‵ (F null_ptr) ∷ Γ) G)
-      → ((b o : ℕ) → r ≡ block_ptr b o → Seq K 𝓛 (‵ (F (block_ptr b o)) ∷ Γ) G)
-      → Seq K 𝓛 (‵ (F r) ∷ Γ) G
-  null_or_not t null_ptr F none one = none refl
-  null_or_not t (block_ptr b o) F none one = one b o refl
 
 pub count_spec : {M : Type 1} → statement M
 count_spec 𝓤 𝓛 𝓜 𝓡 wired =
