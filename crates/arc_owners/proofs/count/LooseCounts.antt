@@ -49,8 +49,8 @@ module _ {M : Type 1} {𝓤 : Ura M} {𝓛 : Logic 𝓤} {K : Type 0} {Γ : List
   pub null_or_not : K → (r : Ptr) (F : Ptr → Fml) → (r ≡ null_ptr → Seq K 𝓛 (‵ (F null_ptr) ∷ Γ) G)
       → ((b o : ℕ) → r ≡ block_ptr b o → Seq K 𝓛 (‵ (F (block_ptr b o)) ∷ Γ) G)
       → Seq K 𝓛 (‵ (F r) ∷ Γ) G
-  null_or_not t null_ptr F none one = none refl
-  null_or_not t (block_ptr b o) F none one = one b o refl
+  null_or_not t null_ptr F at_null at_place = at_null refl
+  null_or_not t (block_ptr b o) F at_null at_place = at_place b o refl
 
 abbrev pub place_val : Val → Val
 place_val v = vstruct (vcons v (vcons (vstruct vnil) vnil))

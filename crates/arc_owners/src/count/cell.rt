@@ -1,5 +1,5 @@
 //! The word of a block that begins without a count.
-ghost use Rattle.std.specs.Prelude.{◌≡◌, ℕ, true, false};
+ghost use Rattle.std.specs.Prelude.{◌≡◌, ℕ, Bool, true, false};
 ghost use mathlib.Core.Option.{Option};
 ghost use base.Fml.{fsep, fex};
 ghost use Rattle.arc_owners.specs.count.Invariant.{BlockId, block_id_coded, pointer, cell_holds};
@@ -52,14 +52,15 @@ impl Cell {
     ghost use Rattle.arc_owners.specs.count.Steps.{Claimed, SamePass, Wrote, Promoted};
 
     /// The cell of a new block, which has no count yet, its one owner's right, and a pass. The block
-    /// is lent to that owner, or not.
-    pub(crate) fn open<H>(most: u64, whole: bool, lent: bool) -> (Cell, OwnerToken<H>, PassState)
-        ghost bank: { ℕ × ℕ }
+    /// is lent to that owner, or not. `begun` names its bank, the receipts for what lies there, and
+    /// whether the block has one pass.
+    pub(crate) fn open<H>(most: u64, lent: bool) -> (Cell, OwnerToken<H>, PassState)
+        ghost begun: { ℕ × ℕ × Bool }
         requires { 2 ≤ most }
-        ensures { IsOpened most Lone whole lent result.0 result.1 result.2
-            × (result.0.bank ≡ bank.0) × (result.0.receipts ≡ bank.1) }
+        ensures { IsOpened most Lone begun.2 lent result.0 result.1 result.2
+            × (result.0.bank ≡ begun.0) × (result.0.receipts ≡ begun.1) }
     {
-        let _ = (most, whole, lent);
+        let _ = (most, lent);
         (
             Cell { at: null_mut() },
             OwnerToken {

@@ -13,10 +13,10 @@ use std::alloc::{Allocator, Global};
 /// comparison is where a place is less than 2^63 bytes past the start of its memory.
 pub trait TestableAllocator: Allocator {
     // Whoever may free the memory at a place may compare the place with null.
-    ghost testable: { {M : Type 1} {𝓤 : Ura M} (𝓛 : Logic 𝓤) (alloc : Self) (ty : Ty) (at : Ptr)
+    ghost testable: { (M : Type 1) (𝓤 : Ura M) (𝓛 : Logic 𝓤) (alloc : Self) (ty : Ty) (at : Ptr)
         → ent 𝓤 (sem 𝓛 (Self.Allocator.dealloc_token alloc ty at)) (fact 𝓤 (Testable at)) };
 }
 
 impl TestableAllocator for Global {
-    ghost testable = { λ 𝓛 alloc ty at. dealloc_token-Testable 𝓛 alloc ty at };
+    ghost testable = { λ M 𝓤 𝓛 alloc ty at. dealloc_token-Testable 𝓛 alloc ty at };
 }

@@ -102,7 +102,7 @@ lay_spec 𝓤 𝓛 𝓜 𝓡 wired A LA g d da allocator glued = let Z : RattleT
     marked unit ! $ feq_i ! (List Val) (vptr pb po ∷ []) (vptr pb po ∷ []) refl $
     returns ! (look_at ! 0 refl) $ free_all ! refl $ keep ! (0 ∷ 1 ∷ 2 ∷ []) $
     by ! (both_spent 𝓛 En c y RawPtr Count (block_ptr pb po) count (vptr pb po) token
-    (block_ptr pb po, count) ((tt, (tt, tt)), (tt, tt)) refl (fact_i 𝓤 _ (emp 𝓤) (
+    (block_ptr pb po, count) (tt, (tt, tt)) refl (fact_i 𝓤 _ (emp 𝓤) (
       sym e,
       subst InBlock (sym e) tt,
       refl,

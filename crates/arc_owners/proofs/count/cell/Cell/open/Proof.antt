@@ -3,7 +3,7 @@
 use contract.BorrowLft.{◌⊑◌}
 use mathlib.Core.Option.{none}
 use denote.RawPtr.{null_ptr}
-use Rattle.std.proofs.Common.{◌≡◌, true, false, List, [], ◌∷◌, ◌++◌, refl, lit<, w64}
+use Rattle.std.proofs.Common.{◌≡◌, Bool, true, false, List, [], ◌∷◌, ◌++◌, refl, lit<, w64}
 use mir.Val.{Val, vint, vstruct, vcons, vnil, of_list}
 use base.Logic.{SProp, emp}
 use base.Fml.{ftrue, fsep, feq, flft}
@@ -44,38 +44,34 @@ open_spec 𝓤 𝓛 𝓜 𝓡 wired T L =
     let c = f.clauses T 𝓛 𝓜.mem 𝓡.returns in let fn = code_at T code.function in
     let hs : Stays En.signature.params En.kept = (
       stay_dropped (plain (λ _. u64)) yes,
-      (stay_dropped (plain (λ _. bool)) yes, (stay_dropped (plain (λ _. bool)) yes, tt)),
+      (stay_dropped (plain (λ _. bool)) yes, tt),
     ) in
     proved 𝓛 En hs c 𝓜 𝓡 (
       Goes-dropped 𝓛 1 (plain (λ _. u64)) yes (λ κs x w. refl),
-      (
-        Goes-dropped 𝓛 1 (plain (λ _. bool)) yes (λ κs x w. refl),
-        (Goes-dropped 𝓛 1 (plain (λ _. bool)) yes (λ κs x w. refl), tt),
-      ),
+      (Goes-dropped 𝓛 1 (plain (λ _. bool)) yes (λ κs x w. refl), tt),
     ) (f.Key.name (layouts_at T)) fn
     (code.unfolded 𝓤 𝓛.H 𝓜 𝓡 wired (T, tt))
-    (λ κs. (uint_vals w64, (bool_vals, (bool_vals, tt))))
-    (λ κs. (uint_Tells w64, (bool_Tells, (bool_Tells, tt)))) (λ κs qs bounds a gh are.
-    let most = a.0 in let w = a.1.0 in let lent = a.1.1.0 in
+    (λ κs. (uint_vals w64, (bool_vals, tt)))
+    (λ κs. (uint_Tells w64, (bool_Tells, tt))) (λ κs qs bounds a gh are.
+    let most = a.0 in let lent = a.1.0 in let w : Bool = gh.2 in
     let y : (walk_of 𝓛 En hs c).Ghost =
-    ((κs, qs, bounds, a, (vint w64 most ∷ [], (bool_vals w, (bool_vals lent, tt)))), gh) in
+    ((κs, qs, bounds, a, (vint w64 most ∷ [], (bool_vals lent, tt))), gh) in
     let Post : Val → SProp 𝓤 = (walk_of 𝓛 En hs c).post y in
     qed 𝓛 ((‵ (fsep (flft κs.0 qs.0) ftrue) ⊛ ‵ (owns (types_at En.signature.params κs) a
     y.0.4)) ∷ raw (fact 𝓤 (κs.0 ⊑ T.lives)) ∷ raw (fact 𝓤 _) ∷ []) ∵ move ! (2 ∷ []) $
     heard ! _ (λ asked. keep ! (0 ∷ []) $ split ! $ keep ! (0 ∷ []) $
-    enter ! 𝓣.C 𝓣.Λ fn (vint w64 most ∷ (bool_vals w ++ bool_vals lent)) Post $
+    enter ! 𝓣.C 𝓣.Λ fn (vint w64 most ∷ bool_vals lent) Post $
     alloc_all ! (λ l. pass_all ! refl
-    ((tt, record { fits = are.0.1 }), ((tt, tt), ((tt, tt), tt))) $
+    ((tt, record { fits = are.0.1 }), ((tt, tt), tt)) $
     use0 𝓛 (later (some (λ (x : BlockId × Lease). given ((x.0.most ≡ most) × (x.0.began ≡ Lone)
     × (x.0.whole ≡ w) × (x.1.is_lent ≡ lent) × (x.0.bank ≡ gh.0) × (x.0.receipts ≡ gh.1))
     (‵ (cell_holds x.0 none) ⊛ ‵ (right_owns true x.0 0 x.1 []) ⊛ ‵
     (trace_owns true x.0 0 false [])))))
-    (begins.begins 𝓛 most Lone w lent gh asked are.0.1) $
+    (begins.begins 𝓛 most Lone w lent (gh.0, gh.1) asked are.0.1) $
     await ! tt $ pick ! (λ x. learn ! (λ so. types.Kit.split3 ! $ let t = x.0 in
     -- [the word's; the right's; the pass's; no token]
-    sets ! (agg ! (and_then ! (get ! refl)
-    (and_then ! (get ! refl) (and_then ! (get ! refl) (no_more !))))) refl
-    (tt, (record { fits = are.0.1 }, (tt, (tt, tt)))) $
+    sets ! (agg ! (and_then ! (get ! refl) (and_then ! (get ! refl) (no_more !)))) refl
+    (tt, (record { fits = are.0.1 }, (tt, tt))) $
     sets ! (agg ! (and_then ! (lit ! tt) (no_more !))) refl
     (tt, (record { fits = lit< tt }, tt)) $
     sets ! (agg ! (no_more !)) refl (tt, tt) $ sets ! (agg ! (and_then ! (get ! refl) (no_more !)))
