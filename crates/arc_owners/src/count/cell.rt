@@ -7,7 +7,9 @@ ghost use Rattle.arc_owners.specs.count.Invariant.{cell_shares};
 ghost use Rattle.arc_owners.specs.count.Leads.{target, known_at};
 
 use super::word::{EndTokens, OwnerToken, PassState, Word};
+use crate::lone::bank::Bank;
 use crate::lone::loose::PendingCount;
+use std::alloc::Allocator;
 use std::marker::{Brand, Model, Move, Owns, PhantomData};
 use std::ptr::null_mut;
 use std::sync::atomic::Ordering::SeqCst;
@@ -52,15 +54,19 @@ impl Cell {
     ghost use Rattle.arc_owners.specs.count.Steps.{Claimed, SamePass, Wrote, Promoted};
 
     /// The cell of a new block, which has no count yet, its one owner's right, and a pass. The block
-    /// is lent to that owner, or not. `begun` names its bank, the receipts for what lies there, and
-    /// whether the block has one pass.
-    pub(crate) fn open<H>(most: u64, lent: bool) -> (Cell, OwnerToken<H>, PassState)
-        ghost begun: { ℕ × ℕ × Bool }
+    /// is lent to that owner, or not, and has this bank, and one pass or many.
+    pub(crate) fn open<H, A: Allocator>(
+        most: u64,
+        lent: bool,
+        bank: &Bank<A>,
+    ) -> (Cell, OwnerToken<H>, PassState)
+        ghost whole: { Bool }
         requires { 2 ≤ most }
-        ensures { IsOpened most Lone begun.2 lent result.0 result.1 result.2
-            × (result.0.bank ≡ begun.0) × (result.0.receipts ≡ begun.1) }
+        ensures { IsOpened most Lone whole lent result.0 result.1 result.2
+            × (result.0.bank ≡ bank.now.number) × (result.0.receipts ≡ bank.now.receipts) }
     {
         let _ = (most, lent);
+        let _ = bank;
         (
             Cell { at: null_mut() },
             OwnerToken {

@@ -35,7 +35,7 @@ impl<const MAX: u64, A: Allocator, H: Mark> LoneOwners<MAX, A, H> {
         ensures pass { IsFreshPass (owner_of result.1) result.2 }
     {
         let bank = Bank::open(&alloc);
-        let (cell, right, trace) = Cell::open(MAX, true);
+        let (cell, right, trace) = Cell::open(MAX, true, &bank);
         (
             LoneOwners {
                 count: LoneCount {
