@@ -4,20 +4,16 @@ ghost use Rattle.arc_owners.specs.history.Histories.{Lone};
 ghost use Rattle.arc_owners.specs.count.Calls.{owner_of, sole_owner, lease_of, seen, IsFirst};
 ghost use Rattle.arc_owners.specs.count.Calls.{IsOwnerOf, IsPassOf, IsFreshPass, IsTermOf};
 ghost use Rattle.arc_owners.specs.count.Calls.{HasCountIn, Looks, Asks, MakesAnother, FindsFull};
-ghost use Rattle.arc_owners.specs.count.Calls.{Leaves, Joins, IsReady, Learns};
+ghost use Rattle.arc_owners.specs.count.Calls.{Leaves};
 ghost use Rattle.arc_owners.specs.count.Releases.{is_last, IfLast};
 
 use super::bank::Bank;
-use super::loose::{lay, tested};
 use super::owners::{LoneOwners, Prepared};
-use super::testable::TestableAllocator;
 use crate::count::cell::Cell;
 use crate::count::lone::LoneCount;
 use crate::count::tokens::{LifetimeEnd, Pass, Release, Share, Sole};
-use crate::error::{AllocError, CountFull};
+use crate::error::CountFull;
 use crate::mark::Mark;
-use crate::memory::box_parts::BoxParts;
-use crate::memory::box_place::BoxPlace;
 use std::alloc::Allocator;
 use std::marker::PhantomData;
 use std::sync::Wait;
@@ -28,6 +24,7 @@ impl<const MAX: u64, A: Allocator, H: Mark> LoneOwners<MAX, A, H> {
     ///
     /// `MAX`, at least 2, is how many owners may live at once. It takes no memory: that for a count
     /// will come from `alloc`.
+    #[tactic(auto, using(crate::proofs::count::Calls::first_of))]
     pub fn new(alloc: A) -> (LoneOwners<MAX, A, H>, Share<H>, Pass<H>)
         requires { 2 ≤ MAX }
         ensures share { IsOwnerOf result.0.count.cell result.1 }
@@ -173,27 +170,6 @@ impl<const MAX: u64, A: Allocator, H: Mark> LoneOwners<MAX, A, H> {
         let (at, pending) = cell.close();
         if let Some(place) = pending.take(at, &bank) {
             drop(place.with(alloc).into_box());
-        }
-    }
-}
-
-impl<const MAX: u64, A: TestableAllocator + Copy, H: Mark> LoneOwners<MAX, A, H> {
-    /// A count of two, for a promotion.
-    ///
-    /// # Errors
-    ///
-    /// Where memory is refused.
-    pub fn prepare(&self) -> Result<Prepared<A>, AllocError>
-        ensures { IfOk result (λ p. (p.count.receipts ≡ self.now.bank.receipts)
-            × (p.alloc ≡ self.now.alloc)) }
-    {
-        match Box::new(self.alloc, 2u64) {
-            Ok(memory) => {
-                let (place, alloc) = BoxPlace::of(BoxParts::of(memory));
-                let (at, count) = lay(tested(place), &self.bank);
-                Ok(Prepared { at, count, alloc })
-            }
-            Err(_) => Err(AllocError),
         }
     }
 }

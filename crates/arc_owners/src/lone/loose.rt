@@ -4,7 +4,6 @@ ghost use denote.RawPtr.{Ptr, coded_ptr, InBlock, Testable};
 ghost use Rattle.arc_owners.specs.count.Leads.{is_null, pending};
 
 use super::bank::Bank;
-use super::testable::TestableAllocator;
 use crate::memory::box_place::BoxPlace;
 use std::alloc::Allocator;
 use std::marker::{Model, PhantomData};
@@ -63,11 +62,4 @@ impl Drop for PendingCount {
     fn drop(self) {
         let Self { marker: _ } = self;
     }
-}
-
-/// That the place of a count can be compared with null.
-pub(crate) fn tested<A: TestableAllocator>(count: BoxPlace<u64, A>) -> BoxPlace<u64, A>
-    ensures { (result ≡ count) × Testable result.at }
-{
-    count
 }
