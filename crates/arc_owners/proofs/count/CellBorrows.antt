@@ -1,5 +1,5 @@
--- A cell that is borrowed for a lifetime: the borrow stands behind an invariant whose number is past
--- the invariant's. Assumes `Logic`.
+-- A cell that is borrowed for a lifetime: the borrow stands behind an invariant whose number is
+-- past the invariant's. Assumes `Logic`.
 use Rattle.std.proofs.Common.{ℕ, zero, ◌+◌, ◌<◌, ◌≤◌, List, [], ◌∷◌, sym, refl, ap, arith, add-zero}
 use Rattle.std.proofs.Common.{subst}
 use mathlib.Core.Option.{Option}

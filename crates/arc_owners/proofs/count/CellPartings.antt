@@ -1,5 +1,5 @@
--- A load of the cell by an owner that asks for its block back: what is had before the call and after
--- it. Assumes `Logic`.
+-- A load of the cell by an owner that asks for its block back: what is had before the call and
+-- after it. Assumes `Logic`.
 use Rattle.std.proofs.Common.{◌≡◌, ℕ, Bool, true, List, [], ◌∷◌, refl}
 use mathlib.Core.Option.{none, some}
 use seplogic.Ra.Ura.{Ura}

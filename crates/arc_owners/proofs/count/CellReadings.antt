@@ -1,5 +1,5 @@
--- A load of a cell through a borrowed owner, and one by an owner that asks for the block back: what is
--- had before the call and after it, whatever it says of the pass. Assumes `Logic`.
+-- A load of a cell through a borrowed owner, and one by an owner that asks for the block back: what
+-- is had before the call and after it, whatever it says of the pass. Assumes `Logic`.
 use Rattle.std.proofs.Common.{◌≡◌, ℕ, ◌^◌, ◌<◌, Bool, List, [], ◌∷◌, ◌++◌, refl, ap, ◌∙◌, lit<}
 use mathlib.Core.Option.{Option, none, some}
 use seplogic.Ra.Ura.{Ura}

@@ -1,6 +1,6 @@
--- A function whose code is one call of the machine on a cell: what it brings to the call, and what it
--- has afterwards, is said without its code. `W` is what the machine answers, `val` as which value.
--- Assumes `Logic`.
+-- A function whose code is one call of the machine on a cell: what it brings to the call, and what
+-- it has afterwards, is said without its code. `W` is what the machine answers, `val` as which
+-- value. Assumes `Logic`.
 use Rattle.std.proofs.Common.{◌≡◌, ℕ, ◌<◌, Bool, true, List, [], ◌∷◌, refl, sym}
 use mathlib.Core.Option.{Option}
 use seplogic.Ra.Ura.{Ura}

@@ -1,5 +1,5 @@
--- What calls on a lone count show, by what a load of the cell found, and by the step on the count that
--- may follow.
+-- What calls on a lone count show, by what a load of the cell found, and by the step on the count
+-- that may follow.
 use Rattle.std.proofs.Common.{◌≡◌, ℕ, Bool, true, false, List, [], ◌∷◌, ◌++◌, refl, sym, ap, ◌∙◌}
 use Rattle.std.proofs.Common.{subst}
 use Rattle.std.specs.Prelude.{not, IfOk, IfErr}

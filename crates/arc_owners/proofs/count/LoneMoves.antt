@@ -350,8 +350,8 @@ module _ {M : Type 1} {𝓤 : Ura M} (𝓛 : Logic 𝓤) (t : BlockId) where
         -- [what is left; contents; the word's; what is known; the cell's place]
         move ! (4 ∷ 2 ∷ 3 ∷ 1 ∷ 0 ∷ []) $ done !))))
 
-    -- an owner takes the block back whose word is lone, for its part of the lifetime: it is alone, and
-    -- no entry is added
+    -- an owner takes the block back whose word is lone, for its part of the lifetime: it is alone,
+    -- and no entry is added
     pub claims_lone : l.is_lent ≡ true → (r : Bool)
         → ⟦ cell_holds t none ⟧ ∗ ⟦ contents t ⟧ ∗ ⟦ pass_holds t p ready seen ⟧
         ∗ ⟦ right t o l quarter ⟧

@@ -1,6 +1,6 @@
--- A load of the cell by an owner that asks for its block back. By the cell's place it opens the cell
--- with the owner's own part of the lifetime: the borrow shuts before the block's invariant, for
--- which that part is wanted. Assumes `Logic`.
+-- A load of the cell by an owner that asks for its block back. By the cell's place it opens the
+-- cell with the owner's own part of the lifetime: the borrow shuts before the block's invariant,
+-- for which that part is wanted. Assumes `Logic`.
 use Rattle.std.proofs.Common.{◌≡◌, ℕ, ◌<◌, Bool, true, false, List, [], ◌∷◌, refl, sym, arith}
 use mathlib.Core.Option.{Option, none, some}
 use mathlib.Core.List.{Mem, mem-cons, not-mem-nil}
@@ -129,8 +129,8 @@ module _ {M : Type 1} {𝓤 : Ura M} (𝓛 : Logic 𝓤) (t : BlockId) (p : ℕ)
   abbrev T : Fml
   T = trace_owns true t p ready seen
 
-  -- what such a load leaves: the block, where the word was lone; else the owner and the pass as they
-  -- were
+  -- what such a load leaves: the block, where the word was lone; else the owner and the pass as
+  -- they were
   abbrev rest : Option (ℕ × ℕ) → Fml
   rest x = fsep (known_at t x) (passed 𝓛 t p ready seen own l (Seeks_at 𝓛 t p ready seen own l) x)
 

@@ -21,8 +21,8 @@ abbrev pub target : Ptr → Option (ℕ × ℕ)
 target null_ptr = none
 target (block_ptr b o) = some (b, o)
 
--- what is known for good of the place of a count: the word has it there, and it can be compared with
--- null
+-- what is known for good of the place of a count: the word has it there, and it can be compared
+-- with null
 abbrev pub known_at : BlockId → Option (ℕ × ℕ) → Fml
 known_at t none = ftrue
 known_at t (some x) = fsep (told (x.1 < 2 ^ 63)) (at_least places t.place (some x))

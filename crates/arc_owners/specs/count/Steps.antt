@@ -35,8 +35,8 @@ IsWithoutLifetime r w = (w.block ≡ r.block) × (w.owner ≡ r.owner) × (w.lea
 abbrev pub IsOf : BlockId → PassState → Type 0
 IsOf t p = (p.bound ≡ true) × (p.block ≡ t)
 
--- the word of a new block, which begins with a count or lone, its first owner, to whom it is lent or
--- not, and a pass that has seen nothing
+-- the word of a new block, which begins with a count or lone, its first owner, to whom it is lent
+-- or not, and a pass that has seen nothing
 abbrev pub IsOpened : {H : Type 0} → ℕ → Beginning → Bool → Bool → BlockId → OwnerToken H
     → PassState → Type 0
 IsOpened most began whole lent t r p =

@@ -53,8 +53,8 @@ impl Cell {
     ghost use Rattle.arc_owners.specs.count.Steps.{IsHeld, IsOf, IsRightOf, IsOpened, Looked};
     ghost use Rattle.arc_owners.specs.count.Steps.{Claimed, SamePass, Wrote, Promoted};
 
-    /// The cell of a new block, which has no count yet, its one owner's right, and a pass. The block
-    /// is lent to that owner, or not, and has this bank, and one pass or many.
+    /// The cell of a new block, which has no count yet, its one owner's right, and a pass. The
+    /// block is lent to that owner, or not, and has this bank, and one pass or many.
     pub(crate) fn open<H, A: Allocator>(
         most: u64,
         lent: bool,
@@ -133,8 +133,8 @@ impl Cell {
         )
     }
 
-    /// Makes the count at `at` the word's, where the word is lone: its two owners are this one and a
-    /// new one. Where the word has a count already, that at `at` stays as it is.
+    /// Makes the count at `at` the word's, where the word is lone: its two owners are this one and
+    /// a new one. Where the word has a count already, that at `at` stays as it is.
     ///
     /// # Errors
     ///

@@ -1,5 +1,5 @@
-//! The count of a block that begins without one, and the calls on it. The memory of the count that a
-//! promotion puts in place is its caller's.
+//! The count of a block that begins without one, and the calls on it. The memory of the count that
+//! a promotion puts in place is its caller's.
 ghost use Rattle.std.specs.Prelude.{◌≡◌, ◌≢◌, true, false, IfOk, IfErr, is_ok};
 ghost use Rattle.arc_owners.specs.history.Histories.{Lone};
 ghost use Rattle.arc_owners.specs.count.Calls.{owner_of, sole_owner, lease_of, seen, history_of};
@@ -30,7 +30,8 @@ pub struct LoneCount<const MAX: u64, H: Mark = Open> {
 
 impl<const MAX: u64, H: Mark> LoneCount<MAX, H> {
     /// Whether the word is lone, at the point of the one load that this takes. The pass has then
-    /// seen the history up to there, and may try to promote a word that is lone. It takes no memory.
+    /// seen the history up to there, and may try to promote a word that is lone. It takes no
+    /// memory.
     ///
     /// # History
     ///
@@ -47,8 +48,8 @@ impl<const MAX: u64, H: Mark> LoneCount<MAX, H> {
         false
     }
 
-    /// Whether the owner is alone, at the point of a load of the cell, or of the count where that is
-    /// in place. It takes no memory.
+    /// Whether the owner is alone, at the point of a load of the cell, or of the count where that
+    /// is in place. It takes no memory.
     ///
     /// # History
     ///
@@ -65,8 +66,8 @@ impl<const MAX: u64, H: Mark> LoneCount<MAX, H> {
         word.load(&by.right, &mut pass.trace) == 1
     }
 
-    /// A new owner of the same block, where the pass has seen that the word has a count. It takes no
-    /// memory.
+    /// A new owner of the same block, where the pass has seen that the word has a count. It takes
+    /// no memory.
     ///
     /// It takes `rt` since a raise that another thread disturbs is tried again.
     ///

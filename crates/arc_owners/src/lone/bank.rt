@@ -5,9 +5,9 @@ ghost use Rattle.arc_owners.specs.count.Leads.{bank_of};
 use std::alloc::Allocator;
 use std::marker::{Model, PhantomData};
 
-/// The bank of a block that begins without a count. Whoever makes a count lays the right to free its
-/// memory in the bank before others can find it there, and has a receipt for it. So the last owner
-/// can free the count, whoever made it. It has no bytes, and can be had more than once.
+/// The bank of a block that begins without a count. Whoever makes a count lays the right to free
+/// its memory in the bank before others can find it there, and has a receipt for it. So the last
+/// owner can free the count, whoever made it. It has no bytes, and can be had more than once.
 pub struct Bank<A: Allocator> {
     pub(crate) marker: PhantomData<A>,
     pub(crate) ghost alloc: { A },

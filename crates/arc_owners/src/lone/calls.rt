@@ -54,7 +54,8 @@ impl<const MAX: u64, A: Allocator, H: Mark> LoneOwners<MAX, A, H> {
     }
 
     /// Whether the word is lone, at the point of the one load that this takes. The pass has then
-    /// seen the history up to there, and may try to promote a word that is lone. It takes no memory.
+    /// seen the history up to there, and may try to promote a word that is lone. It takes no
+    /// memory.
     ///
     /// # History
     ///
@@ -67,8 +68,8 @@ impl<const MAX: u64, A: Allocator, H: Mark> LoneOwners<MAX, A, H> {
         self.count.load_as(by, pass)
     }
 
-    /// Whether the owner is alone, at the point of a load of the word, or of the count where that is
-    /// in place. It takes no memory.
+    /// Whether the owner is alone, at the point of a load of the word, or of the count where that
+    /// is in place. It takes no memory.
     ///
     /// # History
     ///
@@ -81,8 +82,8 @@ impl<const MAX: u64, A: Allocator, H: Mark> LoneOwners<MAX, A, H> {
         self.count.alone_as(by, pass)
     }
 
-    /// A new owner of the same block, where the pass has seen that the word has a count. It takes no
-    /// memory.
+    /// A new owner of the same block, where the pass has seen that the word has a count. It takes
+    /// no memory.
     ///
     /// It takes `rt` since a raise that another thread disturbs is tried again.
     ///

@@ -39,8 +39,8 @@ pub(crate) fn lay<A: Allocator>(count: BoxPlace<u64, A>, bank: &Bank<A>) -> (*mu
 }
 
 impl PendingCount {
-    /// Takes the right to free a count's memory out of the bank, for its receipt: `None` where there
-    /// is no count.
+    /// Takes the right to free a count's memory out of the bank, for its receipt: `None` where
+    /// there is no count.
     pub(crate) fn take<A: Allocator>(self, at: *mut u64, bank: &Bank<A>) -> Option<BoxPlace<u64, A>>
         requires { (self.held ≡ not (is_null at)) × (self.receipts ≡ bank.now.receipts)
             × (self.at ≡ at) × Testable at }

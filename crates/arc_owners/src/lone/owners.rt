@@ -1,5 +1,5 @@
-//! The types of the count of a block that begins without one: the count, what a promotion needs, and
-//! what it answers.
+//! The types of the count of a block that begins without one: the count, what a promotion needs,
+//! and what it answers.
 ghost use Rattle.std.specs.Prelude.{◌≡◌, true};
 ghost use denote.RawPtr.{InBlock, Testable};
 

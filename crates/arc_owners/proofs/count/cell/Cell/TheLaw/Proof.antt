@@ -1,5 +1,5 @@
--- A `&` to a cell is an invariant over a borrow of it, whose number is past the invariant's. Assumes
--- `Logic`.
+-- A `&` to a cell is an invariant over a borrow of it, whose number is past the invariant's.
+-- Assumes `Logic`.
 use Rattle.std.proofs.Common.{ℕ, ◌<◌, [], ◌∷◌}
 use seplogic.Ra.Ura.{Ura}
 use base.Fraction.{full_share}

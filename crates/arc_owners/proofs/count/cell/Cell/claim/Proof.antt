@@ -1,4 +1,5 @@
--- `claim` is one load of the cell, after which an owner that found the word lone has the block back.
+-- `claim` is one load of the cell, after which an owner that found the word lone has the block
+-- back.
 use contract.BorrowLft.{◌⊑◌}
 use Rattle.std.proofs.Common.{[], ◌∷◌, refl, sym}
 use mir.Syntax.{ty_ptr}

@@ -1,5 +1,5 @@
--- `promote` is one exchange from null, with the invariant, a share of an owner's right, the pass, the
--- right of the new owner, and the count that is to be put in place.
+-- `promote` is one exchange from null, with the invariant, a share of an owner's right, the pass,
+-- the right of the new owner, and the count that is to be put in place.
 use contract.BorrowLft.{◌⊑◌}
 use denote.Param.{param}
 use Rattle.std.proofs.Common.{◌≡◌, ℕ, Bool, true, List, [], ◌∷◌, refl, sym, ◌∙◌, subst}

@@ -1,5 +1,5 @@
--- `seek` is one load of the cell, after which the pass has seen the history up to there, or is as it
--- was.
+-- `seek` is one load of the cell, after which the pass has seen the history up to there, or is as
+-- it was.
 use contract.BorrowLft.{◌⊑◌}
 use Rattle.std.proofs.Common.{[], ◌∷◌, refl, sym}
 use mir.Syntax.{ty_ptr}
