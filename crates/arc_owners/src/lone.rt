@@ -4,4 +4,3 @@ pub(crate) mod bank;
 mod calls;
 pub(crate) mod loose;
 pub mod owners;
-pub mod testable;

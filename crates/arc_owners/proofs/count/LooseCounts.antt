@@ -1,6 +1,7 @@
 -- A count that no cell leads to: what a cell that is gone leaves of it, and the place of its box.
 -- Assumes `Logic`.
-use Rattle.std.proofs.Common.{◌≡◌, ℕ, ◌^◌, ◌<◌, Bool, true, false, List, [], ◌∷◌, ◌++◌, refl, ◌∙◌, lit<}
+use Rattle.std.proofs.Common.{◌≡◌, ℕ, ◌^◌, ◌<◌, Bool, true, false, List, [], ◌∷◌, ◌++◌, refl, sym, ◌∙◌, lit<}
+use Rattle.std.proofs.lemmas.Bool.{false≢true}
 use mathlib.Core.Option.{Option, none, some}
 use seplogic.Ra.Ura.{Ura}
 use mir.Val.{Val, vstruct, vcons, vnil, of_list}
@@ -13,7 +14,7 @@ use denote.Builtin.{u64}
 use denote.Laws.{Is}
 use denote.Param.{param}
 use denote.RattleType.{RattleType}
-use denote.RawPtr.{Ptr, RawPtr, null_ptr, block_ptr, ptr_val, Testable}
+use denote.RawPtr.{Ptr, RawPtr, InBlock, null_ptr, block_ptr, ptr_val, Testable}
 use denote.Shadow.{makes_shadow}
 use denote.Steps.{nothing}
 use denote.Struct.Struct.{Struct}
@@ -28,6 +29,11 @@ use Rattle.arc_owners.specs.count.Leads.{is_null, pending}
 pub there-null : (x : Option (ℕ × ℕ)) → is_there x ≡ not (is_null (pointer x))
 there-null none = refl
 there-null (some x) = refl
+
+-- a pointer that isn't null leads to a place
+pub in_block : (r : Ptr) → is_null r ≡ false → InBlock r
+in_block null_ptr wrong = absurd (false≢true (sym wrong))
+in_block (block_ptr b o) _ = tt
 
 -- what is left of the count
 pub closes : {M : Type 1} {𝓤 : Ura M} (𝓛 : Logic 𝓤) (t : BlockId) (x : Option (ℕ × ℕ))

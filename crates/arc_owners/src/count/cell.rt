@@ -46,7 +46,7 @@ impl Model for Lead {
 
 impl Cell {
     ghost use Rattle.std.specs.Prelude.{◌≤◌, not, IfOk, IfErr};
-    ghost use denote.RawPtr.{Testable, InBlock};
+    ghost use denote.RawPtr.{Testable};
     ghost use Rattle.arc_owners.specs.declared.history.entry.Entry.TheVariants.{Joined};
     ghost use Rattle.arc_owners.specs.history.Histories.{Lone};
     ghost use Rattle.arc_owners.specs.count.Leads.{is_null};
@@ -150,7 +150,7 @@ impl Cell {
         requires { IsHeld self.now by.now × IsOf self.now pass.old × (self.now.began ≡ Lone)
             × (count.old.held ≡ true) × (count.old.receipts ≡ self.now.receipts)
             × (count.old.at ≡ at)
-            × InBlock at × (count.old.number ≡ 2) }
+            × (is_null at ≡ false) × (count.old.number ≡ 2) }
         ensures { SamePass self.now pass.old pass.new
             × IfOk result (λ _. Promoted by.now pass.old pass.new new.new
             × (count.new.held ≡ false))

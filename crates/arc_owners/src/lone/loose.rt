@@ -1,6 +1,6 @@
 //! The memory of a count that no cell leads to.
 ghost use Rattle.std.specs.Prelude.{◌≡◌, ℕ, Bool, true, false, not, MatchOption};
-ghost use denote.RawPtr.{Ptr, coded_ptr, InBlock, Testable};
+ghost use denote.RawPtr.{Ptr, coded_ptr, Testable};
 ghost use Rattle.arc_owners.specs.count.Leads.{is_null, pending};
 
 use super::bank::Bank;
@@ -25,7 +25,7 @@ impl Model for PendingCount {
 /// Lays the right to free a count's memory in the bank. What is left is the count and its receipt.
 pub(crate) fn lay<A: Allocator>(count: BoxPlace<u64, A>, bank: &Bank<A>) -> (*mut u64, PendingCount)
     requires { (count.alloc ≡ bank.now.alloc) × Testable count.at }
-    ensures { (result.0 ≡ count.at) × InBlock count.at × (result.1.held ≡ true)
+    ensures { (result.0 ≡ count.at) × (is_null count.at ≡ false) × (result.1.held ≡ true)
         × (result.1.receipts ≡ bank.now.receipts) × (result.1.at ≡ count.at)
         × (result.1.number ≡ count.value) }
 {

@@ -1,12 +1,12 @@
-//! The types of the count of a block that begins without one: the count, what a promotion needs,
-//! and what it answers.
-ghost use Rattle.std.specs.Prelude.{◌≡◌, true};
-ghost use denote.RawPtr.{InBlock, Testable};
+//! The types of the count of a block that begins without one: the count, and what a promotion
+//! needs.
+ghost use Rattle.std.specs.Prelude.{◌≡◌, true, false};
+ghost use denote.RawPtr.{Testable};
+ghost use Rattle.arc_owners.specs.count.Leads.{is_null};
 
 use super::bank::Bank;
 use super::loose::PendingCount;
 use crate::count::lone::LoneCount;
-use crate::count::tokens::Share;
 use crate::mark::{Mark, Open};
 use std::alloc::Allocator;
 
@@ -29,15 +29,6 @@ pub struct Prepared<A: Allocator> {
     pub(crate) count: PendingCount,
     pub(crate) alloc: A,
     ghost held: { count.held ≡ true },
-    ghost placed: { (count.at ≡ at) × InBlock at × Testable at },
+    ghost placed: { (count.at ≡ at) × (is_null at ≡ false) × Testable at },
     ghost two: { count.number ≡ 2 },
-}
-
-/// What a promotion answers.
-#[derive(Drop)]
-pub enum Promotion<A: Allocator, H: Mark = Open> {
-    /// The word has the prepared count now, and this is the new owner.
-    Won(Share<H>),
-    /// The word had a count already. What was prepared is as it was.
-    Lost(Prepared<A>),
 }

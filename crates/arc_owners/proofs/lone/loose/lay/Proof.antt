@@ -21,7 +21,7 @@ use denote.Opens.{unhide}
 use denote.Param.{param, layout}
 use denote.Plain.{uint_out}
 use denote.RattleType.{RattleType, owns}
-use denote.RawPtr.{Ptr, RawPtr, InBlock, Testable, block_ptr, null_ptr, ptr_val, in_a_block}
+use denote.RawPtr.{Ptr, RawPtr, Testable, block_ptr, null_ptr, ptr_val, in_a_block}
 use denote.Signature.{types_at, plain}
 use denote.Steps.{nothing, heard}
 use denote.Struct.Struct.{as_fields}
@@ -32,7 +32,7 @@ use Rattle.std.proofs.raw_atomic.Walks.{proved_at}
 use Rattle.std_alloc.specs.Box.Ownership.{box_owns}
 use Rattle.logbook.proofs.Fields.{token, Token}
 use Rattle.arc_owners.specs.count.Invariant.{receipt}
-use Rattle.arc_owners.specs.count.Leads.{frees_count, bank_of}
+use Rattle.arc_owners.specs.count.Leads.{is_null, frees_count, bank_of}
 use Rattle.arc_owners.specs.contracts.lone.bank.Bank as Bank
 use Rattle.arc_owners.specs.contracts.lone.loose.PendingCount as PendingCount
 use Rattle.arc_owners.proofs.count.Bank.{deposits}
@@ -104,7 +104,7 @@ lay_spec 𝓤 𝓛 𝓜 𝓡 wired A LA g d da allocator glued = let Z : RattleT
     by ! (both_spent 𝓛 En c y RawPtr Count (block_ptr pb po) count (vptr pb po) token
     (block_ptr pb po, count) (tt, (tt, tt)) refl (fact_i 𝓤 _ (emp 𝓤) (
       sym e,
-      subst InBlock (sym e) tt,
+      ap is_null e,
       refl,
       refl,
       sym e,

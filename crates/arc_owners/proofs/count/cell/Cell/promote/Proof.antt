@@ -46,6 +46,7 @@ use Rattle.arc_owners.proofs.count.Operations.{with_entry}
 use Rattle.arc_owners.proofs.count.LoneMoves.{promotion}
 use Rattle.arc_owners.proofs.count.LoneCalls.{promoted_at}
 use Rattle.arc_owners.proofs.count.CellReadings.{word_laws}
+use Rattle.arc_owners.proofs.count.LooseCounts.{in_block}
 use Rattle.arc_owners.proofs.count.CellWalks.{said, Answers}
 use Rattle.arc_owners.proofs.count.CellPromotions.{W, outcome, promotes_by, hears, hands_back}
 use Rattle.arc_owners.proofs.count.Walks.{a_pass, no_pass, an_owner, no_count, pass_out, pass_in}
@@ -155,7 +156,7 @@ promote_spec 𝓤 𝓛 𝓜 𝓡 wired T L =
     keep ! (8 ∷ 9 ∷ 5 ∷ 6 ∷ 1 ∷ 2 ∷ 11 ∷ 13 ∷ 14 ∷ 16 ∷ 17 ∷ 18 ∷ 19 ∷ 15 ∷ []) $
     -- [two parts of the pass, of the new right and of the count; the owner; the cell; the tokens,
     -- last first]
-    let here : at ≡ block_ptr pb po = at_block at asked.6 in
+    let here : at ≡ block_ptr pb po = at_block at (in_block at asked.6) in
     suffices ! (Run (us (block_ptr pb po))) (subst (λ (r : Ptr). ent 𝓤 (Run (us (block_ptr pb po)))
     (Run (us r))) (sym here) (id⊢ 𝓤 (Run (us (block_ptr pb po))))) $
     enter ! 𝓣.C 𝓣.Λ fn (us (block_ptr pb po)) Post $
