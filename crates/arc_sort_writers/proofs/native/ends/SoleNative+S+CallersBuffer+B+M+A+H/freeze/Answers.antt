@@ -5,7 +5,7 @@ use Rattle.arc_owners.specs.memory.SoleCounts.{count_owner}
 use Rattle.arc_sort_writers.specs.CutParts.{cut_native, IsCutNative}
 use Rattle.arc_sort_writers.proofs.CutNatives.{frozen_cut}
 use Rattle.arc_sort_writers.proofs.CutKeeps.{among_cut}
-use Rattle.arc_sort_writers.proofs.native.SoleNative.freeze.Goals as goal
+use Rattle.arc_sort_writers.proofs.native.ends.SoleNative+S+CallersBuffer+B+M+A+H.freeze.Goals as goal
 
 pub returns-in-Some : goal.returns-in-Some
 returns-in-Some g c =
