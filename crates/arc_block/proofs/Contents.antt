@@ -9,6 +9,7 @@ use Rattle.arc_memory.proofs.SameVecs.{same_vec}
 use Rattle.arc_block.specs.Block.{vector, BlockView, held_as, memory_info}
 use Rattle.arc_block.specs.declared.block.content.Content.{Content}
 use Rattle.arc_block.specs.declared.block.content.Content.TheVariants.{Vector, Buffer, Raw}
+use Rattle.arc_block.specs.Given.{Given}
 use Rattle.arc_block.specs.Contents.{content_sort, content_info, IsVecOf, held_in}
 
 module _ {T B M A : Type 0} where
@@ -35,7 +36,7 @@ module _ {T B M A : Type 0} where
         → held_in {B = B} {M = M} list places drops o (Vector memory)
         ≡ held_as vector drops o v
     vector_seen memory v items extent =
-        let make : List T → ℕ → BlockView T M = λ xs n. record {
+        let make : List T → ℕ → BlockView T (Given B M) = λ xs n. record {
           owner = o;
           items = xs;
           facts = memory_info vector drops n (length xs);
@@ -52,8 +53,9 @@ module _ {T B M A : Type 0} where
 
 -- what was kept by a block b
 module _ {T B M A : Type 0} (list : B → List T) (places : B → ℕ) (drops : Bool) (o : Owner)
-    (content : Content T B M A) (b : BlockView T M)
+    (content : Content T B M A) (b : BlockView T (Given B M))
     (held : held_in list places drops o content ≡ b) where
   pub kept_places : (v : Vec T A) → IsVecOf content v → vec_capacity v ≡ b.facts.size
   kept_places v of =
-      ap (λ (x : BlockView T M). x.facts.size) (vector_held list places drops o content v of ∙ held)
+      ap (λ (x : BlockView T (Given B M)). x.facts.size)
+      (vector_held list places drops o content v of ∙ held)

@@ -34,44 +34,45 @@ IsWritable raw = ⊥
 abbrev pub memory_sort : (is_vector : Bool) → Sort
 memory_sort is_vector = if is_vector then vector else native
 
--- what is known of a block: its sort, its places, how many of them are full where that is counted,
--- and its metadata
-pub record BlockInfo (M : Type 0) : Type 0 where
+-- What is known of a block: its sort, its places, how many of them are full where that is counted,
+-- and what a caller gave that it keeps. G is that: a buffer with its metadata (`Given`). A table of
+-- lists sees the metadata alone.
+pub record BlockInfo (G : Type 0) : Type 0 where
   pub sort : Sort
   pub size : ℕ
   pub full : Option ℕ
-  pub metadata : Option M
+  pub given : Option G
 
 -- how many places are full, where that is counted: of items that are dropped one by one
 abbrev pub full_places : Bool → ℕ → Option ℕ
 full_places drops full = if drops then Some full else None
 
 -- a block of this sort, whose places are memory of ours: so many, of which these are full
-abbrev pub memory_info : {M : Type 0} → Sort → (drops : Bool) → (size full : ℕ) → BlockInfo M
+abbrev pub memory_info : {G : Type 0} → Sort → (drops : Bool) → (size full : ℕ) → BlockInfo G
 memory_info sort drops size full = record {
   sort = sort;
   size = size;
   full = full_places drops full;
-  metadata = None;
+  given = None;
 }
 
 -- a native block of this many places, all of which are full
-abbrev pub native_facts : {M : Type 0} → Bool → ℕ → BlockInfo M
+abbrev pub native_facts : {G : Type 0} → Bool → ℕ → BlockInfo G
 native_facts drops size = memory_info native drops size size
 
 -- a native block of this many places, of which so many are full
-abbrev pub partly_full : {M : Type 0} → Bool → (size full : ℕ) → BlockInfo M
+abbrev pub partly_full : {G : Type 0} → Bool → (size full : ℕ) → BlockInfo G
 partly_full drops size full = memory_info native drops size full
 
 -- what contracts see of a block through one of its owners: who that is, the items, and what is
 -- known of the block
-pub record BlockView (T M : Type 0) : Type 0 where
+pub record BlockView (T G : Type 0) : Type 0 where
   pub owner : Owner
   pub items : List T
-  pub facts : BlockInfo M
+  pub facts : BlockInfo G
 
 -- a block of this sort whose only owner has its items as this vector, whose places are the block's
-abbrev pub held_as : {T M A : Type 0} → Sort → Bool → Owner → Vec T A → BlockView T M
+abbrev pub held_as : {T G A : Type 0} → Sort → Bool → Owner → Vec T A → BlockView T G
 held_as sort drops owner items = record {
   owner = owner;
   items = items.items;
@@ -84,31 +85,35 @@ pub record IsLimited (greatest : ℕ) (one_pass : Bool) (o : Owner) : Type 0 whe
   pub whole : o.block.whole ≡ one_pass
 
 -- what is known of a caller's buffer with so many items and places, as one that may be written or
--- not
-abbrev pub buffer_info : {M : Type 0} → (writable : Bool) → (places full : ℕ) → Option M
-    → BlockInfo M
-buffer_info writable places full metadata = record {
+-- not, which was given so
+abbrev pub buffer_info : {G : Type 0} → (writable : Bool) → (places full : ℕ) → Option G
+    → BlockInfo G
+buffer_info writable places full given = record {
   sort = buffer writable;
   size = places;
   full = Some full;
-  metadata = metadata;
+  given = given;
 }
 
 -- of one behind an `Arc`, which has no places beside its items'
-abbrev pub raw_info : {M : Type 0} → (full : ℕ) → BlockInfo M
-raw_info full = record { sort = raw; size = full; full = Some full; metadata = None }
+abbrev pub raw_info : {G : Type 0} → (full : ℕ) → Option G → BlockInfo G
+raw_info full given = record { sort = raw; size = full; full = Some full; given = given }
 
 -- a block of a caller's buffer, which is only read, with these items and places
-abbrev pub buffer_block : {T M : Type 0} → List T → (places : ℕ) → Option M → Owner → BlockView T M
-buffer_block items places metadata owner = record {
+abbrev pub buffer_block : {T G : Type 0} → List T → (places : ℕ) → G → Owner → BlockView T G
+buffer_block items places given owner = record {
   owner = owner;
   items = items;
-  facts = buffer_info false places (length items) metadata;
+  facts = buffer_info false places (length items) (Some given);
 }
 
 -- a block of an `Arc` of a caller's buffer with these items
-abbrev pub raw_block : {T M : Type 0} → List T → Owner → BlockView T M
-raw_block items owner = record { owner = owner; items = items; facts = raw_info (length items) }
+abbrev pub raw_block : {T G : Type 0} → List T → G → Owner → BlockView T G
+raw_block items given owner = record {
+  owner = owner;
+  items = items;
+  facts = raw_info (length items) (Some given);
+}
 
 abbrev pub IsBuffer : Sort → Type 0
 IsBuffer native = ⊥
@@ -117,5 +122,5 @@ IsBuffer (buffer writable) = Unit {0}
 IsBuffer raw = ⊥
 
 -- a caller's buffer with so many items
-abbrev pub IsBufferOf : {T M : Type 0} → BlockView T M → ℕ → Type 0
+abbrev pub IsBufferOf : {T G : Type 0} → BlockView T G → ℕ → Type 0
 IsBufferOf b len = IsBuffer b.facts.sort × (length b.items ≡ len)

@@ -1,5 +1,5 @@
 -- What a block keeps: its items, and what is known of it, by its sort.
-use Rattle.std.specs.Prelude.{◌≡◌, ℕ, Bool, List, length}
+use Rattle.std.specs.Prelude.{◌≡◌, ℕ, Bool, false, List, length, Some, None}
 use Rattle.std.specs.Arc.{arc_value}
 use Rattle.std.specs.declared.vec.Vec.{Vec}
 use Rattle.arc_memory.specs.Memory.{extent_of}
@@ -8,6 +8,7 @@ use Rattle.arc_block.specs.declared.block.content.Content.{Content}
 use Rattle.arc_block.specs.declared.block.content.Content.TheVariants.{Vector, Buffer, Raw}
 use Rattle.arc_block.specs.Block.{Sort, BlockInfo, BlockView, memory_info, buffer_info, raw_info}
 use Rattle.arc_block.specs.Block.{vector, buffer, raw}
+use Rattle.arc_block.specs.Given.{Given, given_as}
 
 module _ {T B M A : Type 0} where
   abbrev pub content_sort : Content T B M A → Sort
@@ -33,15 +34,16 @@ module _ {T B M A : Type 0} (list : B → List T) where
 module _ {T B M A : Type 0} (list : B → List T) (places : B → ℕ) where
   -- A buffer's full places are counted, whatever its items are: those of its list. An `Arc` is only
   -- read, and so has no other places.
-  abbrev pub content_info : (drops : Bool) → Content T B M A → BlockInfo M
+  abbrev pub content_info : (drops : Bool) → Content T B M A → BlockInfo (Given B M)
   content_info drops (Vector memory) =
       memory_info vector drops memory.allocation.count (length memory.places.items)
   content_info drops (Buffer held) =
-      buffer_info held.writable (places held.buffer) (length (list held.buffer)) held.metadata
+      buffer_info held.writable (places held.buffer) (length (list held.buffer)) (Some held)
   content_info drops (Raw shared) = raw_info (length (list (arc_value shared)))
+      (Some (given_as false (arc_value shared) None))
 
   -- what contracts see of a block through an owner
-  abbrev pub held_in : (drops : Bool) → Owner → Content T B M A → BlockView T M
+  abbrev pub held_in : (drops : Bool) → Owner → Content T B M A → BlockView T (Given B M)
   held_in drops owner content = record {
     owner = owner;
     items = content_items list content;

@@ -1,4 +1,5 @@
 pub mod Block
+pub mod Given
 pub mod Contents
 pub mod Natives
 pub mod Place

@@ -27,7 +27,7 @@ pub record NativeView (T : Type 0) : Type 0 where
 module _ {T : Type 0} where
   -- what is known of the block
   abbrev pub native_info : {M : Type 0} → NativeView T → BlockInfo M
-  native_info b = record { sort = native; size = b.size; full = b.full; metadata = None }
+  native_info b = record { sort = native; size = b.size; full = b.full; given = None }
 
   -- items from the place `first` on, in a block of so many places, none of which is full behind
   -- them

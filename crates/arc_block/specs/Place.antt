@@ -2,9 +2,10 @@
 use Rattle.std.specs.Prelude.{ℕ, ◌+◌, Bool, ◌&&◌, ◌==◌, if◌then◌else◌, Option, Some, None, List}
 use Rattle.std.specs.Prelude.{length}
 use Rattle.arc_block.specs.Block.{BlockInfo}
+use Rattle.arc_block.specs.Given.{Given, buffer_of, metadata_of, bare_info}
 
 -- A window stands on nothing, on a static slice, or on a block at an offset. N is what a block goes
--- by.
+-- by, and M what is given that it keeps.
 pub data Place (N M : Type 0) : Type 0 where
   nowhere : Place N M
   static_data : Place N M
@@ -15,11 +16,25 @@ IsOnBlock nowhere = ⊥
 IsOnBlock static_data = ⊥
 IsOnBlock (on_block block offset facts) = Unit {0}
 
--- the metadata of the block on which a place lies
-abbrev pub metadata_at : {N M : Type 0} → Place N M → Option M
-metadata_at nowhere = None
-metadata_at static_data = None
-metadata_at (on_block block offset facts) = facts.metadata
+-- what was given that the block keeps on which a place lies
+abbrev pub given_at : {N M : Type 0} → Place N M → Option M
+given_at nowhere = None
+given_at static_data = None
+given_at (on_block block offset facts) = facts.given
+
+module _ {N B M : Type 0} where
+  -- the caller's buffer that the block is or has behind an `Arc`, and the metadata
+  abbrev pub buffer_at : Place N (Given B M) → Option B
+  buffer_at place = buffer_of (given_at place)
+
+  abbrev pub metadata_at : Place N (Given B M) → Option M
+  metadata_at place = metadata_of (given_at place)
+
+  -- the same place, without the value of the block's buffer
+  abbrev pub bare_place : Place N (Given B M) → Place N M
+  bare_place nowhere = nowhere
+  bare_place static_data = static_data
+  bare_place (on_block block offset facts) = on_block block offset (bare_info facts)
 
 -- by places further in
 abbrev pub moved : {N M : Type 0} → ℕ → Place N M → Place N M

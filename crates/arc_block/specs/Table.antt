@@ -2,7 +2,8 @@
 use Rattle.std.specs.Prelude.{◌≡◌, ℕ, ◌==◌, Bool, false, List, [], length, Option, Some, None}
 use Rattle.std.specs.Prelude.{filter, slice_get}
 use Rattle.std.specs.Option.{option_flatten, option_map_or}
-use Rattle.arc_block.specs.Place.{Place, nowhere, static_data, on_block}
+use Rattle.arc_block.specs.Given.{Given}
+use Rattle.arc_block.specs.Place.{Place, nowhere, static_data, on_block, bare_place}
 
 -- what a window may do
 pub data Role : Type 0 where
@@ -17,6 +18,10 @@ pub record RowOf (N T M : Type 0) : Type 0 where
   pub items : List T
   pub place : Place N M
   pub role : Role
+
+-- the same window, without the value of its block's buffer
+abbrev pub bare : {N T B M : Type 0} → RowOf N T (Given B M) → RowOf N T M
+bare row = record { items = row.items; place = bare_place row.place; role = row.role }
 
 -- in the table blocks go by their numbers; one that counts no owners has none
 abbrev pub Row : Type 0 → Type 0 → Type 0

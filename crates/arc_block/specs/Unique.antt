@@ -5,7 +5,8 @@ use Rattle.arc_owners.specs.count.Calls.{Owner, Asks}
 use Rattle.arc_buffer.specs.Slice.{sub}
 use Rattle.arc_block.specs.Block.{Sort, native, vector, buffer, raw}
 use Rattle.arc_block.specs.Place.{Place, nowhere, static_data, on_block}
-use Rattle.arc_block.specs.Place.{offset_at}
+use Rattle.arc_block.specs.Place.{offset_at, buffer_at}
+use Rattle.arc_block.specs.Given.{Given, buffer_of}
 
 module _ {H : Type 0} where
   -- The count is asked. A caller's buffer is asked after it, and may say no though the owner is
@@ -43,16 +44,19 @@ module _ {H : Type 0} where
   AsksOwnAt own (on_block (Some o) offset facts) old new answer =
       AsksOwn own facts.sort o old new answer
 
-module _ {T B : Type 0} (list : B → List T) (says : B → Bool → Type 0) where
-  -- the answer is the own one of a buffer with these items
-  pub record IsOwnAnswer (items : List T) (answer : Bool) : Type 0 where
+module _ {T B M : Type 0} (list : B → List T) (says : B → Bool → Type 0) where
+  -- the answer is the own one of the buffer that was given, which has these items
+  pub record IsOwnAnswer (given : Option (Given B M)) (items : List T) (answer : Bool)
+      : Type 0 where
     pub buffer : B
+    pub itself : buffer_of given ≡ Some buffer
     pub whole : list buffer ≡ items
     pub own : says buffer answer
 
-  -- of one of which the list that stands there is the part
-  pub record IsAnswerAt {N M : Type 0} (place : Place N M) (items : List T) (answer : Bool) : Type 0
-    where
-      pub buffer : B
-      pub part : sub (list buffer) (offset_at place) (offset_at place + length items) ≡ items
-      pub own : says buffer answer
+  -- of the block's, of which the list that stands there is the part
+  pub record IsAnswerAt {N : Type 0} (place : Place N (Given B M)) (items : List T) (answer : Bool)
+      : Type 0 where
+    pub buffer : B
+    pub itself : buffer_at place ≡ Some buffer
+    pub part : sub (list buffer) (offset_at place) (offset_at place + length items) ≡ items
+    pub own : says buffer answer

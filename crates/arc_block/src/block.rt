@@ -12,6 +12,8 @@ ghost use Rattle.arc_buffer.specs.Slice.{sub};
 ghost use Rattle.arc_block.specs.Block.{native, vector, buffer, raw, IsLimited};
 ghost use Rattle.arc_block.specs.Block.{IsWritable, held_as, buffer_block, raw_block};
 ghost use Rattle.arc_block.specs.Block.{raw_info};
+ghost use Rattle.arc_block.specs.Given.{given_as, metadata_of};
+ghost use Rattle.arc_block.specs.Metadata.{FitsGiven};
 ghost use Rattle.std.specs.Arc.{arc_value};
 ghost use Rattle.std.specs.Prelude.{Some, None};
 ghost use Rattle.arc_block.specs.Block.{IsBuffer, IsBufferOf, full_places};
@@ -84,9 +86,10 @@ impl<
     ghost use Rattle.std.specs.Prelude.{◌≡◌};
     ghost use Rattle.arc_owners.specs.memory.Boxes.{owner_in, value_of, lifetime_in};
     ghost use Rattle.arc_block.specs.Block.{BlockView, IsLimited};
+    ghost use Rattle.arc_block.specs.Given.{Given};
     ghost use Rattle.arc_block.specs.Contents.{held_in, content_items};
 
-    ghost Value = { BlockView S.Item M };
+    ghost Value = { BlockView S.Item (Given B M) };
 
     ghost view = { λ b.
         held_in B.list B.places S.DROPS (owner_in b.piece) (value_of b.piece) };
@@ -218,7 +221,7 @@ impl<
     ) -> Result<(Self, Pass<H>), (B, Option<M>)>
         requires { 2 ≤ MAX }
         ensures made { IfOk result (λ r. (r.0 ≡ buffer_block (B.list buffer) (B.places buffer)
-            metadata r.0.owner) × IsFirst MAX H.whole Counted r.0.owner) }
+            (given_as false buffer metadata) r.0.owner) × IsFirst MAX H.whole Counted r.0.owner) }
         ensures pass { IfOk result (λ r. IsFreshPass r.0.owner r.1) }
         ensures refused { IfErr result (λ back. (back.0 ≡ buffer) × (back.1 ≡ metadata)) }
     {
@@ -250,7 +253,8 @@ impl<
     /// Once.
     pub fn try_from_raw(alloc: A, shared: Arc<B, A>) -> Result<(Self, Pass<H>), Arc<B, A>>
         requires { 2 ≤ MAX }
-        ensures made { IfOk result (λ r. (r.0 ≡ raw_block (B.list (arc_value shared)) r.0.owner)
+        ensures made { IfOk result (λ r. (r.0 ≡ raw_block (B.list (arc_value shared))
+            (given_as false (arc_value shared) None) r.0.owner)
             × IsFirst MAX H.whole Counted r.0.owner) }
         ensures pass { IfOk result (λ r. IsFreshPass r.0.owner r.1) }
         ensures refused { IfErr result (λ back. back ≡ shared) }
@@ -333,7 +337,8 @@ impl<
         requires { self.now.facts.sort ≡ raw }
         ensures items { IfOk result (λ shared. B.list (arc_value shared) ≡ self.now.items) }
         ensures facts { IfOk result (λ shared.
-            self.now.facts ≡ raw_info (length (B.list (arc_value shared)))) }
+            self.now.facts ≡ raw_info (length (B.list (arc_value shared)))
+            (Some (given_as false (arc_value shared) None))) }
     {
         match self.piece.get() {
             Content::Raw(shared) => match Arc::try_clone(shared) {
@@ -341,6 +346,19 @@ impl<
                 Err(_) => Err(AllocError),
             },
             _ => unreachable!(),
+        }
+    }
+
+    /// What is known of the block fits what a caller gave: where it keeps no caller's buffer that
+    /// is nothing, and else the buffer, with the block's items and places. Does nothing: its
+    /// contract is the law.
+    pub fn known_given(&self)
+        ensures { FitsGiven B.list B.places self.now.facts.given self.now.facts self.now.items }
+    {
+        match self.piece.get() {
+            Content::Vector(_) => {}
+            Content::Buffer(_) => {}
+            Content::Raw(_) => {}
         }
     }
 
@@ -427,8 +445,8 @@ impl<
 
     /// The metadata that the block was made with, or `None`.
     pub fn metadata(&self) -> Option<&M>
-        ensures some { IfSome result (λ m. self.now.facts.metadata ≡ Some m.now) }
-        ensures none { IfNone result (self.now.facts.metadata ≡ None) }
+        ensures some { IfSome result (λ m. metadata_of self.now.facts.given ≡ Some m.now) }
+        ensures none { IfNone result (metadata_of self.now.facts.given ≡ None) }
     {
         match self.piece.get() {
             Content::Buffer(held) => held.metadata.as_ref(),
@@ -468,8 +486,8 @@ impl<
     pub fn is_unique_by_sort_as(&self, pass: &mut Pass<H>) -> bool
         requires pass { IsPassFor self.now.owner pass.old }
         ensures entry { AsksUnique self.now.facts.sort self.now.owner pass.old pass.new result }
-        ensures own { AsksOwn (IsOwnAnswer B.list B.says_unique self.now.items)
-            self.now.facts.sort self.now.owner pass.old pass.new result }
+        ensures own { AsksOwn (IsOwnAnswer B.list B.says_unique self.now.facts.given
+            self.now.items) self.now.facts.sort self.now.owner pass.old pass.new result }
     {
         match self.piece.get() {
             Content::Vector(_) => self.piece.is_unique_as(pass),

@@ -1,5 +1,7 @@
 //! Windows over callers' buffers, which stay as they are and are given back.
-ghost use Rattle.std.specs.Prelude.{◌≡◌, ◌<◌, length, slice_set, IfOk, IfErr};
+ghost use Rattle.std.specs.Prelude.{◌≡◌, ◌<◌, length, slice_set, IfOk, IfErr, IfSome, Some};
+ghost use Rattle.std.specs.Arc.{arc_value};
+ghost use Rattle.arc_block.specs.Place.{buffer_at};
 ghost use Rattle.arc_parts.specs.Window.{IsBufferWhole, IsRawWhole};
 ghost use Rattle.std.specs.Vec.{vec_items};
 
@@ -65,14 +67,28 @@ pub fn names(window: &Pages) -> (Option<u64>, Option<u32>) {
 
 /// The page again, where no other window lives and this one has all of it.
 pub fn page_again(window: Pages) -> Result<AsRefBuffer<Page>, Pages>
-    ensures { IfErr result (λ back. back ≡ window) }
+    ensures itself { IfOk result (λ page. buffer_at window.place ≡ Some page) }
+    ensures back { IfErr result (λ back. back ≡ window) }
 {
     window.try_into_buffer()
 }
 
+/// Reads a page by a window that is given back at once. It is the page that went in. There is none
+/// where memory for the count is refused.
+pub fn page_read(alloc: Global, page: Page) -> Option<AsRefBuffer<Page>>
+    ensures { IfSome result (λ back. back.0 ≡ page) }
+{
+    match Pages::try_from_buffer(alloc, AsRefBuffer(page)) {
+        Ok(window) => page_again(window).ok(),
+        Err(_) => None,
+    }
+}
+
 /// Ends a reader of a page. The last reader gets the page.
 pub fn page_if_last(window: Pages) -> Result<Option<AsRefBuffer<Page>>, Pages>
-    ensures { IfErr result (λ back. (back ≡ window)
+    ensures itself { IfOk result (λ last. IfSome last (λ page.
+        buffer_at window.place ≡ Some page)) }
+    ensures back { IfErr result (λ back. (back ≡ window)
         × (¬ IsBufferWhole window.items window.place)) }
 {
     window.into_buffer_if_last()
@@ -87,7 +103,8 @@ pub fn over_shared(alloc: Global, shared: Arc<Vec<u8>>) -> Result<Shared, Arc<Ve
 
 /// The `Arc` again, where no other window lives.
 pub fn shared_again(window: Shared) -> Result<Arc<Vec<u8>>, Shared>
-    ensures { IfErr result (λ back. back ≡ window) }
+    ensures itself { IfOk result (λ shared. buffer_at window.place ≡ Some (arc_value shared)) }
+    ensures back { IfErr result (λ back. back ≡ window) }
 {
     window.try_into_raw_buffer()
 }
@@ -138,7 +155,8 @@ pub fn names_of_several(window: &PagesShared) -> (Option<u64>, Option<u32>) {
 
 /// The page of a writer again.
 pub fn page_of_writer(window: PagesMut) -> Result<AsMutBuffer<Page>, PagesMut>
-    ensures { IfErr result (λ back. back ≡ window) }
+    ensures itself { IfOk result (λ page. buffer_at window.place ≡ Some page) }
+    ensures back { IfErr result (λ back. back ≡ window) }
 {
     window.try_into_buffer()
 }

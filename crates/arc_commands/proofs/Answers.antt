@@ -236,7 +236,7 @@ module _ {T M : Type 0} (setting : Setting T) (short : Shortage) (places : ℕ) 
       (raw-fits setting.drops true t.blocks items))
   raw_each items false =
       founded_each short refl (raw_row false t.blocks items)
-      (each.founds items reader false (raw_info (length items)) refl
+      (each.founds items reader false (raw_info (length items) None) refl
       (raw-fits setting.drops false t.blocks items))
 
   made_each : (c : ListCmd T M) → c ≡ this → Makes (row_by setting places t.blocks c)

@@ -122,7 +122,7 @@ block-fits : {M : Type 0} (drops : Bool) (sort : Sort) (full : Option ℕ) (meta
       sort = sort;
       size = places;
       full = option_map (λ f. f + (more - (f - (offset + len)))) full;
-      metadata = meta;
+      given = meta;
     }) in
     LieWithin drops false place (len + more) × HasPlaces drops place (len + more) (places - offset)
 block-fits false sort None meta block offset len more places counted fits within ordered ends =
@@ -153,7 +153,7 @@ module _ {M : Type 0} (block : Option ℕ) (offset len more places : ℕ) (info 
   spare-owned true is w has fits some = absurd (omega (arith, has, fits, some))
   spare-owned false is w has fits some =
       let all =
-      block-fits true info.sort info.full info.metadata block offset len more info.size w.0
+      block-fits true info.sort info.full info.given block offset len more info.size w.0
       (omega (arith, has, fits, some)) w.1 w.2 (λ owned. not-not (ends_full info (offset + len)) is)
       in (
         all.0,
@@ -173,7 +173,7 @@ module _ {M : Type 0} (block : Option ℕ) (offset len more places : ℕ) (info 
       spare-owned (not (ends_full info (offset + len))) refl w ends fits some
   spare-block false w ends fits some =
       let all =
-      block-fits false info.sort info.full info.metadata block offset len more info.size w.0
+      block-fits false info.sort info.full info.given block offset len more info.size w.0
       (omega (arith, ends.1, fits)) w.1 w.2 (λ owned. absurd (false≢true owned)) in
       (all.0, (fits, ends.1))
 
@@ -254,7 +254,7 @@ module _ {T M : Type 0} (drops : Bool) (first size : ℕ) (old more : List T) (k
     behind-fits tells =
         let less : k ≤ info.size - offset - (length old) = tells.1 in
         let all =
-        block-fits drops info.sort info.full info.metadata block offset (length old)
+        block-fits drops info.sort info.full info.given block offset (length old)
         (length more) info.size f.within.0
         (omega (arith, less, enough, f.within.1, f.within.2)) (omega (arith, f.within.1))
         f.within.2 tells.0 in
@@ -265,7 +265,7 @@ module _ {T M : Type 0} (drops : Bool) (first size : ℕ) (old more : List T) (k
         → RowFits drops (with_more more (with_room Front here))
     front-fits tells =
         let all =
-        block-fits drops info.sort info.full info.metadata block 0 (length old) (length more)
+        block-fits drops info.sort info.full info.given block 0 (length old) (length more)
         info.size f.within.0 (omega (arith, tells.1, enough, f.within.1, f.within.2))
         (omega (arith, f.within.1)) f.within.2
         (λ owned. absurd (false≢true (sym tells.0 ∙ owned))) in
@@ -281,7 +281,7 @@ module _ {T M : Type 0} (drops : Bool) (first size : ℕ) (old more : List T) (k
         ends-within info.full (offset + length old) info.size made f.within.1 f.within.2
         (omega (arith, tells.1, tells.2)) in
         let all =
-        block-fits drops info.sort info.full info.metadata block offset (length old)
+        block-fits drops info.sort info.full info.given block offset (length old)
         (length more) made f.within.0 (omega (arith, tells.1, enough)) ends.0 ends.1 tells.0 in
         fit (with_full (length old) (length more)
         (on_block block offset (record info { size = made }))) (made - offset)
@@ -457,7 +457,7 @@ fresh-fits {T} {M} drops block places more less =
       sort = native;
       size = places;
       full = option_map (λ f. f + (m - (f - (0 + 0)))) (full_places drops 0);
-      metadata = None;
+      given = None;
     }) in
     record {
       within = subst (λ l. LieWithin drops false at l) (none-before m) all.0;

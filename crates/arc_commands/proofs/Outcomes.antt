@@ -18,7 +18,7 @@ use Rattle.arc_block.specs.Block.{Sort, BlockInfo, native_facts, memory_info, na
 use Rattle.arc_block.specs.Moves.{layout_move}
 use Rattle.arc_block.specs.declared.layout.Move.{Move}
 use Rattle.arc_block.specs.declared.layout.Move.TheVariants as to
-use Rattle.arc_block.specs.Place.{Place, nowhere, static_data, on_block, metadata_at}
+use Rattle.arc_block.specs.Place.{Place, nowhere, static_data, on_block, given_at}
 use Rattle.arc_parts.specs.Shared.{as_shared, as_unique, asks_alone, extended, front_of, on_native}
 use Rattle.arc_parts.specs.Shared.{is_on_block, is_vector_at, split_answer}
 use Rattle.arc_block.specs.Table.{Row, Role, block_of}
@@ -775,7 +775,7 @@ module _ {T M : Type 0} (setting : Setting T) (short : Shortage) (around : Aroun
   row_each (TakeRaw i) e is has =
       taken_each _ (reply.Raw row.items) (inl (sym (ap (λ d. shortage reply.Refused d) e)))
       (inl refl)
-  row_each (Meta i) e is has = meta_each (metadata_at row.place)
+  row_each (Meta i) e is has = meta_each (given_at row.place)
   row_each (TakeStatic i) e is has =
       either (is_on_block row.place) (is_now reply.Refused row)
       (gone (reply.Static row.items))

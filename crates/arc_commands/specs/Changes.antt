@@ -203,7 +203,7 @@ written_buffer_row block items places metadata = record {
 abbrev pub raw_row : {T M : Type 0} → (by_itself : Bool) → (block : ℕ) → List T → Row T M
 raw_row by_itself block items = record {
   items = items;
-  place = on_block (if by_itself then None else Some block) 0 (raw_info (length items));
+  place = on_block (if by_itself then None else Some block) 0 (raw_info (length items) None);
   role = reader;
 }
 

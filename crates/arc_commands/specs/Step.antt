@@ -6,7 +6,7 @@ use Rattle.std.specs.Option.{option_map, option_map_or}
 use Rattle.arc_owners.specs.declared.error.OwnerError.TheVariants.{AllocError}
 use Rattle.arc_owners.specs.declared.error.TryReserveError.TheVariants as reserve
 use Rattle.arc_buffer.specs.Slice.{range_answer, edge_answer}
-use Rattle.arc_block.specs.Place.{metadata_at}
+use Rattle.arc_block.specs.Place.{given_at}
 use Rattle.arc_block.specs.Table.{Row, Table, row_at, block_of, is_alone}
 use Rattle.arc_block.specs.Table.{Role, reader, sole_writer, one_writer_of_several, inline}
 use Rattle.arc_block.specs.Table.{forgotten}
@@ -179,7 +179,7 @@ answer_row setting short around (TakeBuf i) row =
 answer_row setting short around (TakeRaw i) row =
     taken_as (is_raw_whole row.place (length row.items)) around row (reply.Raw row.items)
 answer_row setting short around (Meta i) row =
-    is_now (option_map_or reply.Meta (metadata_at row.place) reply.None) row
+    is_now (option_map_or reply.Meta (given_at row.place) reply.None) row
 answer_row setting short around (TakeStatic i) row =
     if is_on_block row.place then is_now reply.Refused row else gone (reply.Static row.items)
 answer_row setting short around making row = is_now reply.Kind row

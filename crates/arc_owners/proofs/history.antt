@@ -1,5 +1,6 @@
 pub mod Events
 pub mod Legality
+pub mod LoneWords
 pub mod Numbers
 pub mod Owned
 pub mod Realized

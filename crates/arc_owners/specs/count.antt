@@ -1,5 +1,6 @@
 pub mod Calls
 pub mod Invariant
+pub mod Leads
 pub mod LentNotes
 pub mod Lifetimes
 pub mod Releases

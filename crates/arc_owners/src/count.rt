@@ -1,7 +1,9 @@
 //! The count of a block's owners: its word, the atomic steps on it, and what owners and passes have
 //! of it.
 
+pub(crate) mod cell;
 mod counted;
+pub(crate) mod lone;
 pub(crate) mod owner_without_lifetime;
 mod passes;
 mod raw;

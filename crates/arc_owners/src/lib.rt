@@ -8,6 +8,7 @@ mod history;
 pub mod leave;
 pub mod lend;
 pub mod lifetime;
+pub mod lone;
 pub mod mark;
 mod memory;
 pub mod owners;

@@ -3,6 +3,7 @@
 //! What differs between the marks is in methods of their own. So a body that is generic in the mark
 //! is the same under both.
 ghost use Rattle.std.specs.Prelude.{◌≡◌, ◌≤◌, ℕ, Bool, true, false, List, refl};
+ghost use Rattle.arc_owners.specs.history.Histories.{Counted};
 ghost use Rattle.arc_owners.specs.count.Invariant.{BlockId, Line};
 ghost use Rattle.arc_owners.specs.count.Steps.{IsHeld, IsSole, IsOf, IsLodged, IsOpened};
 ghost use Rattle.arc_owners.specs.count.Steps.{EndsWithNew, IsFork, IsForkOf};
@@ -32,8 +33,8 @@ pub trait Mark: sealed::Sealed {
     /// The word of a new block, its first owner's right and the first pass. The block is lent to
     /// that owner, or not. Only this crate can call it, so only its counts have tokens of a mark.
     fn open(by: Internal, most: u64, lent: bool) -> (Word, OwnerToken<Self>, PassState)
-        requires { 1 ≤ most }
-        ensures { IsOpened most Self.whole lent result.0 result.1 result.2 };
+        requires { 2 ≤ most }
+        ensures { IsOpened most Counted Self.whole lent result.0 result.1 result.2 };
 
     /// Shows that a pass exists that has seen what this one has seen. The pass is used up, so no
     /// entry is added with it after that.

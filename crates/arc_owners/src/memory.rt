@@ -1,8 +1,8 @@
 //! A value beside the count of its owners, and what is lent to the owners for as long as one lives.
 
 mod apart;
-mod box_parts;
-mod box_place;
+pub(crate) mod box_parts;
+pub(crate) mod box_place;
 mod counted_box;
 mod counted_box_without_lifetime;
 mod header_room;

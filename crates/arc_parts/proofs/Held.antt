@@ -57,17 +57,18 @@ module _ (layout : LayoutFacts) where
       subst (λ (p : Place (Option Owner) M). IsHeld layout p) (sym shares.2) held
 
   -- an `Arc` of a caller's buffer
-  over-raw : {T M : Type 0} (one_pass : Bool) (items : List T) (w : Window T M) (itself : Bool)
+  over-raw : {T M : Type 0} (one_pass : Bool) (items : List T) (given : M) (w : Window T M)
+      (itself : Bool)
       → layout.by_itself ≡ itself → layout.has_any ≡ true
-      → MakesOverRaw layout.by_itself one_pass items w → IsHeld layout w.place
-  over-raw {T} {M} one_pass items w true is any makes =
+      → MakesOverRaw layout.by_itself one_pass items given w → IsHeld layout w.place
+  over-raw {T} {M} one_pass items given w true is any makes =
       subst (λ (v : Window T M). IsHeld layout v.place) (sym (makes.alone is)) is
-  over-raw {T} {M} one_pass items w false is any makes =
+  over-raw {T} {M} one_pass items given w false is any makes =
       subst (λ (v : Window T M). IsHeld layout v.place) (sym (makes.counted is).made)
       (ap (λ b. b && not layout.by_itself) any ∙ ap not is)
 
-  pub raw_held : {T M : Type 0} (one_pass : Bool) (items : List T) (w : Window T M)
-      → MakesOverRaw layout.by_itself one_pass items w → layout.has_any ≡ true
+  pub raw_held : {T M : Type 0} (one_pass : Bool) (items : List T) (given : M) (w : Window T M)
+      → MakesOverRaw layout.by_itself one_pass items given w → layout.has_any ≡ true
       → IsHeld layout w.place
-  raw_held one_pass items w makes any =
-      over-raw one_pass items w layout.by_itself refl any makes
+  raw_held one_pass items given w makes any =
+      over-raw one_pass items given w layout.by_itself refl any makes

@@ -65,11 +65,11 @@ module _ {T M : Type 0} where
             within.0 within.1,
         within.0,
       )
-  how_long (Raw items) from to p view within =
+  how_long (Raw shared) from to p view within =
       omega (
         arith,
         ap (λ (v : PartsView T M). length v.items) view,
-        length-sub items from to
+        length-sub shared.items from to
             within.0 within.1,
         within.0,
       )
@@ -137,11 +137,12 @@ module _ {T M : Type 0} where
       kept_by (Block b) from start end view
       (ap (λ xs. record { items = xs; place = there; role = reader })
       (sym (sub-sub b.items from to start end inside)))
-  kept_seen (Raw items) from to start end p view within ordered inside =
-      let there : Place (Option Owner) M = on_block None (from + start) (raw_info (length items)) in
-      kept_by (Raw items) from start end view
+  kept_seen (Raw shared) from to start end p view within ordered inside =
+      let there : Place (Option Owner) M = on_block None (from + start)
+      (raw_info (length shared.items) (Some shared.given)) in
+      kept_by (Raw shared) from start end view
       (ap (λ xs. record { items = xs; place = there; role = reader })
-      (sym (sub-sub items from to start end inside)))
+      (sym (sub-sub shared.items from to start end inside)))
 
 -- parts that stand on a block b
 module _ {T M : Type 0} (inner : StandsBy T M) (from to : ℕ) (p : PartsView T M) (b : BlockView T M)

@@ -75,11 +75,14 @@ module _ {T M : Type 0} where
 
   -- a window was made of all items of a caller's buffer behind an `Arc`: on that, where it is a
   -- block by itself, and else as the first owner of a new block
-  pub record MakesOverRaw (by_itself one_pass : Bool) (items : List T) (w : Window T M)
+  pub record MakesOverRaw (by_itself one_pass : Bool) (items : List T) (given : M) (w : Window T M)
       : Type 0 where
-    pub alone : by_itself ≡ true
-        → w ≡ record { items = items; place = on_block None 0 (raw_info (length items)) }
-    pub counted : by_itself ≡ false → MakesOver Counted one_pass (raw_info (length items)) items w
+    pub alone : by_itself ≡ true → w ≡ record {
+      items = items;
+      place = on_block None 0 (raw_info (length items) (Some given));
+    }
+    pub counted : by_itself ≡ false
+        → MakesOver Counted one_pass (raw_info (length items) (Some given)) items w
 
   -- a window was made of a vector of so many places: of none, as one of a list of no items
   pub record MakesOfVec (has_static : Bool) (lone : ℕ → ℕ → Bool) (drops one_pass : Bool)

@@ -5,6 +5,8 @@ use Rattle.arc_owners.specs.count.Calls.{Owner}
 use Rattle.arc_buffer.specs.Slice.{sub}
 use Rattle.arc_block.specs.Block.{Sort, native, vector, raw}
 use Rattle.arc_block.specs.Block.{IsBuffer, BlockInfo, BlockView, native_facts, raw_info}
+use Rattle.arc_block.specs.Given.{Given, given_as}
+use Rattle.arc_block.specs.Metadata.{FitsGiven}
 use Rattle.arc_block.specs.Layouts.{LayoutFacts, holds_block}
 use Rattle.arc_block.specs.Place.{Place, nowhere, static_data, on_block, IsOnBlock, made_place}
 use Rattle.arc_block.specs.Natives.{NativeView, native_info, IsAmong}
@@ -33,9 +35,28 @@ NeedsBlock {T} has_static items =
     let facts : BlockInfo (Unit {0}) = native_facts false (length items) in
     IsOnBlock (made_place {T = T} {N = Unit {0}} has_static tt facts items)
 
--- what a window stands on: of an `Arc` that is a block by itself its buffer's items are seen
+-- what contracts see of an `Arc` that is a block by itself: its buffer's items, and the buffer as
+-- it was given
+pub record RawView (T M : Type 0) : Type 0 where
+  pub items : List T
+  pub given : M
+
+abbrev pub raw_view : {T B M : Type 0} → (list : B → List T) → B → RawView T (Given B M)
+raw_view list buffer = record { items = list buffer; given = given_as false buffer None }
+
+-- what a window stands on
 abbrev pub StandsBy : Type 0 → Type 0 → Type 0
-StandsBy T M = Storage T (NativeView T) (BlockView T M) (List T)
+StandsBy T M = Storage T (NativeView T) (BlockView T M) (RawView T M)
+
+-- what a caller gave fits what the window stands on
+abbrev pub FitsStorage : {T B M : Type 0} → (list : B → List T) → (places : B → ℕ)
+    → StandsBy T (Given B M) → Type 0
+FitsStorage list places (Nothing none) = Unit {0}
+FitsStorage list places (Static items) = Unit {0}
+FitsStorage list places (Native block) = Unit {0}
+FitsStorage list places (Block block) =
+    FitsGiven list places block.facts.given block.facts block.items
+FitsStorage list places (Raw shared) = list shared.given.buffer ≡ shared.items
 
 -- The part from start to end of what a window stands on. Of a native block these are the numbers of
 -- places, of others those of items.
@@ -50,9 +71,9 @@ window_seen (Block block) start end = record {
   items = sub block.items start end;
   place = on_block (Some block.owner) start block.facts;
 }
-window_seen (Raw items) start end = record {
-  items = sub items start end;
-  place = on_block None start (raw_info (length items));
+window_seen (Raw shared) start end = record {
+  items = sub shared.items start end;
+  place = on_block None start (raw_info (length shared.items) (Some shared.given));
 }
 
 -- start to end lies within what the window stands on; a block has a place for each item; a window
@@ -64,7 +85,7 @@ IsWithin (Native block) start end = IsAmong block start end
     × (block.first + length block.items ≤ block.size)
 IsWithin (Block block) start end = (start ≤ end) × (end ≤ length block.items)
     × (length block.items ≤ block.facts.size)
-IsWithin (Raw items) start end = (start ≤ end) × (end ≤ length items)
+IsWithin (Raw shared) start end = (start ≤ end) × (end ≤ length shared.items)
 
 -- a native block of this size
 abbrev pub IsNativeOf : {N M : Type 0} → ℕ → Place N M → Type 0

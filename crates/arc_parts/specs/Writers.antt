@@ -15,6 +15,7 @@ use Rattle.arc_parts.specs.declared.room.Room.TheVariants.{Spare, Fresh, Behind,
 use Rattle.arc_parts.specs.declared.room.Room.TheVariants.{Growth, Own, Refused}
 use Rattle.arc_block.specs.Block.{Sort, native, vector, BlockInfo}
 use Rattle.arc_block.specs.Block.{IsWritable, memory_info}
+use Rattle.arc_block.specs.Given.{Given}
 use Rattle.arc_block.specs.Place.{Place, nowhere, static_data, on_block, IsOnBlock, moved}
 use Rattle.arc_block.specs.Table.{RowOf, Role, reader, sole_writer, one_writer_of_several}
 use Rattle.arc_block.specs.Table.{inline, forgotten}
@@ -148,6 +149,24 @@ after_truncate drops n w =
 -- cut, and fewer followed by the last of its own.
 abbrev pub with_items : {T M : Type 0} → PartsView T M → List T → PartsView T M
 with_items w xs = record w { items = refill (length w.items) w.items xs }
+
+module _ {N T B M : Type 0} (with_part : B → ℕ → List T → B) where
+  -- the block's buffer, with these items written over its own from the place on
+  abbrev pub written_place : Place N (Given B M) → List T → Place N (Given B M)
+  written_place nowhere xs = nowhere
+  written_place static_data xs = static_data
+  written_place (on_block block offset info) xs = on_block block offset (record info {
+    given = option_map
+        (λ (held : Given B M). record held { buffer = with_part held.buffer offset xs }) info.given;
+  })
+
+-- the same row with other items, and with them in the block's buffer, where it stands on one
+abbrev pub with_written : {T B M : Type 0} → (with_part : B → ℕ → List T → B)
+    → PartsView T (Given B M) → List T → PartsView T (Given B M)
+with_written with_part w xs = record w {
+  items = refill (length w.items) w.items xs;
+  place = written_place with_part w.place xs;
+}
 
 -- the same items and places, as a reader
 abbrev pub as_reader : {N T M : Type 0} → RowOf N T M → RowOf N T M

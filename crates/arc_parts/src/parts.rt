@@ -35,7 +35,7 @@ pub type PartsStorage<S, B, M, A, H> = Storage<
     <S as Slice>::Item,
     NativeBlock<S, A, MAX_OWNERS, H>,
     Block<S, B, M, A, MAX_OWNERS, H>,
-    SharedBuffer<<S as Slice>::Item, B, A>,
+    SharedBuffer<<S as Slice>::Item, B, M, A>,
 >;
 
 /// What a read window is made of: its items, where they stand, and its owner. Contracts see a row
@@ -63,9 +63,10 @@ pub struct Parts<
 
 impl<S: Slice, B: Buffer<S::Item> + Drop, M: Drop, A: Allocator + Copy, H: Mark> Model
     for Parts<S, B, M, A, H> {
+    ghost use Rattle.arc_block.specs.Given.{Given};
     ghost use Rattle.arc_parts.specs.Window.{PartsView, parts_of, window_seen, IsWithin};
 
-    ghost Value = { PartsView S.Item M };
+    ghost Value = { PartsView S.Item (Given B M) };
 
     ghost view = { λ p. parts_of (window_seen p.on p.start p.end) };
 

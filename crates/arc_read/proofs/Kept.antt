@@ -54,7 +54,7 @@ place_again (Some (Some block)) offset = on_block block.0 offset (record {
   sort = block.1.0;
   size = block.1.1.0;
   full = block.1.1.1;
-  metadata = None;
+  given = None;
 })
 
 module _ {M : Type 0} (none : Type 0) (some : Owner → Type 0) where

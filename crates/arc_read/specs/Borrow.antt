@@ -6,6 +6,7 @@ use Rattle.arc_buffer.specs.declared.buffer.Buffer as Buffer
 use Rattle.arc_buffer.specs.declared.kinds.Slice as Slice
 use Rattle.arc_buffer.specs.declared.kinds.Subsliceable as Subsliceable
 use Rattle.arc_block.specs.declared.layout.Layout as Layout
+use Rattle.arc_block.specs.Given.{Given}
 use Rattle.arc_block.specs.Place.{Place, nowhere}
 use Rattle.arc_parts.specs.Window.{Window}
 use Rattle.arc_read.specs.Cuts.{cut_window}
@@ -21,5 +22,5 @@ module _ {S L B M A H T E W : Type 0} {cuts : Subsliceable.Ghosts S T E} {kind :
     {layout : Layout.Ghosts L W} {buffer : Buffer.Ghosts B T} {mark : Mark.Ghosts H} where
   -- the part of a window that is borrowed, as the window cut to it
   abbrev pub borrowed_part : ArcSliceBorrow S L B M A H T E W cuts kind layout buffer mark
-      → Window T M
+      → Window T (Given B M)
   borrowed_part b = cut_window b.window.now b.start b.end

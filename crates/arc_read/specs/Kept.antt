@@ -47,7 +47,7 @@ owner_coded = code_by (BlockId × (ℕ × List Line))
     (λ t. record { block = t.0; number = t.1.0; born = t.1.1 })
     (λ _. refl)
 
--- what of a place has a code: all but the offset and the metadata
+-- what of a place has a code: all but the offset, and the buffer with its metadata
 abbrev pub Standing : Type 0
 Standing = Option (Option (Option Owner × (Sort × (ℕ × Option ℕ))))
 
@@ -69,7 +69,7 @@ abbrev pub kept_read : {T M : Type 0} → Place (Option Owner) M → List T → 
 kept_read place items =
     (numbers (standing_coded.code (standing place)) [], end_place place items) ∷ []
 
--- the same place, without the metadata of its block
+-- the same place, without the buffer of its block and the metadata
 abbrev pub without_metadata : {N M : Type 0} → Place N M → Place N (Unit {0})
 without_metadata nowhere = nowhere
 without_metadata static_data = static_data
@@ -77,5 +77,5 @@ without_metadata (on_block block offset facts) = on_block block offset (record {
   sort = facts.sort;
   size = facts.size;
   full = facts.full;
-  metadata = None;
+  given = None;
 })

@@ -43,11 +43,12 @@ pub struct ArcSlice<
 impl<S: Slice, L: Layout, B: Buffer<S::Item> + Drop, M: Drop, A: Allocator + Copy, H: Mark> Model
     for ArcSlice<S, L, B, M, A, H> {
     ghost use Rattle.std.specs.Prelude.{◌≡◌};
+    ghost use Rattle.arc_block.specs.Given.{Given};
     ghost use Rattle.arc_block.specs.LayoutFacts.{layout_facts};
     ghost use Rattle.arc_block.specs.Table.{reader};
     ghost use Rattle.arc_parts.specs.Window.{IsHeld, Window, window_of};
 
-    ghost Value = { Window S.Item M };
+    ghost Value = { Window S.Item (Given B M) };
 
     ghost view = { λ w. window_of w.parts };
 

@@ -1,4 +1,5 @@
 pub mod Taken
+pub mod Bare
 pub mod Roles
 pub mod Slots
 pub mod Native

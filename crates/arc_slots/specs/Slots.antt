@@ -4,9 +4,11 @@ use Rattle.std.specs.Option.{option_map}
 use Rattle.arc_owners.specs.declared.count.tokens.Pass.{Pass}
 use Rattle.arc_owners.specs.declared.mark.Whole.{Whole}
 use Rattle.arc_parts.specs.Window.{Window, PartsView, window_of}
+use Rattle.arc_block.specs.Given.{Given}
 use Rattle.arc_block.specs.Owned.{Stand}
-use Rattle.arc_block.specs.Table.{Row, Role, forgotten, inline, one_writer_of_several, reader}
-use Rattle.arc_block.specs.Table.{sole_writer}
+use Rattle.arc_block.specs.Place.{bare_place}
+use Rattle.arc_block.specs.Table.{Row, Role, bare, forgotten, inline, one_writer_of_several}
+use Rattle.arc_block.specs.Table.{reader, sole_writer}
 use Rattle.arc_commands.specs.Blocks.{is_several, is_sole}
 use Rattle.arc_commands.specs.State.{State}
 use Rattle.arc_slots.specs.Stands.{numbered, stand_at}
@@ -15,8 +17,8 @@ use Rattle.arc_slots.specs.declared.window.Held.TheVariants.{Read, Several, Smal
 use Rattle.arc_slots.specs.declared.window.ReadOnly.{ReadOnly}
 use Rattle.arc_slots.specs.declared.window.ReadOnly.TheVariants as read_only
 
--- what contracts see of a slot: its window, what that may do, and the number of the block on which
--- it stands
+-- What contracts see of a slot: its window, what that may do, and the number of the block on which
+-- it stands. Of a caller's buffer it is the metadata that is seen, and not the value (`bare`).
 pub record SlotView (T M : Type 0) : Type 0 where
   pub window : Window T M
   pub role : Role
@@ -38,6 +40,28 @@ AnyWindow T M K = Held (Window T M) (PartsView T M) (PartsView T M) K
 abbrev pub as_held : {T M K : Type 0} → ReadOnly (Window T M) K → AnyWindow T M K
 as_held (read_only.Read window) = Read window
 as_held (read_only.Small window) = Small window
+
+-- ---- without the value of a block's buffer
+
+module _ {T B M : Type 0} where
+  -- a window that is read
+  abbrev pub bare_window : Window T (Given B M) → Window T M
+  bare_window w = record { items = w.items; place = bare_place w.place }
+
+  -- the one that a slot holds; small ones are seen so already
+  abbrev pub bare_held : {K : Type 0} → AnyWindow T (Given B M) K → AnyWindow T M K
+  bare_held (Read window) = Read (bare_window window)
+  bare_held (Write window) = Write (bare window)
+  bare_held (Several window) = Several (bare window)
+  bare_held (Small window) = Small window
+
+  -- one that isn't written
+  abbrev pub bare_read : {K : Type 0} → ReadOnly (Window T (Given B M)) K
+      → ReadOnly (Window T M) K
+  bare_read (read_only.Read window) = read_only.Read (bare_window window)
+  bare_read (read_only.Small window) = read_only.Small window
+
+-- ---- as it is seen of a slot
 
 module _ {T M K : Type 0} where
   -- the window by itself, where a small one is seen as these parts

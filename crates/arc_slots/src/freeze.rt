@@ -7,7 +7,8 @@ ghost use Rattle.arc_parts.specs.Steps.{IsPassAt};
 ghost use Rattle.arc_parts.specs.Window.{parts_of};
 ghost use Rattle.arc_parts.specs.Writers.{Freezes, IsWriterPlace};
 ghost use Rattle.arc_commands.specs.Blocks.{is_writer};
-ghost use Rattle.arc_slots.specs.Slots.{parts_in, role_in, row_of, stand_of, window_in};
+ghost use Rattle.arc_slots.specs.Slots.{bare_held, bare_window, parts_in, role_in};
+ghost use Rattle.arc_slots.specs.Slots.{row_of, stand_of, window_in};
 ghost use Rattle.arc_slots.specs.Stands.{HasPassFor};
 ghost use Rattle.arc_slots.specs.Writing.{FreezesBy, is_new};
 
@@ -24,6 +25,7 @@ use arc_read::slice::ArcSlice;
 use std::alloc::Allocator;
 
 /// A window that is written, as one that is read: `try_freeze_as`.
+#[tactic(auto, using(crate::proofs::Bare::frozen_windows))]
 fn freeze_window<
     S: TableKind,
     L: Layout,
@@ -37,14 +39,17 @@ fn freeze_window<
 where
     L::Writable: LayoutMut,
     S::Small: SmallOf<S, L, M, A>,
-    requires writes { is_writer (role_in window) ≡ true }
-    requires pass { IsPassAt (window_in S.Small.seen window).place pass.old }
+    requires writes { is_writer (role_in (bare_held window)) ≡ true }
+    requires pass { IsPassAt
+        (window_in S.Small.seen (bare_held window)).place pass.old }
     ensures frozen { IfOk result (λ made. Freezes (layout_facts L.Layout) S.DROPS true
-        (parts_in S.Small.seen window) (parts_of made) pass.old pass.new) }
-    ensures writer { IfOk result (λ _. IsWriterPlace (window_in S.Small.seen window).place) }
+        (parts_in S.Small.seen (bare_held window)) (parts_of (bare_window made))
+        pass.old pass.new) }
+    ensures writer { IfOk result (λ _. IsWriterPlace
+        (window_in S.Small.seen (bare_held window)).place) }
     ensures back { IfErr result (λ back. back ≡ window) }
     ensures refused { IfErr result (λ _. IsRefused (layout_move (layout_facts L.Layout)
-        (window_in S.Small.seen window).place)) }
+        (window_in S.Small.seen (bare_held window)).place)) }
     ensures kept { IfErr result (λ _. pass.new ≡ pass.old) }
 {
     match window {

@@ -5,6 +5,7 @@ ghost use Rattle.std.specs.Mem.{type_size};
 ghost use Rattle.std.specs.Vec.{vec_capacity};
 ghost use Rattle.arc_owners.specs.declared.error.OwnerError.TheVariants.{AllocError as no_memory};
 ghost use Rattle.arc_owners.specs.declared.mark.Whole.{Whole as whole_mark};
+ghost use Rattle.arc_block.specs.Table.{bare};
 ghost use Rattle.arc_parts.specs.Shared.{MakesSharedRoom, PushesShared, as_shared, as_unique};
 ghost use Rattle.arc_parts.specs.Shared.{LeavesVector, asks_alone, is_vector_at, on_native};
 ghost use Rattle.arc_parts.specs.Shared.{RefusesSplitAt, SplitsWriter};
@@ -57,13 +58,15 @@ fn write_beside_as<
     requires legal { IsLegal S.is_legal (seen_writing what) }
     requires pass { IsPassAt window.old.place pass.old }
     ensures written { OnOk result (PushesShared
-        (asks_alone window.old (additional_of (seen_writing what))) true
-        (room_for false (type_size S.Item.row) window.old (additional_of (seen_writing what)))
-        (items_of (seen_writing what)) window.old window.new pass.old pass.new) }
+        (asks_alone (bare window.old) (additional_of (seen_writing what))) true
+        (room_for false (type_size S.Item.row) (bare window.old)
+        (additional_of (seen_writing what))) (items_of (seen_writing what))
+        (bare window.old) (bare window.new) pass.old pass.new) }
     ensures refused { IfErr result (λ e. MakesSharedRoom
-        (asks_alone window.old (additional_of (seen_writing what))) true
-        (room_for false (type_size S.Item.row) window.old (additional_of (seen_writing what)))
-        window.old window.new pass.old pass.new (Err e)) }
+        (asks_alone (bare window.old) (additional_of (seen_writing what))) true
+        (room_for false (type_size S.Item.row) (bare window.old)
+        (additional_of (seen_writing what))) (bare window.old) (bare window.new)
+        pass.old pass.new (Err e)) }
 {
     match what {
         Writing::Nothing(additional) => window.try_reserve_as(additional, pass),

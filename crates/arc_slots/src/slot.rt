@@ -2,6 +2,7 @@
 ghost use Rattle.std.specs.Prelude.{◌≡◌, ◌==◌, ◌&&◌, if◌then◌else◌, Bool, None, true, IfErr, OnOk};
 ghost use Rattle.std.specs.Prelude.{Err};
 ghost use Rattle.std.specs.Mem.{type_size};
+ghost use Rattle.arc_block.specs.Table.{bare};
 ghost use Rattle.arc_parts.specs.Steps.{IsPassAt};
 ghost use Rattle.arc_parts.specs.Writers.{room_for, MakesRoom, Pushes};
 ghost use Rattle.arc_slots.specs.Writing.{IsLegal, can_write, seen_writing, items_of};
@@ -46,14 +47,17 @@ where
 {
     ghost use Rattle.std.specs.Prelude.{◌≡◌, true};
     ghost use Rattle.arc_slots.specs.Stands.{is_numbered};
-    ghost use Rattle.arc_slots.specs.Slots.{SlotView, held, may_be_shared, role_fits, window_in};
+    ghost use Rattle.arc_slots.specs.Slots.{SlotView, bare_held, held, may_be_shared};
+    ghost use Rattle.arc_slots.specs.Slots.{role_fits, window_in};
 
     ghost Value = { SlotView S.Item M };
 
-    ghost view = { λ s. held S.Small.seen s.window s.block };
+    ghost view = { λ s. held S.Small.seen (bare_held s.window) s.block };
 
-    ghost invariant = { λ s. (is_numbered s.block (window_in S.Small.seen s.window).place ≡ true)
-        × (role_fits s.window ≡ true) × (may_be_shared S.SHARES s.window ≡ true) };
+    ghost invariant = { λ s. (is_numbered s.block
+        (window_in S.Small.seen (bare_held s.window)).place ≡ true)
+        × (role_fits (bare_held s.window) ≡ true)
+        × (may_be_shared S.SHARES (bare_held s.window) ≡ true) };
 }
 
 /// What is written into a window, where X holds items and T is one.
@@ -100,12 +104,12 @@ fn write_as<
     requires call { can_write S.Calls.calls (seen_writing what) ≡ true }
     requires legal { IsLegal S.is_legal (seen_writing what) }
     requires pass { IsPassAt window.old.place pass.old }
-    ensures written { OnOk result (Pushes S.DROPS true
-        (room_for S.DROPS (type_size S.Item.row) window.old (additional_of (seen_writing what)))
-        (items_of (seen_writing what)) window.old window.new pass.old pass.new) }
-    ensures refused { IfErr result (λ e. MakesRoom S.DROPS true
-        (room_for S.DROPS (type_size S.Item.row) window.old (additional_of (seen_writing what)))
-        window.old window.new pass.old pass.new (Err e)) }
+    ensures written { OnOk result (Pushes S.DROPS true (room_for S.DROPS (type_size S.Item.row)
+        (bare window.old) (additional_of (seen_writing what))) (items_of (seen_writing what))
+        (bare window.old) (bare window.new) pass.old pass.new) }
+    ensures refused { IfErr result (λ e. MakesRoom S.DROPS true (room_for S.DROPS
+        (type_size S.Item.row) (bare window.old) (additional_of (seen_writing what)))
+        (bare window.old) (bare window.new) pass.old pass.new (Err e)) }
 {
     match what {
         Writing::Nothing(additional) => window.try_reserve_as(additional, pass),
@@ -144,7 +148,7 @@ where
     ghost use Rattle.std.specs.Prelude.{◌≡◌, ◌<◌, ◌≤◌, ◌↔◌, length, Bool, false, None, Some};
     ghost use Rattle.std.specs.Prelude.{IfOk, IfErr, IsOk, take, drop, true, is_some, MatchOption};
     ghost use Rattle.arc_buffer.specs.Slice.{IsRange, IsEdge, sub, range_answer, edge_answer};
-    ghost use Rattle.arc_block.specs.Place.{metadata_at, part_place};
+    ghost use Rattle.arc_block.specs.Place.{given_at, part_place};
     ghost use Rattle.std.specs.Prelude.{IfSome};
     ghost use Rattle.arc_block.specs.Table.{reader};
     ghost use Rattle.arc_parts.specs.Shared.{is_on_block};
@@ -184,9 +188,9 @@ where
         block: Option<usize>,
     ) -> Self
         requires writes { is_sole window.role ≡ true }
-        requires block { is_numbered block window.place ≡ true }
+        requires block { is_numbered block (bare window).place ≡ true }
         ensures { result ≡ record {
-          window = window_of window;
+          window = window_of (bare window);
           role = window.role;
           block = block;
         } }
@@ -205,9 +209,9 @@ where
     ) -> Self
         requires writes { is_several window.role ≡ true }
         requires shares { S.SHARES ≡ true }
-        requires block { is_numbered block window.place ≡ true }
+        requires block { is_numbered block (bare window).place ≡ true }
         ensures { result ≡ record {
-          window = window_of window;
+          window = window_of (bare window);
           role = window.role;
           block = block;
         } }
@@ -295,10 +299,11 @@ where
     }
 
     /// The metadata that the block of the window, which is no small one, was made with, or `None`.
+    #[tactic(auto, using(crate::proofs::Bare::bare_given))]
     pub fn metadata(&self) -> Option<&M>
         requires { is_small self.now.role ≡ false }
-        ensures some { IfSome result (λ m. metadata_at self.now.window.place ≡ Some m.now) }
-        ensures none { result ≡ None → metadata_at self.now.window.place ≡ None }
+        ensures some { IfSome result (λ m. given_at self.now.window.place ≡ Some m.now) }
+        ensures none { result ≡ None → given_at self.now.window.place ≡ None }
     {
         match &self.window {
             Held::Read(window) => window.metadata(),

@@ -6,7 +6,8 @@ ghost use Rattle.arc_block.specs.Place.{at_owner};
 ghost use Rattle.arc_parts.specs.Steps.{IsPassAt, Refuses, Shares};
 ghost use Rattle.arc_commands.specs.Blocks.{is_writer};
 ghost use Rattle.arc_read.specs.Cuts.{sub_place};
-ghost use Rattle.arc_slots.specs.Slots.{as_held, role_fits, role_in, window_in};
+ghost use Rattle.arc_slots.specs.Slots.{as_held, bare_held, bare_read, role_fits};
+ghost use Rattle.arc_slots.specs.Slots.{role_in, window_in};
 
 use arc_block::layout::{Layout, LayoutMut};
 use arc_buffer::buffer::BufferMut;
@@ -67,7 +68,7 @@ pub(crate) fn hold_window<
 >(window: ReadOnlyWindow<S, L, B, M, A>) -> AnyWindow<S, L, K, B, M, A>
 where
     S::Small: SmallOf<S, L, M, A>,
-    ensures { result ≡ as_held window }
+    ensures { bare_held result ≡ as_held (bare_read window) }
 {
     match window {
         ReadOnly::Read(window) => Held::Read(window),
@@ -77,6 +78,7 @@ where
 
 /// Another window with the same items, by `try_clone_as` of a reader's or of a small one.
 #[inline(always)]
+#[tactic(auto, using(crate::proofs::Bare::cloned_windows))]
 pub(crate) fn clone_window<
     S: TableKind,
     L: Layout,
@@ -91,16 +93,21 @@ pub(crate) fn clone_window<
 ) -> Result<ReadOnlyWindow<S, L, B, M, A>, OwnerError>
 where
     S::Small: SmallOf<S, L, M, A>,
-    requires cuts { is_writer (role_in window.now) ≡ false }
-    requires fits { role_fits window.now ≡ true }
-    requires pass { IsPassAt (window_in S.Small.seen window.now).place pass.old }
-    ensures items { IfOk result (λ made. (window_in S.Small.seen (as_held made)).items
-        ≡ (window_in S.Small.seen window.now).items) }
-    ensures role { IfOk result (λ made. role_in (as_held made) ≡ role_in window.now) }
-    ensures place { IfOk result (λ made. Shares (window_in S.Small.seen window.now).place
-        pass.old pass.new (window_in S.Small.seen (as_held made)).place) }
+    requires cuts { is_writer (role_in (bare_held window.now)) ≡ false }
+    requires fits { role_fits (bare_held window.now) ≡ true }
+    requires pass { IsPassAt (window_in S.Small.seen (bare_held window.now)).place
+        pass.old }
+    ensures items { IfOk result (λ made.
+        (window_in S.Small.seen (as_held (bare_read made))).items
+        ≡ (window_in S.Small.seen (bare_held window.now)).items) }
+    ensures role { IfOk result (λ made.
+        role_in (as_held (bare_read made)) ≡ role_in (bare_held window.now)) }
+    ensures place { IfOk result (λ made. Shares
+        (window_in S.Small.seen (bare_held window.now)).place pass.old pass.new
+        (window_in S.Small.seen (as_held (bare_read made))).place) }
     ensures refused { IfErr result (λ e. Refuses L.clone_wants
-        (window_in S.Small.seen window.now).place pass.old pass.new e) }
+        (window_in S.Small.seen (bare_held window.now)).place
+        pass.old pass.new e) }
 {
     match window {
         Held::Read(window) => match window.try_clone_as(rt, pass) {
@@ -118,6 +125,7 @@ where
 /// A window over the items from `start` to `end`, by `try_subslice_as` of a reader's or of a small
 /// one.
 #[inline(always)]
+#[tactic(auto, using(crate::proofs::Bare::cut_windows))]
 pub(crate) fn cut_window<
     S: TableKind,
     L: Layout,
@@ -134,18 +142,23 @@ pub(crate) fn cut_window<
 ) -> Result<ReadOnlyWindow<S, L, B, M, A>, OwnerError>
 where
     S::Small: SmallOf<S, L, M, A>,
-    requires cuts { is_writer (role_in window.now) ≡ false }
-    requires fits { role_fits window.now ≡ true }
-    requires range { IsRange S.boundary (window_in S.Small.seen window.now).items start end }
-    requires pass { IsPassAt (window_in S.Small.seen window.now).place pass.old }
-    ensures items { IfOk result (λ made. (window_in S.Small.seen (as_held made)).items
-        ≡ sub (window_in S.Small.seen window.now).items start end) }
-    ensures role { IfOk result (λ made. role_in (as_held made) ≡ role_in window.now) }
-    ensures place { IfOk result (λ made. Shares
-        (sub_place L.STATIC (window_in S.Small.seen window.now) start end)
-        pass.old pass.new (window_in S.Small.seen (as_held made)).place) }
-    ensures refused { IfErr result (λ e. Refuses L.clone_wants
-        (sub_place L.STATIC (window_in S.Small.seen window.now) start end)
+    requires cuts { is_writer (role_in (bare_held window.now)) ≡ false }
+    requires fits { role_fits (bare_held window.now) ≡ true }
+    requires range { IsRange S.boundary
+        (window_in S.Small.seen (bare_held window.now)).items start end }
+    requires pass { IsPassAt (window_in S.Small.seen (bare_held window.now)).place
+        pass.old }
+    ensures items { IfOk result (λ made.
+        (window_in S.Small.seen (as_held (bare_read made))).items
+        ≡ sub (window_in S.Small.seen (bare_held window.now)).items start end) }
+    ensures role { IfOk result (λ made.
+        role_in (as_held (bare_read made)) ≡ role_in (bare_held window.now)) }
+    ensures place { IfOk result (λ made. Shares (sub_place L.STATIC
+        (window_in S.Small.seen (bare_held window.now)) start end)
+        pass.old pass.new
+        (window_in S.Small.seen (as_held (bare_read made))).place) }
+    ensures refused { IfErr result (λ e. Refuses L.clone_wants (sub_place L.STATIC
+        (window_in S.Small.seen (bare_held window.now)) start end)
         pass.old pass.new e) }
 {
     match window {
@@ -162,6 +175,7 @@ where
 }
 
 /// Ends a window.
+#[tactic(auto, using(crate::proofs::Bare::ended_windows))]
 pub(crate) fn end_window<
     S: TableKind,
     L: Layout,
@@ -172,9 +186,9 @@ pub(crate) fn end_window<
 >(window: AnyWindow<S, L, K, B, M, A>, pass: &mut Pass<Whole>)
 where
     S::Small: SmallOf<S, L, M, A>,
-    requires { IsPassAt (window_in S.Small.seen window).place pass.old }
-    ensures { at_owner (window_in S.Small.seen window).place (pass.new ≡ pass.old) (λ o.
-        (last : Bool) × Leaves o pass.old pass.new last) }
+    requires { IsPassAt (window_in S.Small.seen (bare_held window)).place pass.old }
+    ensures { at_owner (window_in S.Small.seen (bare_held window)).place
+        (pass.new ≡ pass.old) (λ o. (last : Bool) × Leaves o pass.old pass.new last) }
 {
     match window {
         Held::Read(window) => window.release_as(pass),

@@ -38,10 +38,11 @@ impl<
     H: Mark,
 > Model for SmallArcSlice<S, L, B, M, A, H> {
     ghost use Rattle.std.specs.Prelude.{ℕ};
+    ghost use Rattle.arc_block.specs.Given.{Given};
     ghost use Rattle.arc_parts.specs.Window.{PartsView};
     ghost use Rattle.arc_small.specs.Small.{row_of};
 
-    ghost Value = { PartsView ℕ M };
+    ghost Value = { PartsView ℕ (Given B M) };
 
     ghost view = { λ w. row_of w.either };
 }

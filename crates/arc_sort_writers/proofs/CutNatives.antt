@@ -111,7 +111,7 @@ module _ {T M A : Type 0} where
           sort = native;
           size = size m;
           full = full_places drops (first m + long i + left m);
-          metadata = None;
+          given = None;
         });
         role = sole_writer (room m);
       })
@@ -137,7 +137,7 @@ module _ {T M A : Type 0} where
       (λ i. record {
         items = items i;
         place = on_block (Some o) (same.start i)
-            (record { sort = native; size = same.whole i; full = filling i; metadata = None });
+            (record { sort = native; size = same.whole i; full = filling i; given = None });
         role = sole_writer (same.count i);
       })
       ∙ ap (with_more ys) view
@@ -163,7 +163,7 @@ module _ {T M A : Type 0} where
       shorter (Some o) i = record {
         items = items i;
         place = on_block (Some o) (same.start i)
-            (record { sort = native; size = same.whole i; full = None; metadata = None });
+            (record { sort = native; size = same.whole i; full = None; given = None });
         role = sole_writer (same.count i);
       }
 
@@ -194,7 +194,7 @@ module _ {T M A : Type 0} where
       shorter (Some o) i = record {
         items = items i;
         place = on_block (Some o) (at.start i)
-            (record { sort = native; size = at.whole i; full = Some (whole i); metadata = None });
+            (record { sort = native; size = at.whole i; full = Some (whole i); given = None });
         role = sole_writer (at.count i);
       }
 
@@ -212,7 +212,7 @@ module _ {T M A : Type 0} where
       (λ i. record {
         items = items i;
         place = on_block (Some o) (at.start i)
-            (record { sort = native; size = at.whole i; full = there i; metadata = None });
+            (record { sort = native; size = at.whole i; full = there i; given = None });
         role = sole_writer (at.count i);
       })
       ∙ ap (after_advance n) view
@@ -242,7 +242,7 @@ module _ {T M A : Type 0} where
       (λ i. record {
         items = items i;
         place = on_block (Some o) (at.start i)
-            (record { sort = native; size = at.whole i; full = None; metadata = None });
+            (record { sort = native; size = at.whole i; full = None; given = None });
         role = sole_writer (at.count i);
       })
       ∙ ap (with_room Behind) view
@@ -263,7 +263,7 @@ module _ {T M A : Type 0} where
       (λ i. record {
         items = items i;
         place = on_block (Some o) (at.start i)
-            (record { sort = native; size = at.whole i; full = None; metadata = None });
+            (record { sort = native; size = at.whole i; full = None; given = None });
         role = sole_writer (at.count i);
       })
       ∙ ap (with_room Front) view
@@ -281,7 +281,7 @@ module _ {T M A : Type 0} where
       (λ i. record {
         items = items i;
         place = on_block (Some o) (begins i)
-            (record { sort = native; size = more i; full = there i; metadata = None });
+            (record { sort = native; size = more i; full = there i; given = None });
         role = sole_writer (own i);
       })
       ∙ ap (with_room (Growth places)) view
@@ -354,7 +354,7 @@ module _ {T M A : Type 0} where
       (λ i. record {
         items = items i;
         place = on_block (Some o) (all.start i)
-            (record { sort = native; size = all.whole i; full = None; metadata = None });
+            (record { sort = native; size = all.whole i; full = None; given = None });
         role = one_writer_of_several (room m);
       })
       ∙ ap as_shared view
@@ -381,7 +381,7 @@ module _ {T M A : Type 0} where
           sort = native;
           size = size w;
           full = full_places drops (same i);
-          metadata = None;
+          given = None;
         });
         role = sole_writer (all i);
       }
@@ -394,7 +394,7 @@ module _ {T M A : Type 0} where
   part_cut false o m start end w ordered inside part = λ i. record {
     items = part.items i;
     place = on_block (Some o) (part.start i)
-        (record { sort = native; size = part.whole i; full = None; metadata = None });
+        (record { sort = native; size = part.whole i; full = None; given = None });
     role = sole_writer (part.own refl i);
   }
   part_cut true o m start end w ordered inside part = λ i. record {
@@ -403,7 +403,7 @@ module _ {T M A : Type 0} where
       sort = native;
       size = part.whole i;
       full = Some (part.full refl i);
-      metadata = None;
+      given = None;
     });
     role = sole_writer (places i);
   }
@@ -463,7 +463,7 @@ module _ {T M A : Type 0} where
           λ i. record {
             items = items i;
             place = on_block (Some o) (first m)
-                (record { sort = native; size = same.0.whole i; full = None; metadata = None });
+                (record { sort = native; size = same.0.whole i; full = None; given = None });
             role = reader;
           }
       again true own all kept =
@@ -496,7 +496,7 @@ module _ {T M A : Type 0} where
               sort = native;
               size = same.0.whole i;
               full = Some (long i);
-              metadata = None;
+              given = None;
             });
             role = reader;
           }

@@ -6,7 +6,9 @@ use Rattle.arc_parts.specs.declared.room.Room.{Room}
 use Rattle.arc_parts.specs.declared.room.Room.TheVariants.{Spare, Fresh, Behind, Front}
 use Rattle.arc_parts.specs.declared.room.Room.TheVariants.{Growth, Own, Refused}
 use Rattle.arc_sort_writers.specs.Growth.{IfAsked, MayAnswer, AsksForRoom}
-use Rattle.arc_block.specs.Place.{Place, nowhere, static_data, on_block}
+use Rattle.arc_block.specs.Given.{Given}
+use Rattle.arc_block.specs.Place.{Place, nowhere, static_data, on_block, bare_place}
+use Rattle.arc_block.specs.Table.{bare}
 use Rattle.arc_parts.specs.Room.{IfOwn}
 use Rattle.arc_parts.specs.Window.{PartsView}
 use Rattle.arc_block.specs.Place.{size_at}
@@ -29,6 +31,13 @@ size-full len more nowhere = refl
 size-full len more static_data = refl
 size-full len more (on_block block offset info) = refl
 
+-- and whatever its buffer is
+size-bare : {N B M : Type 0} (place : Place N (Given B M))
+    → size_at (bare_place place) ≡ size_at place
+size-bare nowhere = refl
+size-bare static_data = refl
+size-bare (on_block block offset info) = refl
+
 module _ {T B : Type 0} (list : B → List T) (places : B → ℕ) (grows : B → ℕ → ℕ → Type 0)
     (refuses : B → ℕ → TryReserveError → Type 0) where
   -- what a buffer may answer, by the answer
@@ -39,14 +48,17 @@ module _ {T B : Type 0} (list : B → List T) (places : B → ℕ) (grows : B �
   may_answer b additional size (Err e) grown refused = refused
 
   -- what was asked when room was made stays so when the room is filled
-  pub asked_pushed : {M : Type 0} (room : Room) (w between new : PartsView T M) (xs : List T)
-      (reply : Result (Unit {0}) TryReserveError) → new ≡ with_more xs between
+  pub asked_pushed : {M : Type 0} (room : Room) (w between new : PartsView T (Given B M))
+      (xs : List T) (reply : Result (Unit {0}) TryReserveError)
+      → bare new ≡ with_more xs (bare between)
       → IfAsked room
       (λ k. AsksForRoom list places grows refuses w k (size_at between.place) reply)
       → IfAsked room (λ k. AsksForRoom list places grows refuses w k (size_at new.place) reply)
   asked_pushed {M} room w between new xs reply is asked =
       let same : size_at new.place ≡ size_at between.place =
-      ap (λ (p : PartsView T M). size_at p.place) is
-      ∙ size-full (length between.items) (length xs) between.place in
+      sym (size-bare new.place)
+      ∙ ap (λ (p : PartsView T M). size_at p.place) is
+      ∙ size-full (length between.items) (length xs) (bare_place between.place)
+      ∙ size-bare between.place in
       subst (λ n. IfAsked room (λ k. AsksForRoom list places grows refuses w k n reply)) (sym same)
       asked

@@ -92,7 +92,7 @@ module _ {T M : Type 0} (sort : Sort) (drops : Bool) (o : Owner) where
       λ i. record {
         items = sub-pushed xs ys start end last ordered ends behind i;
         place = on_block (Some o) offset
-            (record { sort = sort; size = size; full = filled i; metadata = None });
+            (record { sort = sort; size = size; full = filled i; given = None });
         role = sole_writer (free i);
       }
 
@@ -106,7 +106,7 @@ cut_copied {T} {M} sort o size full after offset xs start end n ordered inside s
     let make : List T → PartsView T M = λ ys. record {
       items = ys;
       place = on_block (Some o) offset
-          (record { sort = sort; size = size; full = None; metadata = None });
+          (record { sort = sort; size = size; full = None; given = None });
       role =
           sole_writer (size - offset);
     } in

@@ -13,6 +13,7 @@ use Rattle.arc_buffer.proofs.Sub.{length-sub, sub-whole}
 use Rattle.arc_block.specs.Block.{buffer_info, vector, buffer, raw, IsMemory}
 use Rattle.arc_block.specs.Block.{IsBuffer}
 use Rattle.arc_block.specs.Contents.{held_in, content_items}
+use Rattle.arc_block.specs.Given.{Given}
 use Rattle.arc_sort_writers.specs.Growth.{MayAnswer, AsksForRoom}
 use Rattle.arc_block.specs.declared.block.content.Content.{Content}
 use Rattle.arc_block.specs.declared.block.content.Content.TheVariants.{Vector, Buffer, Raw}
@@ -24,12 +25,13 @@ use Rattle.arc_block.specs.Table.{Role, sole_writer}
 use Rattle.arc_parts.specs.Window.{PartsView, IsBufferWhole}
 use Rattle.arc_sort_writers.specs.SortParts.{block_part, IsBufferWithin}
 use Rattle.arc_parts.specs.Writers.{capacity_of}
-use Rattle.arc_block.specs.Place.{size_at, offset_at}
+use Rattle.arc_block.specs.Place.{size_at, offset_at, buffer_at}
+use Rattle.arc_block.specs.Table.{bare}
 use Rattle.arc_parts.specs.Writers.{with_room, with_more, after_truncate}
 use Rattle.std.specs.List.{refill}
 use Rattle.arc_buffer.specs.Buffers.{written_from, written_long}
 use Rattle.arc_block.specs.LendsBuffers.{with_buffer, KeepsBuffer}
-use Rattle.arc_parts.specs.Writers.{with_items}
+use Rattle.arc_parts.specs.Writers.{with_written}
 use Rattle.arc_sort_writers.proofs.Lent.{part-written}
 use Rattle.arc_sort_writers.proofs.MemoryParts.{slice_is_sub, part-take}
 
@@ -119,11 +121,11 @@ cut-role false ends n len free = refl
 -- a writer of the items from start to end of a buffer, which his block keeps
 module _ {T B M A : Type 0} (list : B → List T) (places : B → ℕ) (drops one_pass : Bool)
     (o : Owner) (content : Content T B M A) (held : CallersBuffer B M)
-    (is : content ≡ Buffer held) (start end : ℕ) (w : PartsView T M)
+    (is : content ≡ Buffer held) (start end : ℕ) (w : PartsView T (Given B M))
     (view : block_part drops (held_in list places drops o content) start end ≡ w)
     (within : IsBufferWithin one_pass (held_in list places drops o content) start end) where
   -- what is seen of a writer in a buffer
-  abbrev pub in-buffer : CallersBuffer B M → (start end : ℕ) → PartsView T M
+  abbrev pub in-buffer : CallersBuffer B M → (start end : ℕ) → PartsView T (Given B M)
   in-buffer b from to = block_part drops (held_in {A = A} list places drops o (Buffer b)) from to
 
   there : in-buffer held start end ≡ w
@@ -137,7 +139,8 @@ module _ {T B M A : Type 0} (list : B → List T) (places : B → ℕ) (drops on
       → length (list held.buffer) + additional ≤ places b
       → capacity_of w.role ≡ size_at w.place - offset_at w.place
       → (offset_at w.place + length w.items + additional ≤ places b)
-      × (in-buffer (record held { buffer = b }) start end ≡ with_room (Growth (places b)) w)
+      × (bare (in-buffer (record held { buffer = b }) start end)
+      ≡ with_room (Growth (places b)) (bare w))
   grown_seen b additional same room all =
       let n = length (list held.buffer) in
       let long = length-sub (list held.buffer) start end inside.1 inside.2 in
@@ -147,10 +150,11 @@ module _ {T B M A : Type 0} (list : B → List T) (places : B → ℕ) (drops on
             (buffer_info held.writable (places b) (length xs) held.metadata);
         role = sole_writer free;
       } in
-      let Q : PartsView T M → Type 0 = λ s.
+      let Q : PartsView T (Given B M) → Type 0 = λ s.
       (offset_at s.place + length s.items + additional ≤ places b)
-      × (in-buffer (record held { buffer = b }) start end ≡ with_room (Growth (places b)) s) in
-      let told = subst (λ (s : PartsView T M). capacity_of s.role
+      × (bare (in-buffer (record held { buffer = b }) start end)
+      ≡ with_room (Growth (places b)) (bare s)) in
+      let told = subst (λ (s : PartsView T (Given B M)). capacity_of s.role
       ≡ size_at s.place - offset_at s.place) (sym there) all in
       subst Q there (
         omega (arith, long, inside.1, inside.2, room),
@@ -169,9 +173,11 @@ module _ {T B M A : Type 0} (list : B → List T) (places : B → ℕ) (drops on
       let xs = list held.buffer in
       let long = length-sub xs start end inside.1 inside.2 in
       let last : start + length (sub xs start end) ≡ end = omega (arith, long, inside.1) in
-      subst (λ (s : PartsView T M). AsksForRoom list places grows refuses s additional size reply)
+      subst (λ (s : PartsView T (Given B M)).
+      AsksForRoom list places grows refuses s additional size reply)
       there (record {
         buffer = held.buffer;
+        itself = refl;
         part = ap (sub xs start) last;
         room = refl;
         answer = answer;
@@ -182,11 +188,11 @@ module _ {T B M A : Type 0} (list : B → List T) (places : B → ℕ) (drops on
       → (list held.buffer ≡ w.items) × (places held.buffer ≡ size_at w.place)
   taken_whole whole =
       let xs = list held.buffer in
-      let Q : PartsView T M → Type 0 = λ s. IsBufferWhole s.items s.place
+      let Q : PartsView T (Given B M) → Type 0 = λ s. IsBufferWhole s.items s.place
       → (list held.buffer ≡ s.items) × (places held.buffer ≡ size_at s.place) in
       subst Q there (λ (all : IsBufferWhole (sub xs start end)
       (on_block (Some o) start (buffer_info held.writable (places held.buffer) (length xs)
-      held.metadata))).
+      (Some held)))).
       let full : length xs ≡ length (sub xs start end) = cc (all.whole.1) in
       let last : end ≡ length xs = omega (
         arith,
@@ -198,11 +204,15 @@ module _ {T B M A : Type 0} (list : B → List T) (places : B → ℕ) (drops on
         refl,
       )) whole
 
+  -- it is the block's
+  pub given_there : buffer_at w.place ≡ Some held.buffer
+  given_there = ap (λ (s : PartsView T (Given B M)). buffer_at s.place) (sym there)
+
   -- the items stand at the buffer's front now
   pub front_seen : (b : B) → drops ≡ false
       → list b ≡ drop start (list held.buffer) ++ take start (list held.buffer)
       → length (list b) ≡ length (list held.buffer) → places b ≡ places held.buffer
-      → in-buffer (record held { buffer = b }) 0 (end - start) ≡ with_room Front w
+      → bare (in-buffer (record held { buffer = b }) 0 (end - start)) ≡ with_room Front (bare w)
   front_seen b copied items long same =
       let xs = list held.buffer in
       let n = end - start in
@@ -220,8 +230,8 @@ module _ {T B M A : Type 0} (list : B → List T) (places : B → ℕ) (drops on
       let all : size - 0 ≡ size = omega arith in
       let free : Bool → ℕ → ℕ → ℕ =
       λ d full p. if d && not (0 + (n - 0) == full) then n - 0 else p - 0 in
-      subst (λ (s : PartsView T M).
-      in-buffer (record held { buffer = b }) 0 n ≡ with_room Front s) there
+      subst (λ (s : PartsView T (Given B M)).
+      bare (in-buffer (record held { buffer = b }) 0 n) ≡ with_room Front (bare s)) there
       (ap (λ d. make (sub (list b) 0 n) (places b) (length (list b))
       (free d (length (list b)) (places b))) copied
       ∙ ap (λ ys. make ys (places b) (length (list b)) (places b - 0)) shifted
@@ -241,14 +251,14 @@ module _ {T B M A : Type 0} (list : B → List T) (places : B → ℕ) (drops on
       let apart : (start + far == length xs) ≡ false =
       ne_eqb (start + far) (length xs) (λ same. omega (arith, same, short, inside.1, inside.2)) in
       let left : far ≡ n = omega arith in
-      let make : List T → Role → PartsView T M = λ ys role. record {
+      let make : List T → Role → PartsView T (Given B M) = λ ys role. record {
         items = ys;
         place = on_block (Some o) start
-            (buffer_info held.writable (places held.buffer) (length xs) held.metadata);
+            (buffer_info held.writable (places held.buffer) (length xs) (Some held));
         role = role;
       } in
       let size = places held.buffer - start in
-      subst (λ (s : PartsView T M).
+      subst (λ (s : PartsView T (Given B M)).
       in-buffer held start (start + n) ≡ after_truncate drops n s) there
       (ap (λ ys. make ys (sole_writer (if drops && not (start + far == length xs) then far
       else size))) (part-take xs start end n inside.1 (omega (arith, short)))
@@ -264,7 +274,8 @@ module _ {T B M A : Type 0} (list : B → List T) (places : B → ℕ) (drops on
   pub pushed_seen : (b : B) (x : T)
       → list b ≡ take end (list held.buffer) ++ x ∷ drop (end + 1) (list held.buffer)
       → places b ≡ places held.buffer → length w.items + 1 ≤ capacity_of w.role
-      → in-buffer (record held { buffer = b }) start (end + 1) ≡ with_more (x ∷ []) w
+      → bare (in-buffer (record held { buffer = b }) start (end + 1))
+      ≡ with_more (x ∷ []) (bare w)
   pushed_seen b x items same room =
       let xs = list held.buffer in
       let part = sub xs start end in
@@ -273,8 +284,8 @@ module _ {T B M A : Type 0} (list : B → List T) (places : B → ℕ) (drops on
       let size = places held.buffer in
       let long = length-sub xs start end inside.1 inside.2 in
       let first : length front ≡ end = length-take-le end xs inside.2 in
-      let told = subst (λ (s : PartsView T M). length s.items + 1 ≤ capacity_of s.role) (sym there)
-      room in
+      let told = subst (λ (s : PartsView T (Given B M)). length s.items + 1 ≤ capacity_of s.role)
+      (sym there) room in
       let behind : sub (list b) start (end + 1) ≡ part ++ x ∷ [] =
       ap (λ zs. sub zs start (end + 1)) items
       ∙ ap (λ n. drop start (take (n + 1) (front ++ x ∷ rest))) (sym first)
@@ -298,8 +309,9 @@ module _ {T B M A : Type 0} (list : B → List T) (places : B → ℕ) (drops on
       } in
       let free = if drops && not (start + ((end + 1) - start) == length (list b))
       then (end + 1) - start else places b - start in
-      subst (λ (s : PartsView T M).
-      in-buffer (record held { buffer = b }) start (end + 1) ≡ with_more (x ∷ []) s) there
+      subst (λ (s : PartsView T (Given B M)).
+      bare (in-buffer (record held { buffer = b }) start (end + 1)) ≡ with_more (x ∷ []) (bare s))
+      there
       (ap (λ ys. make ys (places b) (length (list b)) free) behind
       ∙ ap (λ p. make (part ++ x ∷ []) p (length (list b)) free) same
       ∙ ap (make (part ++ x ∷ []) size (length (list b)))
@@ -317,7 +329,7 @@ buffer-is list places drops o (Buffer held) is = (held, refl)
 buffer-is list places drops o (Raw shared) is = absurd (not-raw is)
 
 pub cut_held : {T B M A : Type 0} (list : B → List T) (places : B → ℕ) (drops one_pass : Bool)
-    (o : Owner) (content : Content T B M A) (start end : ℕ) (w : PartsView T M)
+    (o : Owner) (content : Content T B M A) (start end : ℕ) (w : PartsView T (Given B M))
     → block_part drops (held_in list places drops o content) start end ≡ w
     → IsBufferWithin one_pass (held_in list places drops o content) start end
     → (n : ℕ) → n < end - start
@@ -330,16 +342,17 @@ cut_held list places drops one_pass o content start end w view within n short =
 
 -- the items that were lent are those that were written, in the same places
 pub lent_held : {T B M A : Type 0} (list : B → List T) (places : B → ℕ) (drops one_pass : Bool)
-    (o : Owner) (content : Content T B M A) (start end : ℕ) (w : PartsView T M)
+    (o : Owner) (content : Content T B M A) (start end : ℕ) (w : PartsView T (Given B M))
     → block_part drops (held_in list places drops o content) start end ≡ w
     → IsBufferWithin one_pass (held_in list places drops o content) start end
     → (inner : Content T B M A) → inner ≡ content → (old new : B) → KeepsBuffer inner old
-    → (ws : List T) → list new ≡ written_from (list old) start ws → places new ≡ places old
+    → (with_part : B → ℕ → List T → B) → (ws : List T) → new ≡ with_part old start ws
+    → list new ≡ written_from (list old) start ws → places new ≡ places old
     → (block_part drops (held_in list places drops o (with_buffer inner new)) start end
-    ≡ with_items w ws)
+    ≡ with_written with_part w ws)
     × IsBufferWithin one_pass (held_in list places drops o (with_buffer inner new)) start end
 lent_held {T} {B} {M} {A} list places drops one_pass o content start end w view within inner same
-    old new of ws written kept =
+    old new of with_part ws itself written kept =
     let found = buffer-is list places drops o content within.4 in
     let held = found.0 in
     let is : inner ≡ Buffer held = same ∙ found.1 in
@@ -355,26 +368,29 @@ lent_held {T} {B} {M} {A} list places drops one_pass o content start end w view 
     let long : length (list new) ≡ length xs = ap (λ ys. length ys) now
     ∙ written_long xs start ws in
     let room : places new ≡ places held.buffer = kept ∙ ap places (sym own) in
-    let make : List T → (size full : ℕ) → PartsView T M = λ ys size full. record {
+    let make : List T → (size full : ℕ) → B → PartsView T (Given B M) = λ ys size full b. record {
       items = ys;
-      place = on_block (Some o) start (buffer_info held.writable size full held.metadata);
+      place = on_block (Some o) start
+          (buffer_info held.writable size full (Some (record held { buffer = b })));
       role = sole_writer (if drops && not (start + (end - start) == full) then end - start
           else size - start);
     } in
     let after = record held { buffer = new } in
     let seen : block_part drops (held_in {A = A} list places drops o (Buffer after)) start end
-    ≡ with_items w ws =
-    ap (λ ys. make (sub ys start end) (places new) (length (list new))) now
-    ∙ ap (λ ys. make ys (places new) (length (list new)))
+    ≡ with_written with_part w ws =
+    ap (λ ys. make (sub ys start end) (places new) (length (list new)) new) now
+    ∙ ap (λ ys. make ys (places new) (length (list new)) new)
     (part-written xs ws start end here.1 here.2)
-    ∙ ap (λ p. make (refill (length part) part ws) p (length (list new))) room
-    ∙ ap (make (refill (length part) part ws) (places held.buffer)) long
-    ∙ ap (λ s. with_items s ws) there in
+    ∙ ap (λ p. make (refill (length part) part ws) p (length (list new)) new) room
+    ∙ ap (λ n. make (refill (length part) part ws) (places held.buffer) n new) long
+    ∙ ap (make (refill (length part) part ws) (places held.buffer) (length xs))
+    (itself ∙ ap (λ b. with_part b start ws) (sym own))
+    ∙ ap (λ s. with_written with_part s ws) there in
     let fits : IsBufferWithin one_pass (held_in {A = A} list places drops o (Buffer after)) start
     end =
     (here.0, here.1, omega (arith, here.2, long), omega (arith, here.3, long, room), here.4) in (
       subst (λ c. block_part drops (held_in list places drops o (with_buffer c new)) start end
-          ≡ with_items w ws) (sym is) seen,
+          ≡ with_written with_part w ws) (sym is) seen,
       subst (λ c. IsBufferWithin one_pass (held_in list places drops o (with_buffer c new)) start
           end) (sym is) fits,
     )

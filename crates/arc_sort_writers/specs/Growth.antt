@@ -1,9 +1,10 @@
 -- What a caller's buffer is asked for where a writer wants room, and what it answers.
-use Rattle.std.specs.Prelude.{◌≡◌, ℕ, ◌+◌, List, length, Result, Ok, Err}
+use Rattle.std.specs.Prelude.{◌≡◌, ℕ, ◌+◌, List, length, Result, Ok, Err, Some}
 use Rattle.arc_owners.specs.declared.error.TryReserveError.{TryReserveError}
 use Rattle.arc_buffer.specs.Slice.{sub}
 use Rattle.arc_parts.specs.Window.{PartsView}
-use Rattle.arc_block.specs.Place.{offset_at, size_at}
+use Rattle.arc_block.specs.Given.{Given}
+use Rattle.arc_block.specs.Place.{buffer_at, offset_at, size_at}
 use Rattle.arc_parts.specs.declared.room.Room.{Room}
 use Rattle.arc_parts.specs.declared.room.Room.TheVariants.{Spare, Fresh, Behind, Front}
 use Rattle.arc_parts.specs.declared.room.Room.TheVariants.{Growth, Own, Refused}
@@ -31,11 +32,12 @@ module _ {T B : Type 0} (list : B → List T) (places : B → ℕ) (grows : B �
   MayAnswer b additional size (Ok done) = grows b additional size
   MayAnswer b additional size (Err e) = refuses b additional e
 
-  -- That was asked of a buffer with so many places, of which the writer's list is the part, and
-  -- the answer is its own.
-  pub record AsksForRoom {M : Type 0} (w : PartsView T M) (additional size : ℕ)
+  -- That was asked of the block's buffer, which has so many places, and of which the writer's list
+  -- is the part. The answer is its own.
+  pub record AsksForRoom {M : Type 0} (w : PartsView T (Given B M)) (additional size : ℕ)
       (reply : Result (Unit {0}) TryReserveError) : Type 0 where
     pub buffer : B
+    pub itself : buffer_at w.place ≡ Some buffer
     pub part : sub (list buffer) (offset_at w.place) (offset_at w.place + length w.items) ≡ w.items
     pub room : places buffer ≡ size_at w.place
     pub answer : MayAnswer buffer additional size reply

@@ -2,11 +2,13 @@
 //!
 //! The buffer stays where it is, beside the count.
 ghost use Rattle.std.specs.Prelude.{◌≡◌, ◌≤◌, ◌+◌, ◌-◌, true, false, length, IfOk, IfErr, OnOk, Ok};
-ghost use Rattle.std.specs.Prelude.{Err, ℕ, IsTrue, ◌↔◌};
+ghost use Rattle.std.specs.Prelude.{Err, Some, ℕ, IsTrue, ◌↔◌};
 ghost use Rattle.std.specs.Mem.{type_size};
 ghost use Rattle.arc_owners.specs.count.Calls.{IsPassOfNone};
 ghost use Rattle.arc_owners.specs.memory.SoleBoxes.{sole_in, sole_value};
 ghost use Rattle.arc_block.specs.Block.{buffer, buffer_info};
+ghost use Rattle.arc_block.specs.Given.{given_as};
+ghost use Rattle.arc_block.specs.Table.{bare};
 ghost use Rattle.arc_block.specs.Contents.{held_in};
 ghost use Rattle.arc_sort_writers.specs.Growth.{AsksForRoom};
 ghost use Rattle.arc_parts.specs.declared.room.Room.TheVariants.{Front, Growth, Own};
@@ -50,10 +52,11 @@ impl<S: Slice, B: BufferMut<S::Item> + Drop, M: Drop, A: Allocator + Copy, H: Ma
     for SoleBuffer<S, B, M, A, H> {
     ghost use Rattle.arc_owners.specs.memory.SoleBoxes.{sole_in, sole_value};
     ghost use Rattle.arc_block.specs.Contents.{held_in};
+    ghost use Rattle.arc_block.specs.Given.{Given};
     ghost use Rattle.arc_parts.specs.Window.{PartsView};
     ghost use Rattle.arc_sort_writers.specs.SortParts.{block_part, IsBufferWithin};
 
-    ghost Value = { PartsView S.Item M };
+    ghost Value = { PartsView S.Item (Given B M) };
 
     ghost view = { λ p. block_part S.DROPS
         (held_in B.list B.places S.DROPS (sole_in p.count) (sole_value p.count)) p.start p.end };
@@ -162,8 +165,8 @@ impl<S: Slice, B: BufferMut<S::Item> + Drop, M: Drop, A: Allocator + Copy, H: Ma
     ) -> Result<Self, (B, Option<M>)>
         requires pass { IsPassOfNone pass.old }
         ensures made { IfOk result (λ parts. MakesBufferWriter H.whole
-            (buffer_info true (B.places buffer) (length (B.list buffer)) metadata)
-            (B.list buffer) parts pass.new) }
+            (buffer_info true (B.places buffer) (length (B.list buffer))
+            (Some (given_as true buffer metadata))) (B.list buffer) parts pass.new) }
         ensures refused { IfErr result (λ back. (back.0 ≡ buffer) × (back.1 ≡ metadata)
             × (pass.new ≡ pass.old)) }
     {
@@ -224,11 +227,11 @@ impl<S: Slice, B: BufferMut<S::Item> + Drop, M: Drop, A: Allocator + Copy, H: Ma
         requires { capacity_of self.old.role ≡ size_at self.old.place - offset_at self.old.place }
         ensures grown { OnOk result ((places : ℕ)
             × (offset_at self.old.place + length self.old.items + additional ≤ places)
-            × (self.new ≡ with_room (Growth places) self.old)) }
+            × (bare self.new ≡ with_room (Growth places) (bare self.old))) }
         ensures items { self.new.items ≡ self.old.items }
         ensures enough { OnOk result
             (length self.new.items + additional ≤ capacity_of self.new.role) }
-        ensures refused { IfErr result (λ e. IsBuffersRefusal e × (self.new ≡ self.old)) }
+        ensures refused { IfErr result (λ e. IsBuffersRefusal e × (bare self.new ≡ bare self.old)) }
         ensures own { AsksForRoom B.list B.places B.grows B.refuses self.old additional
             (size_at self.new.place) result }
     {
@@ -241,7 +244,7 @@ impl<S: Slice, B: BufferMut<S::Item> + Drop, M: Drop, A: Allocator + Copy, H: Ma
     /// Moves the items to the front of the buffer; those that lay before them are then behind them.
     fn to_front(&mut self)
         requires { S.DROPS ≡ false }
-        ensures shifted { self.new ≡ with_room Front self.old }
+        ensures shifted { bare self.new ≡ with_room Front (bare self.old) }
         ensures room { (length self.new.items ≡ length self.old.items)
             × (size_at self.old.place ≤ capacity_of self.new.role) }
     {

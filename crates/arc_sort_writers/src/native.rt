@@ -45,7 +45,7 @@ pub struct SoleNative<S: Slice, M: Drop = (), A: Allocator + Copy = Global, H: M
     // one of several writers who became the only one keeps his places until he asks for room.
     memory: CutMemory<S::Item, A>,
     alloc: A,
-    // The type of metadata, of which a native block has none.
+    // The type of what a caller gives (`CallersBuffer`), of which a native block has nothing.
     marker: PhantomData<M>,
 }
 

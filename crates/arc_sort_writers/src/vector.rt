@@ -58,10 +58,11 @@ type VectorFields<T, B, M, A, H> = (
 impl<S: Slice, B: Buffer<S::Item> + Drop, M: Drop, A: Allocator + Copy, H: Mark> Model
     for SoleVector<S, B, M, A, H> {
     ghost use Rattle.arc_owners.specs.memory.SoleBoxes.{sole_in};
+    ghost use Rattle.arc_block.specs.Given.{Given};
     ghost use Rattle.arc_parts.specs.Window.{PartsView};
     ghost use Rattle.arc_sort_writers.specs.SortParts.{vector_part, IsVectorWithin};
 
-    ghost Value = { PartsView S.Item M };
+    ghost Value = { PartsView S.Item (Given B M) };
 
     ghost view = { λ p. vector_part S.DROPS (sole_in p.count) p.items p.start p.end };
 

@@ -17,7 +17,7 @@ use Rattle.arc_block.specs.Layouts.{LayoutFacts}
 use Rattle.arc_block.specs.Block.{native, vector, buffer, raw}
 use Rattle.arc_block.specs.declared.layout.Move.{Move}
 use Rattle.arc_block.specs.declared.layout.Move.TheVariants as to
-use Rattle.arc_block.specs.Place.{Place, nowhere, static_data, on_block, metadata_at}
+use Rattle.arc_block.specs.Place.{Place, nowhere, static_data, on_block, given_at}
 use Rattle.arc_block.specs.Place.{moved}
 use Rattle.arc_block.specs.Table.{Role, Row, block_of}
 use Rattle.arc_block.specs.Table.{reader, sole_writer, one_writer_of_several, inline, forgotten}
@@ -777,7 +777,7 @@ module _ {T M : Type 0} (setting : Setting T) (short : Shortage) (around : Aroun
   row-good (TakeRaw i) is =
       taken-good (TakeRaw i) _ (reply.Raw row.items) refl
       (raw-whole setting.drops row.items (length row.items) row.place)
-  row-good (Meta i) is = meta-good (Meta i) (metadata_at row.place)
+  row-good (Meta i) is = meta-good (Meta i) (given_at row.place)
   row-good (TakeStatic i) is =
       either (TakeStatic i) (is_on_block row.place) (is_now reply.Refused row)
       (gone (reply.Static row.items)) (same (TakeStatic i) reply.Refused refl refl)

@@ -202,7 +202,7 @@ module _ {T M : Type 0} (setting : Setting T) (t : Table T M) (books : Books T)
   -- a row of the table before says so of the block, as far as that is kept
   abbrev Before : ℕ → BlockInfo M → Type 0
   Before n info = (old : BlockInfo M) × SaysOf t n old × (info.sort ≡ old.sort)
-      × (info.metadata ≡ old.metadata)
+      × (info.given ≡ old.given)
 
   stayed : (n offset : ℕ) (info : BlockInfo M) (w : ℕ) (was : Row T M) → row_at t w ≡ Some was
       → (place : Place (Option ℕ) M) → was.place ≡ place
@@ -362,13 +362,13 @@ module _ {T M : Type 0} (setting : Setting T) (t : Table T M) (books : Books T)
   ]
 
   same-kept : (n : ℕ) (one other : BlockInfo M) → SaysOf t n one → SaysOf new n other
-      → (other.sort ≡ one.sort) × (other.metadata ≡ one.metadata)
+      → (other.sort ≡ one.sort) × (other.given ≡ one.given)
   same-kept n one other a b =
       elim (before-of b.0 b.1 n b.2 other b.4 (moves.rows b.0 b.1 b.3)) [
         | inl old ↦
             (let is : old.0 ≡ one = sym (lawful.agree.same n one old.0 a old.1) in (
               old.2 ∙ ap (λ (i : BlockInfo M). i.sort) is,
-              old.3 ∙ ap (λ (i : BlockInfo M). i.metadata) is,
+              old.3 ∙ ap (λ (i : BlockInfo M). i.given) is,
             ))
         | inr fresh ↦ absurd (omega (arith, fresh, lawful.agree.numbered n one a))
       ]

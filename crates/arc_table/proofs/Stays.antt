@@ -31,7 +31,7 @@ module _ {M : Type 0} where
   StaysAs nowhere (on_block block offset info) = ⊥
   StaysAs static_data (on_block block offset info) = ⊥
   StaysAs (on_block one here old) (on_block block offset info) =
-      (one ≡ block) × (info.sort ≡ old.sort) × (info.metadata ≡ old.metadata)
+      (one ≡ block) × (info.sort ≡ old.sort) × (info.given ≡ old.given)
 
   pub as-on : (whole part : Place (Option ℕ) M) → StaysOn whole part → StaysAs whole part
   as-on whole nowhere stays = tt
@@ -41,7 +41,7 @@ module _ {M : Type 0} where
   as-on (on_block one here old) (on_block block offset info) stays = (
     stays.0,
     ap (λ (b : BlockInfo M). b.sort) (sym stays.1),
-    ap (λ (b : BlockInfo M). b.metadata) (sym stays.1),
+    ap (λ (b : BlockInfo M). b.given) (sym stays.1),
   )
 
   pub as-same : (place : Place (Option ℕ) M) → StaysAs place place

@@ -154,7 +154,7 @@ module _ {T M : Type 0} where
       (r : ListReply T M) (new : Table T M) (before after : Books T) : Type 0 where
     -- a block keeps its vector or buffer, and its metadata, as long as a window stands on it
     pub same : (n : ℕ) (one other : BlockInfo M) → SaysOf old n one → SaysOf new n other
-        → (other.sort ≡ one.sort) × (other.metadata ≡ one.metadata)
+        → (other.sort ≡ one.sort) × (other.given ≡ one.given)
     -- they leave it by a command on the last window there
     pub last : (n : ℕ) → n < old.blocks → (before n).are ≡ in_block
         → ¬ ((after n).are ≡ in_block)

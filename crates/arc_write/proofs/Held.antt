@@ -10,13 +10,15 @@ use Rattle.arc_block.specs.Block.{Sort, native, vector, buffer, raw, buffer_info
 use Rattle.arc_parts.specs.declared.room.Room.{Room}
 use Rattle.arc_parts.specs.declared.room.Room.TheVariants.{Spare, Fresh, Behind, Front}
 use Rattle.arc_parts.specs.declared.room.Room.TheVariants.{Growth, Own, Refused}
+use Rattle.arc_block.specs.Given.{Given}
 use Rattle.arc_block.specs.Layouts.{LayoutFacts, holds_block}
 use Rattle.arc_block.specs.Moves.{IsRefused, counted_move, layout_move}
 use Rattle.arc_block.specs.declared.layout.Move.TheVariants.{Stays, HandedBack}
-use Rattle.arc_block.specs.Place.{Place, nowhere, static_data, on_block, moved}
+use Rattle.arc_block.specs.Place.{Place, nowhere, static_data, on_block, moved, bare_place}
+use Rattle.arc_block.specs.Table.{bare}
 use Rattle.arc_parts.specs.Window.{PartsView, IsBlockHeld}
 use Rattle.arc_block.specs.Place.{at_front}
-use Rattle.arc_parts.specs.Writers.{with_size, with_full, with_room, with_more}
+use Rattle.arc_parts.specs.Writers.{with_size, with_full, with_room, with_more, written_place}
 use Rattle.arc_parts.specs.Writers.{with_capacity, after_advance, after_truncate}
 use Rattle.arc_parts.specs.Writers.{room_for, MakesRoom, Reclaims}
 use Rattle.arc_parts.specs.Writers.{MakesWriterOver, MakesBufferWriter}
@@ -95,15 +97,15 @@ module _ {T M : Type 0} (layout : LayoutFacts) where
   sole-room-held drops one_pass (Refused refusal) old new before after reply made held =
       same made.1 held
 
-  pub sole_reclaimed_held : (room : Room) (old new : PartsView T M) (found : Bool)
+  sole-reclaimed-held : (room : Room) (old new : PartsView T M) (found : Bool)
       → Reclaims room old new found → IsBlockHeld layout old.place → IsBlockHeld layout new.place
-  sole_reclaimed_held Spare old new found r held = same r.1 held
-  sole_reclaimed_held Behind old new found r held = same r.1 held
-  sole_reclaimed_held Front old new found r held = same r.1 (with-room-held Front old held)
-  sole_reclaimed_held (Fresh places) old new found r held = same r.1 held
-  sole_reclaimed_held (Growth places) old new found r held = same r.1 held
-  sole_reclaimed_held (Own additional) old new found r held = same r.1 held
-  sole_reclaimed_held (Refused e) old new found r held = same r.1 held
+  sole-reclaimed-held Spare old new found r held = same r.1 held
+  sole-reclaimed-held Behind old new found r held = same r.1 held
+  sole-reclaimed-held Front old new found r held = same r.1 (with-room-held Front old held)
+  sole-reclaimed-held (Fresh places) old new found r held = same r.1 held
+  sole-reclaimed-held (Growth places) old new found r held = same r.1 held
+  sole-reclaimed-held (Own additional) old new found r held = same r.1 held
+  sole-reclaimed-held (Refused e) old new found r held = same r.1 held
 
   -- one of several, who was alone
   beside-held : {H : Type 0} (one_pass : Bool) (room : Room) (old new : PartsView T M)
@@ -133,7 +135,7 @@ module _ {T M : Type 0} (layout : LayoutFacts) where
   reclaims-if-held : (found : Bool) (room : Room) (old new : PartsView T M) (answer : Bool)
       → ReclaimsIf found room old new answer → HoldsRow old → HoldsRow new
   reclaims-if-held true room old new answer r held =
-      sole_reclaimed_held room old new answer r held
+      sole-reclaimed-held room old new answer r held
   reclaims-if-held false room old new answer r held = same r.1 held
 
   shared-reclaimed-held : {H : Type 0} (asks : Bool) (room : Room) (old new : PartsView T M)
@@ -143,38 +145,15 @@ module _ {T M : Type 0} (layout : LayoutFacts) where
   shared-reclaimed-held true room old new before after answer r held =
       reclaims-if-held r.0 room old new answer r.2 held
   shared-reclaimed-held false room old new before after answer r held =
-      sole_reclaimed_held room old new answer r.1 held
+      sole-reclaimed-held room old new answer r.1 held
 
-  -- a writer of either role, whether room was made or refused
-  pub room_held : {H : Type 0} (several drops one_pass : Bool) (item_size additional : ℕ)
-      (old new : PartsView T M) (before after : Pass H)
-      (reply : Result (Unit {0}) TryReserveError)
-      → AsksRoom several drops one_pass item_size additional old new before after reply
+  -- items more
+  more-held : (xs : List T) (old new : PartsView T M) → new ≡ with_more xs old
       → IsBlockHeld layout old.place → IsBlockHeld layout new.place
-  room_held false drops one_pass item_size additional old new before after reply made held =
-      sole-room-held drops one_pass (room_for drops item_size old additional)
-      old new before after reply made held
-  room_held true drops one_pass item_size additional old new before after reply made held =
-      shared-room-held (asks_alone old additional) one_pass
-      (room_for false item_size old additional) old new before after reply made held
-
-  -- and whether there was room without memory
-  pub reclaimed_held : {H : Type 0} (several drops : Bool) (item_size additional : ℕ)
-      (old new : PartsView T M) (before after : Pass H) (found : Bool)
-      → ReclaimsRoom several drops item_size additional old new before after found
-      → IsBlockHeld layout old.place → IsBlockHeld layout new.place
-  reclaimed_held false drops item_size additional old new before after found r held =
-      sole_reclaimed_held (room_for drops item_size old additional) old new found r.0 held
-  reclaimed_held true drops item_size additional old new before after found r held =
-      shared-reclaimed-held (asks_alone old additional)
-      (room_for false item_size old additional) old new before after found r held
-
-  -- items more, fewer, and further in
-  pub more_held : (xs : List T) (old new : PartsView T M) → new ≡ with_more xs old
-      → IsBlockHeld layout old.place → IsBlockHeld layout new.place
-  more_held xs old new is held =
+  more-held xs old new is held =
       same is (full-held layout (length old.items) (length xs) old.place held)
 
+  -- fewer items, and further in
   pub advanced_held : (n : ℕ) (old new : PartsView T M) → new ≡ after_advance n old
       → IsBlockHeld layout old.place → IsBlockHeld layout new.place
   advanced_held n old new is held = same is (moved-held layout n old.place held)
@@ -192,45 +171,6 @@ module _ {T M : Type 0} (layout : LayoutFacts) where
       → IsBlockHeld layout old.place → IsBlockHeld layout new.place
   truncated_held drops n old new is held =
       same is (cut-held drops n old (nat_lt n (length old.items)) held)
-
-  -- whether a list was pushed or refused
-  pub extend_held : {E H : Type 0} (several drops one_pass : Bool) (item_size additional : ℕ)
-      (xs : List T) (old new : PartsView T M) (before after : Pass H)
-      (why : E → TryReserveError) (reply : Result (Unit {0}) E)
-      → OnOk reply (PushesItems several drops one_pass item_size additional xs
-      old new before after)
-      → IfErr reply (λ e. AsksRoom several drops one_pass item_size additional
-      old new before after (Err (why e)))
-      → IsBlockHeld layout old.place → IsBlockHeld layout new.place
-  extend_held false drops one_pass item_size n xs old new before after why (Ok done) pushed
-      refused held =
-      more_held xs pushed.0 new pushed.2
-      (room_held false drops one_pass item_size n old pushed.0 before after (Ok tt) pushed.1 held)
-  extend_held true drops one_pass item_size n xs old new before after why (Ok done) pushed
-      refused held =
-      same pushed.pushed
-      (room_held true drops one_pass item_size n old pushed.between before after (Ok tt)
-      pushed.makes held)
-  extend_held several drops one_pass item_size n xs old new before after why (Err e) pushed
-      refused held =
-      room_held several drops one_pass item_size n old new before after (Err (why e)) refused held
-
-  -- and whether an item was, or handed back
-  pub push_held : {H : Type 0} (several drops one_pass : Bool) (item_size additional : ℕ) (x : T)
-      (old new : PartsView T M) (before after : Pass H)
-      (reply : Result (Unit {0}) (TryReserveError × T))
-      → OnOk reply (PushesItems several drops one_pass item_size additional (x ∷ [])
-      old new before after)
-      → IfErr reply (λ r. (r.1 ≡ x) × AsksRoom several drops one_pass item_size additional
-      old new before after (Err r.0))
-      → IsBlockHeld layout old.place → IsBlockHeld layout new.place
-  push_held several drops one_pass item_size n x old new before after (Ok done) pushed refused
-      held =
-      extend_held several drops one_pass item_size n (x ∷ []) old new before after
-      (λ (r : TryReserveError × T). r.0) (Ok done) pushed tt held
-  push_held several drops one_pass item_size n x old new before after (Err r) pushed refused held =
-      extend_held several drops one_pass item_size n (x ∷ []) old new before after
-      (λ (r : TryReserveError × T). r.0) (Err r) tt refused.1 held
 
   -- a new window, on nothing or on a block of a sort that the layout holds
   over-held : {H : Type 0} (beginning : Beginning) (sort : Sort) (drops one_pass : Bool)
@@ -257,11 +197,115 @@ module _ {T M : Type 0} (layout : LayoutFacts) where
   vector_held drops one_pass items places w before after any made =
       over-held Counted vector drops one_pass items places w before after (λ o. any) made
 
-  pub buffer_held : {H : Type 0} (one_pass : Bool) (places full : ℕ) (metadata : Option M)
+  pub buffer_held : {H : Type 0} (one_pass : Bool) (places full : ℕ) (given : Option M)
       (items : List T) (w : PartsView T M) (p : Pass H) → layout.has_any ≡ true
-      → MakesBufferWriter one_pass (buffer_info true places full metadata) items w p
+      → MakesBufferWriter one_pass (buffer_info true places full given) items w p
       → IsBlockHeld layout w.place
-  buffer_held one_pass places full metadata items w p any made = same made.made any
+  buffer_held one_pass places full given items w p any made = same made.made any
+
+-- The same of rows with what a caller gave, of which room is said without it.
+module _ {T B M : Type 0} (layout : LayoutFacts) where
+  bare-held : (place : Place (Option Owner) (Given B M)) → IsBlockHeld layout place
+      → IsBlockHeld layout (bare_place place)
+  bare-held nowhere held = held
+  bare-held static_data held = held
+  bare-held (on_block owner offset info) held = held
+
+  held-back : (place : Place (Option Owner) (Given B M)) → IsBlockHeld layout (bare_place place)
+      → IsBlockHeld layout place
+  held-back nowhere held = held
+  held-back static_data held = held
+  held-back (on_block owner offset info) held = held
+
+  -- other items in their places
+  pub written_held : (with_part : B → ℕ → List T → B)
+      (place : Place (Option Owner) (Given B M)) (items : List T) → IsBlockHeld layout place
+      → IsBlockHeld layout (written_place with_part place items)
+  written_held with_part nowhere items held = held
+  written_held with_part static_data items held = held
+  written_held with_part (on_block owner offset info) items held = held
+
+  pub sole_reclaimed_held : (room : Room) (old new : PartsView T (Given B M)) (found : Bool)
+      → Reclaims room (bare old) (bare new) found
+      → IsBlockHeld layout old.place → IsBlockHeld layout new.place
+  sole_reclaimed_held room old new found r held =
+      held-back new.place (sole-reclaimed-held layout room (bare old) (bare new) found r
+      (bare-held old.place held))
+
+  -- a writer of either role, whether room was made or refused
+  pub room_held : {H : Type 0} (several drops one_pass : Bool) (item_size additional : ℕ)
+      (old new : PartsView T (Given B M)) (before after : Pass H)
+      (reply : Result (Unit {0}) TryReserveError)
+      → AsksRoom several drops one_pass item_size additional old new before after reply
+      → IsBlockHeld layout old.place → IsBlockHeld layout new.place
+  room_held false drops one_pass item_size additional old new before after reply made held =
+      held-back new.place (sole-room-held layout drops one_pass
+      (room_for drops item_size (bare old) additional) (bare old) (bare new) before after reply
+      made (bare-held old.place held))
+  room_held true drops one_pass item_size additional old new before after reply made held =
+      held-back new.place (shared-room-held layout (asks_alone (bare old) additional) one_pass
+      (room_for false item_size (bare old) additional) (bare old) (bare new) before after reply
+      made (bare-held old.place held))
+
+  -- and whether there was room without memory
+  pub reclaimed_held : {H : Type 0} (several drops : Bool) (item_size additional : ℕ)
+      (old new : PartsView T (Given B M)) (before after : Pass H) (found : Bool)
+      → ReclaimsRoom several drops item_size additional old new before after found
+      → IsBlockHeld layout old.place → IsBlockHeld layout new.place
+  reclaimed_held false drops item_size additional old new before after found r held =
+      sole_reclaimed_held (room_for drops item_size (bare old) additional) old new found r.0 held
+  reclaimed_held true drops item_size additional old new before after found r held =
+      held-back new.place (shared-reclaimed-held layout (asks_alone (bare old) additional)
+      (room_for false item_size (bare old) additional) (bare old) (bare new) before after found r
+      (bare-held old.place held))
+
+  -- items more
+  pub more_held : (xs : List T) (old new : PartsView T (Given B M))
+      → bare new ≡ with_more xs (bare old)
+      → IsBlockHeld layout old.place → IsBlockHeld layout new.place
+  more_held xs old new is held =
+      held-back new.place (more-held layout xs (bare old) (bare new) is
+      (bare-held old.place held))
+
+  -- whether a list was pushed or refused
+  pub extend_held : {E H : Type 0} (several drops one_pass : Bool) (item_size additional : ℕ)
+      (xs : List T) (old new : PartsView T (Given B M)) (before after : Pass H)
+      (why : E → TryReserveError) (reply : Result (Unit {0}) E)
+      → OnOk reply (PushesItems several drops one_pass item_size additional xs
+      old new before after)
+      → IfErr reply (λ e. AsksRoom several drops one_pass item_size additional
+      old new before after (Err (why e)))
+      → IsBlockHeld layout old.place → IsBlockHeld layout new.place
+  extend_held false drops one_pass item_size n xs old new before after why (Ok done) pushed
+      refused held =
+      held-back new.place (more-held layout xs pushed.0 (bare new) pushed.2
+      (sole-room-held layout drops one_pass (room_for drops item_size (bare old) n) (bare old)
+      pushed.0 before after (Ok tt) pushed.1 (bare-held old.place held)))
+  extend_held true drops one_pass item_size n xs old new before after why (Ok done) pushed
+      refused held =
+      held-back new.place (same layout pushed.pushed (shared-room-held layout
+      (asks_alone (bare old) n) one_pass (room_for false item_size (bare old) n) (bare old)
+      pushed.between before after (Ok tt) pushed.makes (bare-held old.place held)))
+  extend_held several drops one_pass item_size n xs old new before after why (Err e) pushed
+      refused held =
+      room_held several drops one_pass item_size n old new before after (Err (why e)) refused held
+
+  -- and whether an item was, or handed back
+  pub push_held : {H : Type 0} (several drops one_pass : Bool) (item_size additional : ℕ) (x : T)
+      (old new : PartsView T (Given B M)) (before after : Pass H)
+      (reply : Result (Unit {0}) (TryReserveError × T))
+      → OnOk reply (PushesItems several drops one_pass item_size additional (x ∷ [])
+      old new before after)
+      → IfErr reply (λ r. (r.1 ≡ x) × AsksRoom several drops one_pass item_size additional
+      old new before after (Err r.0))
+      → IsBlockHeld layout old.place → IsBlockHeld layout new.place
+  push_held several drops one_pass item_size n x old new before after (Ok done) pushed refused
+      held =
+      extend_held several drops one_pass item_size n (x ∷ []) old new before after
+      (λ (r : TryReserveError × T). r.0) (Ok done) pushed tt held
+  push_held several drops one_pass item_size n x old new before after (Err r) pushed refused held =
+      extend_held several drops one_pass item_size n (x ∷ []) old new before after
+      (λ (r : TryReserveError × T). r.0) (Err r) tt refused.1 held
 
 -- a block that may be written under a layout stays there
 pub may-stays : (layout : LayoutFacts) (sort : Sort) → MayWrite layout.has_any sort

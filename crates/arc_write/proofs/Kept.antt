@@ -2,7 +2,10 @@
 use Rattle.std.proofs.Common.{◌≡◌, ℕ, ◌≤◌, List, [], ◌∷◌, ◌++◌, length, take, drop, refl, sym, ap}
 use Rattle.std.proofs.Common.{◌∙◌, subst, Option, Some, None}
 use Rattle.arc_owners.specs.count.Calls.{Owner}
+use Rattle.arc_block.specs.Given.{Given}
 use Rattle.arc_block.specs.Place.{Place, at_owner, moved, nowhere, static_data, on_block}
+use Rattle.arc_block.specs.Place.{bare_place}
+use Rattle.arc_block.specs.Table.{bare}
 use Rattle.arc_parts.specs.Shared.{IsOneBlock}
 use Rattle.arc_parts.specs.Window.{PartsView}
 use Rattle.arc_parts.specs.Writers.{after_advance, with_full, with_more}
@@ -64,12 +67,27 @@ module _ {M : Type 0} (none : Type 0) (some : Owner → Type 0) where
   owner_with len more (on_block None offset info) = (λ it. it, λ it. it)
   owner_with len more (on_block (Some owner) offset info) = (λ it. it, λ it. it)
 
-  module _ {T : Type 0} (items : List T) (old new : PartsView T M)
-      (more : new ≡ with_more items old) where
+module _ {B M : Type 0} (none : Type 0) (some : Owner → Type 0) where
+  owner_bare : (place : Place (Option Owner) (Given B M))
+      → (at_owner place none some → at_owner (bare_place place) none some)
+      × (at_owner (bare_place place) none some → at_owner place none some)
+  owner_bare nowhere = (λ it. it, λ it. it)
+  owner_bare static_data = (λ it. it, λ it. it)
+  owner_bare (on_block None offset info) = (λ it. it, λ it. it)
+  owner_bare (on_block (Some owner) offset info) = (λ it. it, λ it. it)
+
+  module _ {T : Type 0} (items : List T) (old new : PartsView T (Given B M))
+      (more : bare new ≡ with_more items (bare old)) where
     pub owner_after_write : at_owner old.place none some → at_owner new.place none some
-    owner_after_write it = subst (λ (w : PartsView T M). at_owner w.place none some) (sym more)
-        ((owner_with (length old.items) (length items) old.place).0 it)
+    owner_after_write it =
+        (owner_bare new.place).1
+        (subst (λ (w : PartsView T M). at_owner w.place none some) (sym more)
+        ((owner_with none some (length old.items) (length items) (bare_place old.place)).0
+        ((owner_bare old.place).0 it)))
 
     pub owner_before_write : at_owner new.place none some → at_owner old.place none some
-    owner_before_write it = (owner_with (length old.items) (length items) old.place).1
-        (subst (λ (w : PartsView T M). at_owner w.place none some) more it)
+    owner_before_write it =
+        (owner_bare old.place).1
+        ((owner_with none some (length old.items) (length items) (bare_place old.place)).1
+        (subst (λ (w : PartsView T M). at_owner w.place none some) more
+        ((owner_bare new.place).0 it)))

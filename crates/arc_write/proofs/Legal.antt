@@ -15,7 +15,9 @@ use Rattle.arc_parts.specs.declared.room.Room.TheVariants.{Spare, Fresh, Behind,
 use Rattle.arc_parts.specs.declared.room.Room.TheVariants.{Growth, Own, Refused}
 use Rattle.arc_owners.specs.count.Calls.{Owner}
 use Rattle.arc_buffer.specs.Slice.{sub, IsEdge, IsRange}
+use Rattle.arc_block.specs.Given.{Given}
 use Rattle.arc_block.specs.Place.{Place, nowhere, static_data, on_block}
+use Rattle.arc_block.specs.Table.{bare}
 use Rattle.arc_parts.specs.Window.{PartsView}
 use Rattle.arc_parts.specs.Shared.{MakesRoomBeside, MakesRoomIf, MakesSharedRoom}
 use Rattle.arc_parts.specs.Shared.{as_unique, asks_alone}
@@ -112,18 +114,6 @@ module _ {T M : Type 0} (legal : List T → Type 0) where
   shared-refused false one_pass room old new before after e made =
       beside-items one_pass room (as_unique old) new before after e made
 
-  -- and those of a writer of either role
-  pub refused_items : {H : Type 0} → (several drops one_pass : Bool) (item_size additional : ℕ)
-      (old new : PartsView T M) (before after : Pass H) (e : TryReserveError)
-      → AsksRoom several drops one_pass item_size additional old new before after (Err e)
-      → new.items ≡ old.items
-  refused_items false drops one_pass item_size additional old new before after e r =
-      sole-refused drops one_pass (room_for drops item_size old additional)
-      old new before after e r
-  refused_items true drops one_pass item_size additional old new before after e r =
-      shared-refused (asks_alone old additional) one_pass
-      (room_for false item_size old additional) old new before after e r
-
   -- room that is had without memory keeps a list legal
   pub reclaimed_legal : (room : Room) (old new : PartsView T M) (found : Bool)
       → Reclaims room old new found → ∥ legal old.items ∥₁
@@ -188,9 +178,23 @@ module _ {T M : Type 0} (legal : List T → Type 0) where
   sole_legal has_any drops w v before after is asked l =
       sole-at-legal has_any drops w.items w.place v before after is asked l
 
+module _ {T B M : Type 0} (legal : List T → Type 0) where
+  -- where a writer of either role is refused room, his items stay
+  pub refused_items : {H : Type 0} → (several drops one_pass : Bool) (item_size additional : ℕ)
+      (old new : PartsView T (Given B M)) (before after : Pass H) (e : TryReserveError)
+      → AsksRoom several drops one_pass item_size additional old new before after (Err e)
+      → new.items ≡ old.items
+  refused_items false drops one_pass item_size additional old new before after e r =
+      sole-refused legal drops one_pass (room_for drops item_size (bare old) additional)
+      (bare old) (bare new) before after e r
+  refused_items true drops one_pass item_size additional old new before after e r =
+      shared-refused legal (asks_alone (bare old) additional) one_pass
+      (room_for false item_size (bare old) additional) (bare old) (bare new) before after e r
+
   -- whether a list was pushed or refused, what is there is legal
   pub extend_legal : {E H : Type 0} → (several drops one_pass : Bool) (item_size additional : ℕ)
-      (xs : List T) (old new : PartsView T M) (before after : Pass H) (why : E → TryReserveError)
+      (xs : List T) (old new : PartsView T (Given B M)) (before after : Pass H)
+      (why : E → TryReserveError)
       → ((ys : List T) → legal ys → legal (ys ++ xs)) → (reply : Result (Unit {0}) E)
       → OnOk reply (new.items ≡ old.items ++ xs)
       → IfErr reply (λ e. AsksRoom several drops one_pass item_size additional
@@ -206,7 +210,7 @@ module _ {T M : Type 0} (legal : List T → Type 0) where
 
   -- and whether an item was, or handed back
   pub push_legal : {H : Type 0} → (several drops one_pass : Bool) (item_size additional : ℕ) (x : T)
-      (old new : PartsView T M) (before after : Pass H)
+      (old new : PartsView T (Given B M)) (before after : Pass H)
       → ((ys : List T) → legal ys → legal (ys ++ x ∷ []))
       → (reply : Result (Unit {0}) (TryReserveError × T))
       → OnOk reply (new.items ≡ old.items ++ x ∷ [])

@@ -1,15 +1,19 @@
 -- What fits in a window's places is done, and one of several writers stands where he stood.
 use Rattle.std.proofs.Common.{◌≡◌, ◌≤◌, ◌+◌, ◌-◌, ℕ, Bool, true, false, List, [], ◌∷◌, length, refl}
-use Rattle.std.proofs.Common.{ap, ◌∙◌, subst, arith, if◌then◌else◌}
+use Rattle.std.proofs.Common.{ap, ◌∙◌, subst, arith, if◌then◌else◌, None}
 use Rattle.std.specs.Prelude.{nat_lt, not, ◌&&◌, ◌==◌, Result, Ok, Err, is_ok, OnOk, IfErr}
 use Rattle.std.proofs.lemmas.Bool.{le-ltb, false≢true}
 use Rattle.arc_owners.specs.declared.count.tokens.Pass.{Pass}
 use Rattle.arc_owners.specs.declared.error.TryReserveError.{TryReserveError}
+use Rattle.arc_block.specs.Given.{Given}
+use Rattle.arc_block.specs.Place.{given_at}
+use Rattle.arc_block.specs.Table.{bare}
 use Rattle.arc_parts.specs.declared.room.Room.TheVariants.{Spare}
 use Rattle.arc_parts.specs.Shared.{MakesSharedRoom, asks_alone, as_unique, is_on_block}
 use Rattle.arc_parts.specs.Window.{PartsView}
 use Rattle.arc_parts.specs.Writers.{MakesRoom, capacity_of, room_at, room_for}
 use Rattle.arc_writer_parts.specs.Roles.{AsksRoom, PushesItems}
+use Rattle.arc_writer_parts.proofs.Bare.{place_back}
 use Rattle.arc_write.specs.Within.{StandsIf, StaysWithin}
 
 module _ {T M : Type 0} (additional : ℕ) (old : PartsView T M)
@@ -26,38 +30,66 @@ module _ {T M : Type 0} (additional : ℕ) (old : PartsView T M)
   unasked : asks_alone old additional ≡ false
   unasked = ap (λ b. b && is_on_block old.place) enough
 
-  module _ {H : Type 0} (drops one_pass : Bool) (item_size : ℕ) (new : PartsView T M)
+  module _ {H : Type 0} (one_pass : Bool) (item_size : ℕ) (new : PartsView T M)
       (before after : Pass H) (reply : Result (Unit {0}) TryReserveError) where
-    had : (several : Bool)
-        → AsksRoom several drops one_pass item_size additional old new before after reply
-        → (is_ok reply ≡ true) × StandsIf several old new
-    had false made =
+    had-sole : (drops : Bool) → MakesRoom drops one_pass (room_for drops item_size old additional)
+        old new before after reply → is_ok reply ≡ true
+    had-sole drops made =
         let here = subst (λ room. MakesRoom drops one_pass room old new before after reply)
         (spare drops item_size) made in
-        (ap is_ok here.0, tt)
-    had true made =
+        ap is_ok here.0
+
+    had-several : MakesSharedRoom (asks_alone old additional) one_pass
+        (room_for false item_size old additional) old new before after reply
+        → (is_ok reply ≡ true) × (new.place ≡ old.place)
+    had-several made =
         let here = subst (λ room. MakesSharedRoom false one_pass room old new before after reply)
         (spare false item_size) (subst (λ asks. MakesSharedRoom asks one_pass
         (room_for false item_size old additional) old new before after reply) unasked made) in
         (ap is_ok here.makes.0, ap (λ w. w.place) here.shared ∙ ap (λ w. w.place) here.makes.1)
 
-module _ {T M H : Type 0} (several drops one_pass : Bool) (item_size additional : ℕ)
-    (old new : PartsView T M) (before after : Pass H) where
+-- where nothing was given of a writer who is one of several
+module _ {T B M H : Type 0} (drops one_pass : Bool) (item_size additional : ℕ)
+    (old new : PartsView T (Given B M)) (before after : Pass H) where
+  had : (several : Bool) → (several ≡ true → given_at old.place ≡ None)
+      → (several ≡ true → given_at new.place ≡ None)
+      → (reply : Result (Unit {0}) TryReserveError)
+      → length old.items + additional ≤ capacity_of old.role
+      → AsksRoom several drops one_pass item_size additional old new before after reply
+      → (is_ok reply ≡ true) × StandsIf several old new
+  had false was is reply fits made = (
+    had-sole additional (bare old) fits one_pass item_size (bare new) before after reply drops
+        made,
+    tt,
+  )
+  had true was is reply fits made =
+      let here = had-several additional (bare old) fits one_pass item_size (bare new) before after
+      reply made in
+      (here.0, place_back old.place new.place (was refl) (is refl) here.1)
+
+  -- one of several writers stands where he stood when he had room
+  stands : (several : Bool) → (several ≡ true → given_at old.place ≡ None)
+      → (several ≡ true → given_at new.place ≡ None) → (xs : List T)
+      → length old.items + additional ≤ capacity_of old.role
+      → PushesItems several drops one_pass item_size additional xs old new before after
+      → StandsIf several old new
+  stands false was is xs fits pushed = tt
+  stands true was is xs fits pushed =
+      let here = had-several additional (bare old) fits one_pass item_size pushed.between before
+      after (Ok tt) pushed.makes in
+      place_back old.place new.place (was refl) (is refl)
+      (ap (λ (w : PartsView T M). w.place) pushed.pushed ∙ here.1)
+
+module _ {T B M H : Type 0} (several drops one_pass : Bool) (item_size additional : ℕ)
+    (old new : PartsView T (Given B M)) (before after : Pass H)
+    (was : several ≡ true → given_at old.place ≡ None)
+    (is : several ≡ true → given_at new.place ≡ None) where
   -- room
   pub room_within : (reply : Result (Unit {0}) TryReserveError)
       → AsksRoom several drops one_pass item_size additional old new before after reply
       → StaysWithin several additional old new (is_ok reply)
   room_within reply made = λ fits.
-      had additional old fits drops one_pass item_size new before after reply several made
-
-  -- one of several writers stands where he stood when he had room
-  stands : (s : Bool) (xs : List T) → length old.items + additional ≤ capacity_of old.role
-      → PushesItems s drops one_pass item_size additional xs old new before after
-      → StandsIf s old new
-  stands false xs fits pushed = tt
-  stands true xs fits pushed = ap (λ w. w.place) pushed.pushed
-      ∙ (had additional old fits drops one_pass item_size pushed.between before after (Ok tt) true
-      pushed.makes).1
+      had drops one_pass item_size additional old new before after several was is reply fits made
 
   -- a list that was pushed or refused
   pub extend_within : {E : Type 0} (xs : List T) (why : E → TryReserveError)
@@ -67,8 +99,10 @@ module _ {T M H : Type 0} (several drops one_pass : Bool) (item_size additional 
       → IfErr reply (λ e. AsksRoom several drops one_pass item_size additional
       old new before after (Err (why e)))
       → StaysWithin several additional old new (is_ok reply)
-  extend_within xs why (Ok done) pushed refused = λ fits.
-      (refl, stands several xs fits pushed)
+  extend_within xs why (Ok done) pushed refused = λ fits. (
+    refl,
+    stands drops one_pass item_size additional old new before after several was is xs fits pushed,
+  )
   extend_within xs why (Err e) pushed refused = λ fits.
       absurd (false≢true (room_within (Err (why e)) refused fits).0)
 

@@ -3,6 +3,7 @@ use Rattle.std.specs.Prelude.{◌≡◌, ℕ, Bool, List, [], ◌∷◌, Result,
 use Rattle.arc_owners.specs.declared.error.TryReserveError.{TryReserveError}
 use Rattle.arc_owners.specs.count.Invariant.{BlockId, Line}
 use Rattle.arc_sort_writers.specs.Growth.{AsksForRoom, IfAsked}
+use Rattle.arc_block.specs.Given.{Given}
 use Rattle.arc_parts.specs.Window.{PartsView}
 use Rattle.arc_parts.specs.Writers.{room_for}
 use Rattle.arc_writer_parts.specs.Roles.{AsksRoom, PushesItems}
@@ -21,22 +22,23 @@ module _ {T M B : Type 0} (H : Type 0) (real : BlockId → ℕ → List Line →
     (several drops one_pass : Bool) (item_size : ℕ) (list : B → List T) (places : B → ℕ)
     (grows : B → ℕ → ℕ → Type 0) (refuses : B → ℕ → TryReserveError → Type 0) where
   -- a caller's buffer, where one was asked for a place more, answered this
-  abbrev AsksForOne : (old new : PartsView T M) → Result (Unit {0}) TryReserveError → Type 0
+  abbrev AsksForOne : (old new : PartsView T (Given B M)) → Result (Unit {0}) TryReserveError
+      → Type 0
   AsksForOne old new reply = IfAsked (room_for drops item_size old 1) (λ additional.
       AsksForRoom list places grows refuses old additional (size_at new.place) reply)
 
   -- one item was pushed, with a new pass of the window's block
-  pub record PushesOne (x : T) (old new : PartsView T M) : Type 0 where
+  pub record PushesOne (x : T) (old new : PartsView T (Given B M)) : Type 0 where
     pub pushed : WithNewPass {H = H} real old.place (λ first last.
         PushesItems several drops one_pass item_size 1 (x ∷ []) old new first last)
     pub own : AsksForOne old new (Ok tt)
 
   -- the items were pushed one by one, in their order, each with a new pass
-  abbrev pub PushesEach : List T → (old new : PartsView T M) → Type 0
+  abbrev pub PushesEach : List T → (old new : PartsView T (Given B M)) → Type 0
   PushesEach xs old new = EachOf PushesOne xs old new
 
   -- room for one item more was refused, with a new pass of the window's block
-  pub record RefusesOne (e : TryReserveError) (old new : PartsView T M) : Type 0 where
+  pub record RefusesOne (e : TryReserveError) (old new : PartsView T (Given B M)) : Type 0 where
     pub refused : WithNewPass {H = H} real old.place (λ first last.
         AsksRoom several drops one_pass item_size 1 old new first last (Err e))
     pub own : AsksForOne old new (Err e)

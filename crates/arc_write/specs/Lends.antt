@@ -6,9 +6,10 @@ use Rattle.arc_owners.specs.declared.mark.Mark as mark
 use Rattle.arc_buffer.specs.declared.buffer.Buffer as buffer
 use Rattle.arc_buffer.specs.declared.buffer.BufferMut as buffer_mut
 use Rattle.arc_buffer.specs.declared.kinds.Slice as kind
+use Rattle.arc_block.specs.Given.{Given}
 use Rattle.arc_block.specs.declared.layout.Layout as layout
 use Rattle.arc_parts.specs.Window.{PartsView}
-use Rattle.arc_parts.specs.Writers.{with_items}
+use Rattle.arc_parts.specs.Writers.{with_written}
 use Rattle.arc_writer_parts.specs.declared.role.WriterParts as writer_parts
 use Rattle.arc_write.specs.contracts.slice_mut.WriteWindow.{the_row}
 
@@ -19,9 +20,9 @@ module _ (S L R B M A H Item Error Parts : RattleType)
     (m : buffer_mut.Ghosts B.Denot Item.Denot) (b : buffer.Ghosts B.Denot Item.Denot)
     (a : allocator.Ghosts A.Denot)
     (h : mark.Ghosts H.Denot)
-    (window : MutBor (PartsView Item.Denot M.Denot)) where
-  -- once the borrow r ends, the items are those that r shows last
+    (window : MutBor (PartsView Item.Denot (Given B.Denot M.Denot))) where
+  -- once the borrow r ends, the items are those that r shows last, in a caller's buffer too
   abbrev pub lends_items : MutBor (List Item.Denot) → Fml
   lends_items r =
       Lends (the_row S L R B M A H Item Error Parts s l p m b a h) (Array Item 0)
-      window r (with_items window.now)
+      window r (with_written m.with_part window.now)

@@ -1,7 +1,8 @@
 -- What is written into the places that a window has already.
 use Rattle.std.specs.Prelude.{◌≡◌, ℕ, ◌-◌, ◌+◌, ◌<◌, ◌≤◌, min, Bool, true, false, List, length}
 use Rattle.std.specs.Prelude.{take, Result, MatchResult}
-use Rattle.arc_block.specs.Table.{RowOf}
+use Rattle.arc_block.specs.Given.{Given}
+use Rattle.arc_block.specs.Table.{RowOf, bare}
 use Rattle.arc_parts.specs.Writers.{capacity_of, with_more}
 
 module _ {N T M : Type 0} where
@@ -17,13 +18,6 @@ module _ {N T M : Type 0} where
   abbrev pub after_write : RowOf N T M → List T → RowOf N T M
   after_write w xs = with_more (take (taken w xs) xs) w
 
-  -- Items are written behind a window's own where it has places for all of them. Else they are
-  -- refused, and nothing is changed.
-  abbrev pub PutsWithin : {R E : Type 0} → Result R E → List T → (old new : RowOf N T M) → Type 0
-  PutsWithin reply xs old new = MatchResult reply
-      (λ _. (length xs ≤ spare_places old) × (new ≡ with_more xs old))
-      (λ _. (spare_places old < length xs) × (new ≡ old))
-
   -- One of several writers stands where he stood. Where a sole one stands the room that he has
   -- says, since items more may be more full places of his block.
   abbrev pub StandsIf : (several : Bool) → (old new : RowOf N T M) → Type 0
@@ -36,3 +30,12 @@ module _ {N T M : Type 0} where
   StaysWithin several additional old new done =
       length old.items + additional ≤ capacity_of old.role
       → (done ≡ true) × StandsIf several old new
+
+module _ {N T B M : Type 0} where
+  -- Items are written behind a window's own where it has places for all of them. Else they are
+  -- refused, and nothing is changed.
+  abbrev pub PutsWithin : {R E : Type 0} → Result R E → List T
+      → (old new : RowOf N T (Given B M)) → Type 0
+  PutsWithin reply xs old new = MatchResult reply
+      (λ _. (length xs ≤ spare_places old) × (bare new ≡ with_more xs (bare old)))
+      (λ _. (spare_places old < length xs) × (new ≡ old))

@@ -1,7 +1,7 @@
 //! `WriteWindow`, a window that is written, and `ArcSliceMut`, its name by the writer's role.
-ghost use Rattle.std.specs.Prelude.{◌≡◌, [], false};
+ghost use Rattle.std.specs.Prelude.{◌≡◌, [], None, false, true};
 ghost use Rattle.arc_block.specs.LayoutFacts.{layout_facts};
-ghost use Rattle.arc_block.specs.Place.{IsOnBlock};
+ghost use Rattle.arc_block.specs.Place.{given_at, IsOnBlock};
 ghost use Rattle.arc_parts.specs.Steps.{EndsShownAt};
 ghost use Rattle.arc_parts.specs.Window.{IsBlockHeld};
 ghost use Rattle.arc_parts.specs.Writers.{capacity_of, idle_writer};
@@ -94,10 +94,11 @@ impl<
     A: Allocator + Copy,
     H: Mark,
 > Model for WriteWindow<S, L, R, B, M, A, H> {
+    ghost use Rattle.arc_block.specs.Given.{Given};
     ghost use Rattle.arc_block.specs.LayoutFacts.{layout_facts};
     ghost use Rattle.arc_parts.specs.Window.{PartsView, IsBlockHeld};
 
-    ghost Value = { PartsView S.Item M };
+    ghost Value = { PartsView S.Item (Given B M) };
 
     ghost view = { λ w. R.Parts.seen w.parts };
 
@@ -173,6 +174,13 @@ impl<
         ensures places { (¬ IsOnBlock self.now.place) → capacity_of self.now.role ≡ 0 }
     {
         self.parts.known_idle();
+    }
+
+    /// No caller gave what one of several writers stands on. Does nothing: its contract is the law.
+    pub fn known_ungiven(&self)
+        ensures { R.Parts.several ≡ true → given_at self.now.place ≡ None }
+    {
+        self.parts.known_ungiven();
     }
 
     /// The window stands on nothing, on static data, or on a block that its layout holds, and its

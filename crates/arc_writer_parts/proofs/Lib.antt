@@ -1,4 +1,5 @@
 pub mod Splits
+pub mod Bare
 pub mod Rooms
 pub mod Takes
 pub mod Frozen

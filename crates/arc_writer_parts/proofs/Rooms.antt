@@ -12,18 +12,20 @@ use Rattle.arc_owners.specs.count.Calls.{Owner}
 use Rattle.arc_parts.specs.declared.room.Room.{Room}
 use Rattle.arc_parts.specs.declared.room.Room.TheVariants.{Spare, Fresh, Behind, Front}
 use Rattle.arc_parts.specs.declared.room.Room.TheVariants.{Growth, Own, Refused}
+use Rattle.arc_block.specs.Given.{Given}
 use Rattle.arc_block.specs.Block.{Sort, native, vector, buffer, raw, IsMemory, IsBuffer}
 use Rattle.arc_block.specs.Place.{Place, nowhere, static_data, on_block, IsOnBlock}
 use Rattle.arc_parts.specs.Room.{ends_full, growth, is_too_large, larger_size}
 use Rattle.arc_parts.specs.Shared.{as_shared, as_unique, asks_alone, extended, is_on_block}
 use Rattle.arc_parts.specs.Shared.{AsksAlone}
 use Rattle.arc_parts.specs.Shared.{IsSharedPlace, MakesRoomBeside, MakesSharedRoom, ReclaimsShared}
-use Rattle.arc_block.specs.Table.{sole_writer, one_writer_of_several}
+use Rattle.arc_block.specs.Table.{sole_writer, one_writer_of_several, bare}
 use Rattle.arc_parts.specs.Window.{PartsView, IsOfBuffer}
 use Rattle.arc_parts.specs.Writers.{capacity_of, room_at, room_for, MakesRoom, Reclaims, with_full}
 use Rattle.arc_parts.specs.Writers.{with_more, with_size}
 use Rattle.arc_sort_writers.specs.Growth.{IfAsked}
 use Rattle.arc_block.specs.Place.{at_front}
+use Rattle.arc_writer_parts.proofs.Bare.{bare_asked, bare_on_block}
 
 -- which buffer is asked, by case of where there is room
 either-asked : (b : Bool) (P : ℕ → Type 0) (x y : Room) → IfAsked x P → IfAsked y P
@@ -73,17 +75,6 @@ shared_asked drops size additional w P there =
     either-asked (not (nat_lt (capacity_of w.role - length w.items) additional)) P Spare
     (room_at drops first size w.place (length w.items) additional) tt
     (place-asked drops first size w.place (length w.items) additional P there)
-
--- full places that aren't counted stay as they are when items are pushed
-pub more_extended : {T M : Type 0} (xs : List T) (w v : PartsView T M)
-    → ((len more : ℕ) → with_full len more w.place ≡ w.place) → v ≡ with_more xs w
-    → v ≡ extended xs w
-more_extended xs w v same is =
-    is
-    ∙ (λ i. record w {
-      items = w.items ++ xs;
-      place = same (length w.items) (length xs) i;
-    })
 
 -- whether a place lies on a block, as an answer says it
 pub on_block_answer : {N M : Type 0} (b : Bool) (place : Place N M) → (IsTrue b ↔ IsOnBlock place)
@@ -228,11 +219,11 @@ module _ {T M H : Type 0} where
 
   module _ (one_pass : Bool) (size additional : ℕ) where
     -- who has the places already gets no more
-    pub spare_shared : (w : PartsView T M) (p : Pass H) → as_shared w ≡ w
+    spare-shared : (w : PartsView T M) (p : Pass H) → as_shared w ≡ w
         → additional ≤ capacity_of w.role - length w.items
         → MakesSharedRoom (asks_alone w additional) one_pass (room_for false size w additional) w w
         p p (Ok tt)
-    spare_shared w p several enough =
+    spare-shared w p several enough =
         let none : nat_lt (capacity_of w.role - length w.items) additional ≡ false = le-ltb
         (capacity_of w.role - length w.items) additional enough in
         subst (λ (b : Bool). MakesSharedRoom (b && is_on_block w.place) one_pass
@@ -241,14 +232,14 @@ module _ {T M H : Type 0} where
         (sym none) (record { sole = as_unique w; shared = sym several; makes = (refl, refl, refl) })
 
     -- on no block he has it as the only one
-    pub alone_shared : (w sole new : PartsView T M) (before after : Pass H)
+    alone-shared : (w sole new : PartsView T M) (before after : Pass H)
         (reply : Result (Unit {0}) TryReserveError)
         → capacity_of w.role - length w.items < additional → is_on_block w.place ≡ false
         → sole ≡ as_unique w
         → MakesRoomBeside one_pass (room_for false size sole additional) sole new before after reply
         → MakesSharedRoom (asks_alone w additional) one_pass (room_for false size w additional) w
         new before after reply
-    alone_shared w sole new before after reply short on is made =
+    alone-shared w sole new before after reply short on is made =
         subst (λ (b : Bool). MakesSharedRoom b one_pass (room_for false size w additional) w new
         before after reply)
         (sym (asks-no additional w short on))
@@ -256,7 +247,7 @@ module _ {T M H : Type 0} where
         new before after reply) is made)
 
     -- and on a block, once he was told that he is
-    pub asked_shared : (w sole new : PartsView T M) (before between after : Pass H)
+    asked-shared : (w sole new : PartsView T M) (before between after : Pass H)
         (reply : Result (Unit {0}) TryReserveError)
         → capacity_of w.role - length w.items < additional → is_on_block w.place ≡ true
         → AsksAlone w.place before between true → sole ≡ as_unique w
@@ -264,7 +255,7 @@ module _ {T M H : Type 0} where
         reply
         → MakesSharedRoom (asks_alone w additional) one_pass (room_for false size w additional) w
         new before after reply
-    asked_shared w sole new before between after reply short on asked is made =
+    asked-shared w sole new before between after reply short on asked is made =
         subst (λ (b : Bool). MakesSharedRoom b one_pass (room_for false size w additional) w new
         before after reply)
         (sym (asks-yes additional w short on)) (
@@ -276,22 +267,22 @@ module _ {T M H : Type 0} where
         )
 
     -- beside another owner nothing changes
-    pub refused_shared : (w new : PartsView T M) (before after : Pass H)
+    refused-shared : (w new : PartsView T M) (before after : Pass H)
         → capacity_of w.role - length w.items < additional → is_on_block w.place ≡ true
         → AsksAlone w.place before after false → new ≡ w
         → MakesSharedRoom (asks_alone w additional) one_pass (room_for false size w additional) w
         new before after (Err NotUnique)
-    refused_shared w new before after short on asked same =
+    refused-shared w new before after short on asked same =
         subst (λ (b : Bool). MakesSharedRoom b one_pass (room_for false size w additional) w new
         before after (Err NotUnique))
         (sym (asks-yes additional w short on)) (false, after, asked, (refl, same, refl))
 
   module _ (size additional : ℕ) where
     -- Room without memory. Who has the places already gets no more;
-    pub spare_reclaimed : (w : PartsView T M) (p : Pass H)
+    spare-reclaimed : (w : PartsView T M) (p : Pass H)
         → additional ≤ capacity_of w.role - length w.items
         → ReclaimsShared (asks_alone w additional) (room_for false size w additional) w w p p true
-    spare_reclaimed w p enough =
+    spare-reclaimed w p enough =
         let none : nat_lt (capacity_of w.role - length w.items) additional ≡ false = le-ltb
         (capacity_of w.role - length w.items) additional enough in
         subst (λ (b : Bool). ReclaimsShared (b && is_on_block w.place)
@@ -300,11 +291,11 @@ module _ {T M H : Type 0} where
         (sym none) (refl, (refl, refl))
 
     -- on no block there is none,
-    pub idle_reclaimed : (w : PartsView T M) (p : Pass H)
+    idle-reclaimed : (w : PartsView T M) (p : Pass H)
         → capacity_of w.role - length w.items < additional
         → is_on_block w.place ≡ false
         → ReclaimsShared (asks_alone w additional) (room_for false size w additional) w w p p false
-    idle_reclaimed w p short on =
+    idle-reclaimed w p short on =
         let some : nat_lt (capacity_of w.role - length w.items) additional ≡ true = lt-ltb
         (capacity_of w.role - length w.items) additional short in
         subst (λ (z : Bool × Bool). ReclaimsShared (z.0 && z.1)
@@ -313,18 +304,18 @@ module _ {T M H : Type 0} where
         (λ i. (sym some i, sym on i)) (refl, idle-room size additional w w.place on)
 
     -- beside another owner nothing changes,
-    pub refused_reclaimed : (w new : PartsView T M) (before after : Pass H)
+    refused-reclaimed : (w new : PartsView T M) (before after : Pass H)
         → capacity_of w.role - length w.items < additional → is_on_block w.place ≡ true
         → AsksAlone w.place before after false → new ≡ w
         → ReclaimsShared (asks_alone w additional) (room_for false size w additional) w new before
         after false
-    refused_reclaimed w new before after short on asked same =
+    refused-reclaimed w new before after short on asked same =
         subst (λ (b : Bool). ReclaimsShared b (room_for false size w additional) w new before after
         false)
         (sym (asks-yes additional w short on)) (false, asked, (refl, same))
 
     -- and who is alone has it as the only one
-    pub asked_reclaimed : (drops : Bool) (w unique sole new : PartsView T M) (before after : Pass H)
+    asked-reclaimed : (drops : Bool) (w unique sole new : PartsView T M) (before after : Pass H)
         (found : Bool)
         → drops ≡ false → as_shared w ≡ w
         → capacity_of w.role - length w.items < additional → is_on_block w.place ≡ true
@@ -332,7 +323,7 @@ module _ {T M H : Type 0} where
         → Reclaims (room_for drops size unique additional) unique sole found
         → ReclaimsShared (asks_alone w additional) (room_for false size w additional) w new before
         after found
-    asked_reclaimed drops w unique sole new before after found copied several short on asked same is
+    asked-reclaimed drops w unique sole new before after found copied several short on asked same is
         made =
         let alike = subst (λ (d : Bool). Reclaims (room_for d size unique additional) unique sole
         found) copied made in
@@ -347,3 +338,85 @@ module _ {T M H : Type 0} where
           subst (λ (x : PartsView T M). Reclaims (room_for false size w additional) x
               new found) several beside,
         )
+
+-- The same of rows with what a caller gave, of which room is said without it.
+module _ {T B M H : Type 0} where
+  module _ (one_pass : Bool) (size additional : ℕ) where
+    pub spare_shared : (w : PartsView T (Given B M)) (p : Pass H) → as_shared w ≡ w
+        → additional ≤ capacity_of w.role - length w.items
+        → MakesSharedRoom (asks_alone (bare w) additional) one_pass
+        (room_for false size (bare w) additional) (bare w) (bare w) p p (Ok tt)
+    spare_shared w p several enough =
+        spare-shared one_pass size additional (bare w) p (ap bare several) enough
+
+    pub alone_shared : (w sole new : PartsView T (Given B M)) (before after : Pass H)
+        (reply : Result (Unit {0}) TryReserveError)
+        → capacity_of w.role - length w.items < additional → is_on_block w.place ≡ false
+        → sole ≡ as_unique w
+        → MakesRoomBeside one_pass (room_for false size (bare sole) additional) (bare sole)
+        (bare new) before after reply
+        → MakesSharedRoom (asks_alone (bare w) additional) one_pass
+        (room_for false size (bare w) additional) (bare w) (bare new) before after reply
+    alone_shared w sole new before after reply short on is made =
+        alone-shared one_pass size additional (bare w) (bare sole) (bare new) before after reply
+        short (bare_on_block w.place ∙ on) (ap bare is) made
+
+    pub asked_shared : (w sole new : PartsView T (Given B M)) (before between after : Pass H)
+        (reply : Result (Unit {0}) TryReserveError)
+        → capacity_of w.role - length w.items < additional → is_on_block w.place ≡ true
+        → AsksAlone w.place before between true → sole ≡ as_unique w
+        → MakesRoomBeside one_pass (room_for false size (bare sole) additional) (bare sole)
+        (bare new) between after reply
+        → MakesSharedRoom (asks_alone (bare w) additional) one_pass
+        (room_for false size (bare w) additional) (bare w) (bare new) before after reply
+    asked_shared w sole new before between after reply short on asked is made =
+        asked-shared one_pass size additional (bare w) (bare sole) (bare new) before between after
+        reply short (bare_on_block w.place ∙ on) (bare_asked w.place before between true asked)
+        (ap bare is) made
+
+    pub refused_shared : (w new : PartsView T (Given B M)) (before after : Pass H)
+        → capacity_of w.role - length w.items < additional → is_on_block w.place ≡ true
+        → AsksAlone w.place before after false → new ≡ w
+        → MakesSharedRoom (asks_alone (bare w) additional) one_pass
+        (room_for false size (bare w) additional) (bare w) (bare new) before after (Err NotUnique)
+    refused_shared w new before after short on asked same =
+        refused-shared one_pass size additional (bare w) (bare new) before after short
+        (bare_on_block w.place ∙ on) (bare_asked w.place before after false asked) (ap bare same)
+
+  module _ (size additional : ℕ) where
+    pub spare_reclaimed : (w : PartsView T (Given B M)) (p : Pass H)
+        → additional ≤ capacity_of w.role - length w.items
+        → ReclaimsShared (asks_alone (bare w) additional) (room_for false size (bare w) additional)
+        (bare w) (bare w) p p true
+    spare_reclaimed w p enough = spare-reclaimed size additional (bare w) p enough
+
+    pub idle_reclaimed : (w : PartsView T (Given B M)) (p : Pass H)
+        → capacity_of w.role - length w.items < additional
+        → is_on_block w.place ≡ false
+        → ReclaimsShared (asks_alone (bare w) additional) (room_for false size (bare w) additional)
+        (bare w) (bare w) p p false
+    idle_reclaimed w p short on =
+        idle-reclaimed size additional (bare w) p short (bare_on_block w.place ∙ on)
+
+    pub refused_reclaimed : (w new : PartsView T (Given B M)) (before after : Pass H)
+        → capacity_of w.role - length w.items < additional → is_on_block w.place ≡ true
+        → AsksAlone w.place before after false → new ≡ w
+        → ReclaimsShared (asks_alone (bare w) additional) (room_for false size (bare w) additional)
+        (bare w) (bare new) before after false
+    refused_reclaimed w new before after short on asked same =
+        refused-reclaimed size additional (bare w) (bare new) before after short
+        (bare_on_block w.place ∙ on) (bare_asked w.place before after false asked) (ap bare same)
+
+    pub asked_reclaimed : (drops : Bool) (w unique sole new : PartsView T (Given B M))
+        (before after : Pass H) (found : Bool)
+        → drops ≡ false → as_shared w ≡ w
+        → capacity_of w.role - length w.items < additional → is_on_block w.place ≡ true
+        → AsksAlone w.place before after true → unique ≡ as_unique w → new ≡ as_shared sole
+        → Reclaims (room_for drops size (bare unique) additional) (bare unique) (bare sole) found
+        → ReclaimsShared (asks_alone (bare w) additional) (room_for false size (bare w) additional)
+        (bare w) (bare new) before after found
+    asked_reclaimed drops w unique sole new before after found copied several short on asked same is
+        made =
+        asked-reclaimed size additional drops (bare w) (bare unique) (bare sole) (bare new) before
+        after found copied (ap bare several) short (bare_on_block w.place ∙ on)
+        (bare_asked w.place before after true asked) (ap bare same) (ap bare is) made

@@ -6,16 +6,17 @@ ghost use Rattle.std.specs.Mem.{type_size};
 ghost use Rattle.std.specs.Vec.{vec_capacity};
 ghost use Rattle.arc_owners.specs.count.Calls.{IsNewPass, IsPassOfNone, Learns};
 ghost use Rattle.arc_block.specs.Block.{IsLimited};
+ghost use Rattle.arc_block.specs.Given.{Given};
 ghost use Rattle.arc_block.specs.LayoutFacts.{layout_facts};
 ghost use Rattle.arc_block.specs.Metadata.{IsMetadataAt, IsOnCallers};
 ghost use Rattle.arc_block.specs.Moves.{IsRefused, layout_move};
-ghost use Rattle.arc_block.specs.Place.{at_owner, IsOnBlock, metadata_at, size_at};
-ghost use Rattle.arc_block.specs.Table.{reader};
+ghost use Rattle.arc_block.specs.Place.{at_owner, given_at, IsOnBlock, metadata_at, size_at};
+ghost use Rattle.arc_block.specs.Table.{bare, reader};
 ghost use Rattle.arc_parts.specs.Steps.{Begins, EndsAt, EndsShownAt, IsPassAt, Makes};
 ghost use Rattle.arc_parts.specs.Window.{IsBlockHeld, IsBoxWhole, IsHeld, IsVecPart, PartsView};
 ghost use Rattle.arc_parts.specs.Window.{window_of};
 ghost use Rattle.arc_parts.specs.Writers.{after_advance, after_truncate, as_reader, capacity_of};
-ghost use Rattle.arc_parts.specs.Writers.{Freezes, room_for, with_items, with_more};
+ghost use Rattle.arc_parts.specs.Writers.{Freezes, room_for, with_more, with_written};
 ghost use Rattle.arc_sort_writers.specs.Growth.{AsksForRoom, IfAsked, without_item};
 ghost use Rattle.arc_writer_parts.specs.Roles.{AsksRoom, HasWritersRole, PushesItems, ReclaimsRoom};
 ghost use Rattle.arc_writer_parts.specs.Roles.{RefusesTakingOut, ReleasesAt, ReleasesHintedAt};
@@ -78,7 +79,7 @@ pub trait WriterParts<
     H: Mark,
 >: Sized {
     /// The row that is seen of the parts.
-    ghost seen: { Self → PartsView S.Item M };
+    ghost seen: { Self → PartsView S.Item (Given B M) };
 
     /// Whether its owner is one of several writers, and not the block's only owner.
     ghost several: { Bool };
@@ -98,6 +99,10 @@ pub trait WriterParts<
         ensures items { (¬ IsOnBlock (seen self.now).place) → (seen self.now).items ≡ [] }
         ensures places { (¬ IsOnBlock (seen self.now).place)
             → capacity_of (seen self.now).role ≡ 0 };
+
+    /// No caller gave what one of several writers stands on. Does nothing: its contract is the law.
+    fn known_ungiven(&self)
+        ensures { several ≡ true → given_at (seen self.now).place ≡ None };
 
     /// How many items there are.
     fn len(&self) -> usize
@@ -375,9 +380,10 @@ pub trait WriterParts<
         H: Stepping,
         ensures { at_owner (seen self.now).place (IsPassOfNone result) (λ o. IsNewPass o result) };
 
-    /// With other items the parts have the same place and as many places.
+    /// With other items the parts have the same place and as many places, and a caller's buffer has
+    /// these items there.
     ghost keeps: { (parts : Self) (items : List S.Item)
-        → seen (with_list parts items) ≡ with_items (seen parts) items };
+        → seen (with_list parts items) ≡ with_written B.with_part (seen parts) items };
 }
 
 /// Parts of items that are copied.
@@ -427,5 +433,5 @@ where
     fn extend_reserved(&mut self, items: &[S::Item])
         requires { length (Self.seen self.old).items + length items.now
             ≤ capacity_of (Self.seen self.old).role }
-        ensures { Self.seen self.new ≡ with_more items.now (Self.seen self.old) };
+        ensures { bare (Self.seen self.new) ≡ with_more items.now (bare (Self.seen self.old)) };
 }

@@ -47,10 +47,11 @@ pub struct SharedParts<
 impl<S: Slice, B: BufferMut<S::Item> + Drop, M: Drop, A: Allocator + Copy, H: Mark> Model
     for SharedParts<S, B, M, A, H> {
     ghost use Rattle.std.specs.Prelude.{◌≡◌, false};
+    ghost use Rattle.arc_block.specs.Given.{Given};
     ghost use Rattle.arc_writer_parts.specs.PartsOn.{shared_on, IsSharedOn};
     ghost use Rattle.arc_parts.specs.Window.{PartsView};
 
-    ghost Value = { PartsView S.Item M };
+    ghost Value = { PartsView S.Item (Given B M) };
 
     ghost view = { λ p. shared_on p.on };
 

@@ -11,6 +11,7 @@ ghost use Rattle.std.specs.Prelude.{◌↔◌};
 ghost use Rattle.arc_parts.specs.Window.{IsOfBuffer};
 ghost use Rattle.arc_parts.specs.Shared.{is_vector_at};
 
+use arc_block::block::CallersBuffer;
 use arc_buffer::buffer::BufferMut;
 use arc_buffer::kinds::{Slice, Zeroable};
 use arc_owners::error::AllocError;
@@ -54,15 +55,20 @@ pub struct SoleParts<
     A: Allocator + Copy = Global,
     H: Mark = Open,
 > {
-    on: SoleStorage<SoleNative<S, M, A, H>, SoleVector<S, B, M, A, H>, SoleBuffer<S, B, M, A, H>>,
+    on: SoleStorage<
+        SoleNative<S, CallersBuffer<B, M>, A, H>,
+        SoleVector<S, B, M, A, H>,
+        SoleBuffer<S, B, M, A, H>,
+    >,
 }
 
 impl<S: Slice, B: BufferMut<S::Item> + Drop, M: Drop, A: Allocator + Copy, H: Mark> Model
     for SoleParts<S, B, M, A, H> {
+    ghost use Rattle.arc_block.specs.Given.{Given};
     ghost use Rattle.arc_parts.specs.Window.{PartsView};
     ghost use Rattle.arc_writer_parts.specs.PartsOn.{sole_on};
 
-    ghost Value = { PartsView S.Item M };
+    ghost Value = { PartsView S.Item (Given B M) };
 
     ghost view = { λ p. sole_on p.on };
 }
@@ -90,7 +96,7 @@ impl<S: Slice, B: BufferMut<S::Item> + Drop, M: Drop, A: Allocator + Copy, H: Ma
 > {
     /// Items in native memory, or nothing.
     #[inline(always)]
-    pub(crate) fn in_native(parts: SoleNative<S, M, A, H>) -> Self
+    pub(crate) fn in_native(parts: SoleNative<S, CallersBuffer<B, M>, A, H>) -> Self
         ensures { result ≡ parts }
     {
         SoleParts {

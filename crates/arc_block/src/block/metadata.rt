@@ -22,7 +22,7 @@ impl<
     where
         B: BorrowMetadata,
         ensures some { IfSome result (λ m. IsCallers self.now.facts.sort
-            × IsOwnMetadata B.list B.metadata self.now.items m.now) }
+            × IsOwnMetadata B.list B.metadata self.now.facts.given self.now.items m.now) }
         ensures none { IfNone result (¬ IsCallers self.now.facts.sort) }
     {
         match self.piece.get() {

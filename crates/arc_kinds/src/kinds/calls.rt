@@ -6,6 +6,7 @@ ghost use Rattle.std.specs.Mem.{type_size};
 ghost use Rattle.std.specs.Str.{IsUtf8};
 ghost use Rattle.arc_owners.specs.count.Calls.{IsPassOfNone};
 ghost use Rattle.arc_owners.specs.declared.mark.Whole.{Whole as whole_mark};
+ghost use Rattle.arc_block.specs.Table.{bare};
 ghost use Rattle.arc_parts.specs.Shared.{CanSplit, IsOneBlock, LeavesAt, MakesSharedRoom};
 ghost use Rattle.arc_parts.specs.Shared.{PushesShared, RefusesSplitAt, SplitsWriterOff};
 ghost use Rattle.arc_parts.specs.Shared.{SplitsWriterTo, as_shared, asks_alone, can_join};
@@ -157,11 +158,11 @@ pub trait CallsOf<S: Subsliceable> {
         requires pass { IsPassAt window.old.place pass.old }
         ensures call { is_some result ≡ calls.pushes }
         ensures pushed { IfSome result (λ done. OnOk done (Pushes S.DROPS true
-            (room_for S.DROPS (type_size S.Item.row) window.old 1) (item ∷ [])
-            window.old window.new pass.old pass.new)) }
+            (room_for S.DROPS (type_size S.Item.row) (bare window.old) 1) (item ∷ [])
+            (bare window.old) (bare window.new) pass.old pass.new)) }
         ensures refused { IfSome result (λ done. IfErr done (λ e. MakesRoom S.DROPS true
-            (room_for S.DROPS (type_size S.Item.row) window.old 1)
-            window.old window.new pass.old pass.new (Err e))) }
+            (room_for S.DROPS (type_size S.Item.row) (bare window.old) 1)
+            (bare window.old) (bare window.new) pass.old pass.new (Err e))) }
         ensures none { IfNone result ((window.new ≡ window.old) × (pass.new ≡ pass.old)) };
 
     /// Appends a copy of the items, which are legal, to a sole writer's window, once there is room.
@@ -189,11 +190,11 @@ pub trait CallsOf<S: Subsliceable> {
         requires pass { IsPassAt window.old.place pass.old }
         ensures call { is_some result ≡ calls.extends }
         ensures extended { IfSome result (λ done. OnOk done (Pushes S.DROPS true
-            (room_for S.DROPS (type_size S.Item.row) window.old (length items.now)) items.now
-            window.old window.new pass.old pass.new)) }
+            (room_for S.DROPS (type_size S.Item.row) (bare window.old) (length items.now)) items.now
+            (bare window.old) (bare window.new) pass.old pass.new)) }
         ensures refused { IfSome result (λ done. IfErr done (λ e. MakesRoom S.DROPS true
-            (room_for S.DROPS (type_size S.Item.row) window.old (length items.now))
-            window.old window.new pass.old pass.new (Err e))) }
+            (room_for S.DROPS (type_size S.Item.row) (bare window.old) (length items.now))
+            (bare window.old) (bare window.new) pass.old pass.new (Err e))) }
         ensures none { IfNone result ((window.new ≡ window.old) × (pass.new ≡ pass.old)) };
 
     /// Takes a sole writer's window out of its place, as that of one of several writers. Over a
@@ -361,13 +362,13 @@ pub trait CallsOf<S: Subsliceable> {
         requires pass { IsPassAt window.old.place pass.old }
         ensures call { is_some result ≡ calls.pushes && calls.shares }
         ensures pushed { IfSome result (λ done. OnOk done (PushesShared
-            (asks_alone window.old 1) true
-            (room_for false (type_size S.Item.row) window.old 1) (item ∷ [])
-            window.old window.new pass.old pass.new)) }
+            (asks_alone (bare window.old) 1) true
+            (room_for false (type_size S.Item.row) (bare window.old) 1) (item ∷ [])
+            (bare window.old) (bare window.new) pass.old pass.new)) }
         ensures refused { IfSome result (λ done. IfErr done (λ e. MakesSharedRoom
-            (asks_alone window.old 1) true
-            (room_for false (type_size S.Item.row) window.old 1)
-            window.old window.new pass.old pass.new (Err e))) }
+            (asks_alone (bare window.old) 1) true
+            (room_for false (type_size S.Item.row) (bare window.old) 1)
+            (bare window.old) (bare window.new) pass.old pass.new (Err e))) }
         ensures none { IfNone result ((window.new ≡ window.old) × (pass.new ≡ pass.old)) };
 
     /// Appends a copy of the items, which are legal, to a window of one of several writers, once
@@ -401,13 +402,13 @@ pub trait CallsOf<S: Subsliceable> {
         requires pass { IsPassAt window.old.place pass.old }
         ensures call { is_some result ≡ calls.extends && calls.shares }
         ensures extended { IfSome result (λ done. OnOk done (PushesShared
-            (asks_alone window.old (length items.now)) true
-            (room_for false (type_size S.Item.row) window.old (length items.now)) items.now
-            window.old window.new pass.old pass.new)) }
+            (asks_alone (bare window.old) (length items.now)) true
+            (room_for false (type_size S.Item.row) (bare window.old) (length items.now)) items.now
+            (bare window.old) (bare window.new) pass.old pass.new)) }
         ensures refused { IfSome result (λ done. IfErr done (λ e. MakesSharedRoom
-            (asks_alone window.old (length items.now)) true
-            (room_for false (type_size S.Item.row) window.old (length items.now))
-            window.old window.new pass.old pass.new (Err e))) }
+            (asks_alone (bare window.old) (length items.now)) true
+            (room_for false (type_size S.Item.row) (bare window.old) (length items.now))
+            (bare window.old) (bare window.new) pass.old pass.new (Err e))) }
         ensures none { IfNone result ((window.new ≡ window.old) × (pass.new ≡ pass.old)) };
 }
 

@@ -3,10 +3,13 @@ ghost use Rattle.std.specs.Prelude.{◌≡◌, ◌<◌, ◌↔◌, [], ℕ, Bool
 ghost use Rattle.std.specs.Prelude.{IfErr, IfNone, IfOk, IfSome, IsOk, None, OnErr};
 ghost use Rattle.arc_owners.specs.count.Calls.{IsPassOfNone, Leaves};
 ghost use Rattle.arc_buffer.specs.Slice.{IsEdge, IsRange, edge_answer, range_answer, sub};
+ghost use Rattle.std.specs.declared.alloc.Global.{Global};
+ghost use Rattle.std.specs.declared.vec.Vec.{Vec};
+ghost use Rattle.arc_block.specs.Given.{Given};
 ghost use Rattle.arc_block.specs.Inline.{inline_limit};
 ghost use Rattle.arc_block.specs.Place.{at_owner, moved, nowhere};
 ghost use Rattle.arc_parts.specs.Steps.{Begins, IsPassAt, Refuses, Shares};
-ghost use Rattle.arc_block.specs.Table.{inline};
+ghost use Rattle.arc_block.specs.Table.{bare, inline};
 ghost use Rattle.arc_parts.specs.Window.{PartsView, window_of};
 ghost use Rattle.arc_read.specs.Cuts.{sub_place};
 ghost use Rattle.arc_small.specs.Small.{MakesSmall};
@@ -37,8 +40,9 @@ pub type SmallWindow<S, L, M, A> = SmallArcSlice<<S as TableKind>::Bytes, L, Vec
 
 /// The calls of the small windows of a kind S.
 pub trait SmallOf<S: TableKind, L: Layout, M: Drop, A: Allocator + Copy>: Smalls {
-    /// The row of a small window: the window itself, or nothing where the kind has none.
-    ghost seen: { PartsView ℕ M → PartsView S.Item M };
+    /// The row of a small window, without a caller's buffer, of which it has none; or nothing where
+    /// the kind has no small windows.
+    ghost seen: { PartsView ℕ (Given (Vec ℕ Global) M) → PartsView S.Item M };
 
     /// A small window over a copy of the items, as `SmallArcSlice::try_from_slice_as` makes it, or
     /// `None` where the kind has no small windows. The items are legal.
@@ -264,8 +268,9 @@ impl<
     M: Drop,
     A: Allocator + Copy,
 > SmallOf<S, L, M, A> for HasSmall {
-    ghost seen = { λ window. window };
+    ghost seen = { bare };
 
+    #[tactic(auto, using(crate::proofs::Bare::bare_small, crate::proofs::Bare::owner_bare))]
     fn try_make_as(
         alloc: A,
         items: &[u8],
@@ -293,11 +298,13 @@ impl<
         window.check_at(at)
     }
 
+    #[tactic(auto, using(crate::proofs::Bare::bare_advanced))]
     fn advance(window: &mut SmallArcSlice<S, L, Vec<u8>, M, A, Whole>, by: usize) {
         window.advance(by);
     }
 
     #[inline(always)]
+    #[tactic(auto, using(crate::proofs::Bare::bare_shares, crate::proofs::Bare::bare_refuses, crate::proofs::Bare::pass_back))]
     fn try_clone_as(
         window: &SmallArcSlice<S, L, Vec<u8>, M, A, Whole>,
         rt: &impl Wait,
@@ -307,6 +314,7 @@ impl<
     }
 
     #[inline(always)]
+    #[tactic(auto, using(crate::proofs::Bare::bare_part_shares, crate::proofs::Bare::bare_part_refuses, crate::proofs::Bare::pass_back))]
     fn try_subslice_as(
         window: &SmallArcSlice<S, L, Vec<u8>, M, A, Whole>,
         rt: &impl Wait,
@@ -318,6 +326,7 @@ impl<
     }
 
     #[inline(always)]
+    #[tactic(auto, using(crate::proofs::Bare::owner_bare, crate::proofs::Bare::pass_back))]
     fn release_as(
         window: &mut Option<SmallArcSlice<S, L, Vec<u8>, M, A, Whole>>,
         pass: &mut Pass<Whole>,

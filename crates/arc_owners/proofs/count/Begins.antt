@@ -3,7 +3,7 @@ use Rattle.std.proofs.Common.{inl, inr, ◌≡◌, ℕ, zero, suc, ◌^◌, ◌<
 use Rattle.std.proofs.Common.{List, [], ◌∷◌, ◌++◌, length, get_or, set, refl, sym, ap, ◌∙◌, subst}
 use Rattle.std.proofs.Common.{arith}
 use Rattle.std.proofs.lemmas.Bool.{eqb-true, eqb-false, cases_Bool, false≢true}
-use mathlib.Core.Option.{Option, some}
+use mathlib.Core.Option.{Option, none, some}
 use mathlib.Core.List.{IsPrefix}
 use seplogic.Ra.Ura.{Ura}
 use base.Fraction.{full_share}
@@ -26,7 +26,8 @@ use types.Kit.{‵, raw, ◌⊛◌, some as any, given, later, ◌$◌, ◌∵�
 use types.Kit.{split3, fsplit, fjoin, fpack, keep, pick, learn, show, check, assume, frame, group}
 use types.Kit.{done, use0, use1, use2, use3, rewrite, suffices, settle, updating, await, now}
 use denote.Steps.{nothing}
-use Rattle.arc_owners.specs.history.Histories.{Counted, LivesAlone, IsLegal, is_counted}
+use Rattle.arc_owners.specs.history.Histories.{Beginning, Lone, Counted, LivesAlone, IsLegal}
+use Rattle.arc_owners.specs.history.Histories.{is_counted, is_promoted}
 use Rattle.arc_owners.specs.history.Histories.{live_owners, owners_ever, owners_ended}
 use Rattle.arc_owners.specs.count.LentNotes.{LentNote, no_note}
 use Rattle.arc_owners.specs.count.Invariant.{BlockId, Line, entries_of, told_of, trace_shares}
@@ -36,7 +37,7 @@ use Rattle.arc_owners.specs.count.Invariant.{right, located, lines_order, histor
 use Rattle.arc_owners.specs.count.Invariant.{authority, withheld, places, is_there, told, pool}
 use Rattle.arc_owners.specs.count.Invariant.{stake, how_many, living, State, Fits, contents, behind}
 use Rattle.arc_owners.specs.count.Invariant.{known, right_owns, right_shown, trace_owns, pass_holds}
-use Rattle.arc_owners.specs.count.Invariant.{kept}
+use Rattle.arc_owners.specs.count.Invariant.{kept, placed, cell_holds, counted_as}
 use Rattle.arc_owners.proofs.count.Signs.{signs}
 use Rattle.arc_owners.proofs.count.Operations.{left}
 use Rattle.arc_owners.proofs.count.Places.{pauses, outside}
@@ -77,21 +78,38 @@ first-leased : (l : Lease) (o : ℕ) (k : Lease) → get_or (first_state l).roll
 first-leased l zero k e = ap (λ (x : Bool × Lease). x.1) (sym e)
 first-leased l (suc o) k e = absurd (false≢true (ap (λ (x : Bool × Lease). x.0) e))
 
-first-fits : (t : BlockId) (l : Lease) → 1 ≤ t.most → t.most < 2 ^ 64 → Fits t (first_state l)
+first-fits : (t : BlockId) (l : Lease) → 2 ≤ t.most → t.most < 2 ^ 64 → Fits t (first_state l)
 unfolding live_owners owners_ever owners_ended
-first-fits t l one small = record {
+first-fits t l two small = record {
   legal = legal-nil t.most t.began;
   live = refl;
   ever = refl;
   made = first-made l;
   leased = first-leased l;
-  within = one;
+  within = (let e : 1 ≤ t.most = omega arith in e);
+  least = two;
   small = small;
 }
 
-counted-at-first : is_counted Counted [] ≡ true
-unfolding is_counted
-counted-at-first = refl
+-- where the count lies as a block begins: a lone one has none, that of a counted one is never asked
+abbrev pub first_place : Beginning → Option (ℕ × ℕ)
+first_place Lone = none
+first_place Counted = some (0, 0)
+
+counted-at-first : (began : Beginning) → is_counted began [] ≡ is_there (first_place began)
+unfolding is_counted is_promoted
+counted-at-first Lone = refl
+counted-at-first Counted = refl
+
+-- what the word of a new block has behind it, or its cell
+abbrev pub holds_first : BlockId → Beginning → Fml
+holds_first t Lone = cell_holds t none
+holds_first t Counted = behind t 1
+
+-- what is known of that place, or had of it
+abbrev knows_first : ℕ → Beginning → Fml
+knows_first θ Lone = latest places quarter θ none
+knows_first θ Counted = at_least places θ (some (0, 0))
 
 module _ {M : Type 1} {𝓤 : Ura M} (𝓛 : Logic 𝓤) where
   open 𝓛 use {H, A as At}
@@ -132,14 +150,39 @@ module _ {M : Type 1} {𝓤 : Ura M} (𝓛 : Logic 𝓤) where
       nothing ! $ use1 𝓛 (‵ (stake m)) (id⊢ 𝓤 _) $
       nothing ! $ fpack ! (0 ≡ 0) (λ _. ftrue) refl $ use1 𝓛 (‵ (pool m 1)) (id⊢ 𝓤 _) $ done !)
 
-  abbrev pub Fresh : ℕ → Bool → Bool → BlockId × Lease → Pr
-  Fresh most w lent x = guard 𝓤 ((x.0.most ≡ most) × (x.0.began ≡ Counted) × (x.0.whole ≡ w)
-      × (x.1.is_lent ≡ lent)) (⟦ behind x.0 1 ⟧ ∗ ⟦ right_owns true x.0 0 x.1 [] ⟧
+  splits_first : (θ : ℕ) (began : Beginning) → ⟦ latest places full_share θ (first_place began) ⟧
+      ⊢ ⟦ latest places three_quarters θ (first_place began) ⟧ ∗ ⟦ knows_first θ began ⟧
+  splits_first θ Lone = qed 𝓛 (‵ (latest places full_share θ none) ∷ []) ∵
+      use1 𝓛 (‵ (latest places quarter θ none) ⊛ ‵ (latest places three_quarters θ none))
+      (latest_cut places 𝓛 full_share quarter three_quarters θ none Share.quarters) $ split ! $
+      move ! (1 ∷ 0 ∷ []) $ done !
+  splits_first θ Counted = let x : Option (ℕ × ℕ) = some (0, 0) in
+      qed 𝓛 (‵ (latest places full_share θ x) ∷ []) ∵
+      use1 𝓛 (‵ (latest places full_share θ x) ⊛ ‵ (at_least places θ x))
+      (latest_shows places 𝓛 full_share θ x x (places.same x)) $ split ! $
+      use1 𝓛 (‵ (latest places quarter θ x) ⊛ ‵ (latest places three_quarters θ x))
+      (latest_cut places 𝓛 full_share quarter three_quarters θ x Share.quarters) $
+      split ! $ drop ! $ done !
+
+  holds : (t : BlockId) (began : Beginning) → ⟦ counted_as t quarter 1 ⟧
+      ∗ ⟦ knows_first t.place began ⟧ ⊢ ⟦ holds_first t began ⟧
+  holds t Lone = qed 𝓛 (‵ (counted_as t quarter 1) ∷ ‵ (placed t quarter none) ∷ []) ∵
+      move ! (1 ∷ 0 ∷ []) $ fjoin ! $ done !
+  holds t Counted =
+      qed 𝓛 (‵ (counted_as t quarter 1) ∷ ‵ (at_least places t.place (some (0, 0))) ∷ []) ∵
+      move ! (1 ∷ []) $ fpack ! (ℕ × ℕ) (λ y. at_least places t.place (some y)) (0, 0) $
+      move ! (1 ∷ 0 ∷ []) $ fjoin ! $ done !
+
+  -- a new block with this bank
+  abbrev pub Fresh : ℕ → Beginning → Bool → Bool → ℕ × ℕ → BlockId × Lease → Pr
+  Fresh most began w lent bank x = guard 𝓤 ((x.0.most ≡ most) × (x.0.began ≡ began)
+      × (x.0.whole ≡ w) × (x.1.is_lent ≡ lent) × (x.0.bank ≡ bank.0) × (x.0.receipts ≡ bank.1))
+      (⟦ holds_first x.0 began ⟧ ∗ ⟦ right_owns true x.0 0 x.1 [] ⟧
       ∗ ⟦ trace_owns true x.0 0 false [] ⟧)
 
-  pub begins : (most : ℕ) (w lent : Bool) → 1 ≤ most → most < 2 ^ 64 → emp 𝓤
-      ⊢ H.⇛ (ex 𝓤 (Fresh most w lent))
-  begins most w lent one small = qed 𝓛 [] ∵ updating ! $ lft_new ! tt (λ a.
+  pub begins : (most : ℕ) (began : Beginning) (w lent : Bool) (bank : ℕ × ℕ) → 2 ≤ most
+      → most < 2 ^ 64 → emp 𝓤 ⊢ H.⇛ (ex 𝓤 (Fresh most began w lent bank))
+  begins most began w lent bank two small = qed 𝓛 [] ∵ updating ! $ lft_new ! tt (λ a.
       use1 𝓛 (‵ (rest 64 a 1) ⊛ ‵ (part 64 a)) (cut 64 𝓛 a 0 full_share (omega arith)
       (subst (Counts 64 full_share) (omega arith) (Counts-all 64))) $ split ! $
       use0 𝓛 (later (any (λ (k : ℕ). ‵ (entries_from token k 0 (λ _. tt)))))
@@ -171,15 +214,11 @@ module _ {M : Type 1} {𝓤 : Ura M} (𝓛 : Logic 𝓤) where
       use1 𝓛 (later (‵ (ghost_var coded_ℕ γ 0 quarter 1)
       ⊛ ‵ (ghost_var coded_ℕ γ 0 three_quarters 1)))
       (via 𝓤 _ (cell_parts coded_ℕ 𝓛 γ 0 0 1) (basic 𝓛 _)) $ await ! tt $ split ! $
-      use0 𝓛 (later (any (λ (θ : ℕ). ‵ (latest places full_share θ (some (0, 0))))))
-      (via 𝓤 _ (latest_new places 𝓛 (some (0, 0))) (basic 𝓛 _)) $ await ! tt $ pick ! (λ θ.
-      use1 𝓛 (‵ (latest places full_share θ (some (0, 0))) ⊛ ‵ (at_least places θ (some (0, 0))))
-      (latest_shows places 𝓛 full_share θ (some (0, 0)) (some (0, 0)) (places.same (some (0, 0)))) $
-      split ! $
-      use1 𝓛 (‵ (latest places quarter θ (some (0, 0)))
-      ⊛ ‵ (latest places three_quarters θ (some (0, 0))))
-      (latest_cut places 𝓛 full_share quarter three_quarters θ (some (0, 0)) Share.quarters) $
-      split ! $ drop ! $
+      let x₀ : Option (ℕ × ℕ) = first_place began in
+      use0 𝓛 (later (any (λ (θ : ℕ). ‵ (latest places full_share θ x₀))))
+      (via 𝓤 _ (latest_new places 𝓛 x₀) (basic 𝓛 _)) $ await ! tt $ pick ! (λ θ.
+      use1 𝓛 (‵ (latest places three_quarters θ x₀) ⊛ ‵ (knows_first θ began))
+      (splits_first θ began) $ split ! $
       let t₀ : BlockId = record {
         number = 0;
         history = η;
@@ -187,45 +226,47 @@ module _ {M : Type 1} {𝓤 : Ura M} (𝓛 : Logic 𝓤) where
         passes = π;
         count = γ;
         place = θ;
+        bank = bank.0;
+        receipts = bank.1;
         most = most;
-        began = Counted;
+        began = began;
         whole = w;
       } in let acc : State = first_state l in
-      -- [the place; that it stands; the count's quarter; tally; the seats; the seat; the roll; the
-      -- right; the history; the pool; the stake]
-      nothing ! $ fpack ! (is_counted Counted [] ≡ is_there (some (0, 0)))
-      (λ _. ftrue) counted-at-first $ move ! (1 ∷ 0 ∷ []) $ fjoin ! $
+      -- [the place; what is known of it; the count's quarter; tally; the seats; the seat; the roll;
+      -- the right; the history; the pool; the stake]
+      nothing ! $ fpack ! (is_counted began [] ≡ is_there x₀)
+      (λ _. ftrue) (counted-at-first began) $ move ! (1 ∷ 0 ∷ []) $ fjoin ! $
       fpack ! (Option (ℕ × ℕ)) (λ x. fsep (latest places three_quarters θ x)
-      (told (is_counted Counted [] ≡ is_there x))) (some (0, 0)) $
+      (told (is_counted began [] ≡ is_there x))) x₀ $
       move ! (8 ∷ []) $ use1 𝓛 (‵ (latest lines_order full_share η [])
       ⊛ ‵ (at_least lines_order η [])) (latest_shows lines_order 𝓛 full_share η [] []
       (lines_order.same [])) $ split ! $
       use1 𝓛 (‵ (latest_of 𝓛 t₀ []) ⊛ ‵ (withheld t₀ w [])) (authorized t₀ w []) $ split ! $
-      -- [latest; withheld; reached; located; that it stands; the count's quarter; tally; the seats;
+      -- [latest; withheld; reached; located; what is known of the place; the count's quarter; tally; the seats;
       -- the seat; the roll; the right; the pool; the stake]
       move ! (6 ∷ []) $ use1 𝓛 (‵ (tally t₀ 1)) (tally_in 𝓛 t₀ 1) $
-      -- [tally; latest; withheld; reached; located; that it stands; the count's quarter; the seats;
+      -- [tally; latest; withheld; reached; located; what is known of the place; the count's quarter; the seats;
       -- the seat; the roll; the right; the pool; the stake]
       move ! (1 ∷ 4 ∷ 9 ∷ 7 ∷ 0 ∷ 11 ∷ []) $ group ! 6 $
-      use1 𝓛 (‵ (contents t₀)) (shuts 𝓛 t₀ acc (first-fits t₀ l one small)) $
+      use1 𝓛 (‵ (contents t₀)) (shuts 𝓛 t₀ acc (first-fits t₀ l two small)) $
       use1 𝓛 (later (any (λ (j : ℕ). given (0 ≤ j) (‵ (fnamed j (contents t₀))))))
       (named_past 𝓛 0 (contents t₀)) $ await ! tt $
       pick ! (λ j. learn ! (λ _. let t : BlockId = record t₀ { number = j } in
-      -- [the invariant; withheld; reached; that it stands; the count's quarter; the seat; the
+      -- [the invariant; withheld; reached; what is known of the place; the count's quarter; the seat; the
       -- right; the stake]
       move ! (0 ∷ 2 ∷ []) $ fjoin ! $ use1 𝓛 (‵ (known t [])) (id⊢ 𝓤 _) $
       use1 𝓛 (‵ (known t []) ⊛ ‵ (known t [])) (known_twice 𝓛 t []) $ split ! $
-      -- [known; known; withheld; that it stands; the count's quarter; the seat; the right; the
+      -- [known; known; withheld; what is known of the place; the count's quarter; the seat; the right; the
       -- stake]
-      move ! (3 ∷ []) $ fpack ! (ℕ × ℕ) (λ y. at_least places θ (some y)) (0, 0) $
-      move ! (4 ∷ 0 ∷ []) $ fjoin ! $ use1 𝓛 (‵ (behind t 1)) (id⊢ 𝓤 _) $
+      move ! (4 ∷ 3 ∷ []) $ use2 𝓛 (‵ (holds_first t began)) (holds t began) $
       -- [the word's; known; known; withheld; the seat; the right; the stake]
       move ! (5 ∷ 6 ∷ []) $ fjoin ! $ move ! (2 ∷ 0 ∷ []) $ fjoin ! $
       use1 𝓛 (‵ (right_owns true t 0 l [])) (id⊢ 𝓤 _) $
       -- [the right; the word's; known; withheld; the seat]
       move ! (3 ∷ 4 ∷ []) $ fjoin ! $ move ! (3 ∷ 0 ∷ []) $ fjoin ! $
       use1 𝓛 (‵ (trace_owns true t 0 false [])) (id⊢ 𝓤 _) $
-      now ! $ show ! (Fresh most w lent) (t, l) $ check ! (refl, refl, refl, refl) $
+      now ! $ show ! (Fresh most began w lent bank) (t, l) $
+      check ! (refl, refl, refl, refl, refl, refl) $
       move ! (2 ∷ 1 ∷ 0 ∷ []) $ done !)))))))))
 
   module _ (t : BlockId) where
@@ -235,7 +276,7 @@ module _ {M : Type 1} {𝓤 : Ura M} (𝓛 : Logic 𝓤) where
     abbrev N : Fml
     N = fnamed t.number J
 
-    still : (w : Bool) (seen ls : List Line) → (w ≡ true → seen ≡ ls) → ⟦ withheld t w seen ⟧
+    pub still : (w : Bool) (seen ls : List Line) → (w ≡ true → seen ≡ ls) → ⟦ withheld t w seen ⟧
         ⊢ ⟦ withheld t w ls ⟧
     still true seen ls e = subst (λ (x : List Line). ⟦ withheld t true seen ⟧
         ⊢ ⟦ withheld t true x ⟧) (e refl) (id⊢ 𝓤 _)
@@ -365,6 +406,7 @@ module _ {M : Type 1} {𝓤 : Ura M} (𝓛 : Logic 𝓤) where
           made = more-made a f;
           leased = f.leased;
           within = f.within;
+          least = f.least;
           small = f.small;
         } in
         -- [the pass; latest; seats; located; roll; tally; pool]

@@ -36,7 +36,7 @@ last-is front before x y e = let parts = same_from_push front before x y e in
     λ i. (parts.0 i, parts.1 i)
 
 -- lines of which this pass made none are those of others
-others : (p : ℕ) (ls : List Line) → made_by p ls ≡ [] → All (λ (l : Line). ¬ (l.0 ≡ p)) ls
+pub others : (p : ℕ) (ls : List Line) → made_by p ls ≡ [] → All (λ (l : Line). ¬ (l.0 ≡ p)) ls
 others p [] none = All-nil (λ (l : Line). ¬ (l.0 ≡ p))
 others p (l ∷ ls) none = elim (cases_Bool (eqb l.0 p)) [
   | inl own ↦ (let e : l.1 ∷ made_by p ls ≡ [] = subst
@@ -46,7 +46,7 @@ others p (l ∷ ls) none = elim (cases_Bool (eqb l.0 p)) [
       other none))
 ]
 
-none_own : (p : ℕ) (seen before : List Line) (a : IsPrefix seen before)
+pub none_own : (p : ℕ) (seen before : List Line) (a : IsPrefix seen before)
     → made_by p before ≡ made_by p seen → made_by p a.0 ≡ []
 none_own p seen before a own = append_cancel_left (made_by p seen) (made_by p a.0) []
     (sym (made-after p seen a.0) ∙ (ap (made_by p) a.1 ∙ (own ∙ sym (append-nil (made_by p seen)))))
@@ -177,10 +177,10 @@ module _ {H : Type 0} (t : BlockId) (p r : Pass H) where
   }
 
 -- the first owner of a new block
-pub first_of : {K : Type 0} (most : ℕ) (whole lent : Bool) (t : BlockId) (r : OwnerToken K)
-    (p : PassState) → IsOpened most whole lent t r p
-    → IsFirst most whole Counted (record { block = r.block; number = r.owner; born = r.born })
-first_of most whole lent t r p so = let same : r.block ≡ t = so.3.1 in record {
+pub first_of : {K : Type 0} (most : ℕ) (began : Beginning) (whole lent : Bool) (t : BlockId)
+    (r : OwnerToken K) (p : PassState) → IsOpened most began whole lent t r p
+    → IsFirst most whole began (record { block = r.block; number = r.owner; born = r.born })
+first_of most began whole lent t r p so = let same : r.block ≡ t = so.3.1 in record {
   number = so.5;
   born = so.6;
   most = ap (λ (k : BlockId). k.most) same ∙ so.0;
@@ -205,10 +205,11 @@ sees_alone own p r so = record {
 }
 
 -- the first owner lives alone after nothing
-pub alone_first : {K : Type 0} (most : ℕ) (whole lent : Bool) (t : BlockId) (r : OwnerToken K)
-    (p : PassState) → IsOpened most whole lent t r p → LivesAlone r.owner (entries_of p.lines)
+pub alone_first : {K : Type 0} (most : ℕ) (began : Beginning) (whole lent : Bool) (t : BlockId)
+    (r : OwnerToken K) (p : PassState) → IsOpened most began whole lent t r p
+    → LivesAlone r.owner (entries_of p.lines)
 unfolding live_owners owners_ever owners_ended
-alone_first most whole lent t r p so =
+alone_first most began whole lent t r p so =
     ap (λ (ls : List Line). live_owners (entries_of ls)) so.9 ∙ ap (λ (n : ℕ). n ∷ []) (sym so.5)
 
 -- an owner that was dropped, where the mark has many passes

@@ -70,30 +70,47 @@ module _ {M : Type 1} {𝓤 : Ura M} (𝓛 : Logic 𝓤) (t : BlockId) where
     WrittenDown = ⟦ latest_of more ⟧ ∗ ⟦ pass_holds t p ready more ⟧
         ∗ ⟦ seated (seat_set a.seats p ready made) ⟧ ∗ ⟦ located t more ⟧
 
+    abbrev pub Lined : Pr
+    Lined = ⟦ latest_of more ⟧ ∗ ⟦ pass_holds t p ready more ⟧
+        ∗ ⟦ seated (seat_set a.seats p ready made) ⟧
+
     -- one more line, by a pass that has seen what it must
+    pub writes_line : p < length a.seats
+        → seat_of a.seats p ≡ (true, (ready, made_by p seen)) → (t.whole ≡ true → seen ≡ a.lines)
+        → ⟦ latest_of a.lines ⟧ ∗ ⟦ withheld t t.whole seen ⟧ ∗ ⟦ seated a.seats ⟧
+        ∗ ⟦ seat p ready (made_by p seen) ⟧ ⊢ upd 𝓤 Lined
+    writes_line low is whole_seen = let w : Bool = t.whole in let Z : Pr = Lined in
+        qed 𝓛 (‵ (latest_of a.lines) ∷ ‵ (withheld t w seen) ∷ ‵ (seated a.seats)
+        ∷ ‵ (seat p ready (made_by p seen)) ∷ []) ∵
+        use2 𝓛 (raw (upd 𝓤 (⟦ latest_of more ⟧ ∗ ⟦ history_at_least t more ⟧
+        ∗ ⟦ withheld t w more ⟧))) (writes 𝓛 t w seen a.lines ((p, e) ∷ []) whole_seen) $
+        settle 𝓛 Z (‵ (latest_of more) ⊛ ‵ (history_at_least t more) ⊛ ‵ (withheld t w more)) $
+        split3 ! $
+        -- [latest; reached; withheld; seats; seat]
+        move ! (3 ∷ 4 ∷ []) $ use2 𝓛 (raw (upd 𝓤 (⟦ seated (seat_set a.seats p ready made) ⟧
+        ∗ ⟦ seat p ready made ⟧)))
+        (row_writes seat_coded 𝓛 t.passes fresh_seat a.seats p (ready, made_by p seen)
+        (ready, made) low is) $ settle 𝓛 Z (‵ (seated (seat_set a.seats p ready made))
+        ⊛ ‵ (seat p ready made)) $ split ! $
+        -- [seats; seat; latest; reached; withheld]
+        rewrite ! 1 (λ (m : List Entry). ‵ (seat p ready m)) (sym (made-own p a.lines e)) refl $
+        suffices ! _ (upd_i 𝓤 Z) $ move ! (4 ∷ 1 ∷ []) $ fjoin ! $ move ! (3 ∷ 0 ∷ []) $ fjoin ! $
+        move ! (2 ∷ 0 ∷ 1 ∷ []) $ done !
+
+    -- the same where the word has a count after it as before
     pub writes_down : Same_count 𝓛 t a.lines p e → p < length a.seats
         → seat_of a.seats p ≡ (true, (ready, made_by p seen)) → (t.whole ≡ true → seen ≡ a.lines)
         → ⟦ latest_of a.lines ⟧ ∗ ⟦ withheld t t.whole seen ⟧ ∗ ⟦ seated a.seats ⟧
         ∗ ⟦ seat p ready (made_by p seen) ⟧ ∗ ⟦ located t a.lines ⟧ ⊢ upd 𝓤 WrittenDown
     writes_down counted low is whole_seen = let w : Bool = t.whole in let Z : Pr = WrittenDown in
         qed 𝓛 (‵ (latest_of a.lines) ∷ ‵ (withheld t w seen) ∷ ‵ (seated a.seats)
-        ∷ ‵ (seat p ready (made_by p seen)) ∷ ‵ (located t a.lines) ∷ []) ∵
-        use2 𝓛 (raw (upd 𝓤 (⟦ latest_of more ⟧ ∗ ⟦ history_at_least t more ⟧
-        ∗ ⟦ withheld t w more ⟧))) (writes 𝓛 t w seen a.lines ((p, e) ∷ []) whole_seen) $
-        settle 𝓛 Z (‵ (latest_of more) ⊛ ‵ (history_at_least t more) ⊛ ‵ (withheld t w more)) $
-        split3 ! $
-        -- [latest; reached; withheld; seats; seat; located]
-        move ! (3 ∷ 4 ∷ []) $ use2 𝓛 (raw (upd 𝓤 (⟦ seated (seat_set a.seats p ready made) ⟧
-        ∗ ⟦ seat p ready made ⟧)))
-        (row_writes seat_coded 𝓛 t.passes fresh_seat a.seats p (ready, made_by p seen)
-        (ready, made) low is) $ settle 𝓛 Z (‵ (seated (seat_set a.seats p ready made))
-        ⊛ ‵ (seat p ready made)) $ split ! $
-        -- [seats; seat; latest; reached; withheld; located]
-        move ! (5 ∷ []) $ use1 𝓛 (‵ (located t more)) (stays 𝓛 t a.lines p e counted) $
-        rewrite ! 2 (λ (m : List Entry). ‵ (seat p ready m)) (sym (made-own p a.lines e)) refl $
-        -- [located; seats; seat; latest; reached; withheld]
-        suffices ! _ (upd_i 𝓤 Z) $ move ! (5 ∷ 2 ∷ []) $ fjoin ! $ move ! (4 ∷ 0 ∷ []) $ fjoin ! $
-        move ! (3 ∷ 0 ∷ 2 ∷ 1 ∷ []) $ done !
+        ∷ ‵ (seat p ready (made_by p seen)) ∷ ‵ (located t a.lines) ∷ []) ∵ group ! 4 $
+        use1 𝓛 (raw (upd 𝓤 Lined)) (writes_line low is whole_seen) $
+        settle 𝓛 Z (‵ (latest_of more) ⊛ ‵ (pass_holds t p ready more)
+        ⊛ ‵ (seated (seat_set a.seats p ready made))) $ split3 ! $ suffices ! _ (upd_i 𝓤 Z) $
+        -- [latest; the pass; seats; located]
+        move ! (3 ∷ []) $ use1 𝓛 (‵ (located t more)) (stays 𝓛 t a.lines p e counted) $
+        move ! (1 ∷ 2 ∷ 3 ∷ 0 ∷ []) $ done !
 
   -- what the invariant says, part by part
   pub opens : (X Z : Pr)

@@ -68,13 +68,13 @@ abbrev End : RattleType
 End = EndTokens.the_row
 
 -- what a `&mut` has, by its two parts and its token
-abbrev held_by : {M : Type 1} {𝓤 : Ura M} (P : RattleType) → GName → P.Denot → Lft → Share → ℕ → ℕ
+abbrev pub held_by : {M : Type 1} {𝓤 : Ura M} (P : RattleType) → GName → P.Denot → Lft → Share → ℕ → ℕ
     → List (Item 𝓤) → List (Item 𝓤)
 held_by P γ h κ q b o Γ = ‵ (fobs γ (P.coded.code h)) ∷ ‵ (fbor κ (Body (mem P) b o γ))
     ∷ ‵ (flft κ q) ∷ Γ
 
 -- what is left of a `&mut`, beside what is left of the later parameters
-abbrev left_mut : (P : RattleType) → GName → P.Denot → Lft → ℕ → ℕ → Fml → Fml
+abbrev pub left_mut : (P : RattleType) → GName → P.Denot → Lft → ℕ → ℕ → Fml → Fml
 left_mut P γ h κ b o rest = fsep (fsep (feq (List Val) (vptr b o ∷ []) (vptr b o ∷ []))
     (fsep (fobs γ (P.coded.code h)) (fbor κ (Body (mem P) b o γ)))) rest
 
@@ -82,6 +82,23 @@ module _ {M : Type 1} {𝓤 : Ura M} {𝓛 : Logic 𝓤} {K : Type 0} {Γ : List
     {G : Goal 𝓤 𝓛.H} where
   -- what such a call leaves of the owner, the pass and the end tokens, all its tokens, and what
   -- it answers
+  pub gives_back_with : (R : RattleType) → K → (b₁ o₁ b₂ o₂ b₃ o₃ : ℕ)
+      (h : (Own R).Denot) (p : Pass.Denot) (e : End.Denot)
+      → {κ κ₁ κ₂ κ₃ : Lft} {q q₁ q₂ q₃ : Share} {γ₁ γ₂ γ₃ : GName} {last answer : Fml}
+      → Step K 𝓛 (‵ (left_mut (Own R) γ₁ h κ₁ b₁ o₁ (left_mut Pass γ₂ p κ₂ b₂ o₂
+      (left_mut End γ₃ e κ₃ b₃ o₃ ftrue)))
+      ∷ ‵ (fsep (flft κ q) (fsep (flft κ₁ q₁) (fsep (flft κ₂ q₂) (fsep (flft κ₃ q₃) last))))
+      ∷ ‵ answer ∷ Γ) G
+      (‵ answer ∷ held_by End γ₃ e κ₃ q₃ b₃ o₃ (held_by (Own R) γ₁ h κ₁ q₁ b₁ o₁
+      (held_by Pass γ₂ p κ₂ q₂ b₂ o₂ (‵ (flft κ q) ∷ ‵ last ∷ Γ)))) G
+  gives_back_with R k b₁ o₁ b₂ o₂ b₃ o₃ h p e = step (λ s.
+      move k (3 ∷ 11 ∷ []) $ fjoin k $ move k (9 ∷ 0 ∷ []) $ fjoin k $ move k (6 ∷ 0 ∷ []) $
+      fjoin k $ move k (8 ∷ 0 ∷ []) $ fjoin k $
+      -- [the tokens; the answer; two parts of the end tokens, of the owner and of the pass]
+      nothing k $ move k (3 ∷ 4 ∷ 0 ∷ []) $ given_back k b₃ o₃ $ move k (5 ∷ 6 ∷ 0 ∷ []) $
+      given_back k b₂ o₂ $ move k (3 ∷ 4 ∷ 0 ∷ []) $ given_back k b₁ o₁ $ s)
+
+  -- the same of a number
   gives_back : (R : RattleType) → K → (n : ℕ) → n < 2 ^ 64 → (b₁ o₁ b₂ o₂ b₃ o₃ : ℕ)
       (h : (Own R).Denot) (p : Pass.Denot) (e : End.Denot)
       → {κ κ₁ κ₂ κ₃ : Lft} {q q₁ q₂ q₃ : Share} {γ₁ γ₂ γ₃ : GName} {last : Fml}
@@ -92,11 +109,7 @@ module _ {M : Type 1} {𝓤 : Ura M} {𝓛 : Logic 𝓤} {K : Type 0} {Γ : List
       (held_by End γ₃ e κ₃ q₃ b₃ o₃ (held_by (Own R) γ₁ h κ₁ q₁ b₁ o₁
       (held_by Pass γ₂ p κ₂ q₂ b₂ o₂ (‵ (flft κ q) ∷ ‵ last ∷ Γ)))) G
   gives_back R k n fits b₁ o₁ b₂ o₂ b₃ o₃ h p e = step (λ s. answered k n fits $
-      move k (3 ∷ 11 ∷ []) $ fjoin k $ move k (9 ∷ 0 ∷ []) $ fjoin k $ move k (6 ∷ 0 ∷ []) $
-      fjoin k $ move k (8 ∷ 0 ∷ []) $ fjoin k $
-      -- [the tokens; the answer; two parts of the end tokens, of the owner and of the pass]
-      nothing k $ move k (3 ∷ 4 ∷ 0 ∷ []) $ given_back k b₃ o₃ $ move k (5 ∷ 6 ∷ 0 ∷ []) $
-      given_back k b₂ o₂ $ move k (3 ∷ 4 ∷ 0 ∷ []) $ given_back k b₁ o₁ $ s)
+      gives_back_with R k b₁ o₁ b₂ o₂ b₃ o₃ h p e $ s)
 
 module _ {M : Type 1} {𝓤 : Ura M} (𝓛 : Logic 𝓤) (R : RattleType) where
   open signs 𝓛 use {◌⊢◌, ◌∗◌, ⟦◌⟧}
@@ -144,7 +157,7 @@ module _ {M : Type 1} {𝓤 : Ura M} (𝓛 : Logic 𝓤) (R : RattleType) where
     module _ {K : Type 0} {Γ : List (Item 𝓤)} {G : Goal 𝓤 𝓛.H} {κ₁ κ₂ : Lft} {q₁ q₂ : Share}
         {γ₁ γ₂ : GName} where
       -- before it: what the owner and the pass have is taken out
-      brings : K → Soaks G → (b₁ o₁ b₂ o₂ : ℕ) → IsHeld t h → IsOf t p
+      pub brings : K → Soaks G → (b₁ o₁ b₂ o₂ : ℕ) → IsHeld t h → IsOf t p
           → Step K 𝓛 (‵ (trace_owns true t p.number p.ready p.lines)
           ∷ ‵ (right t h.owner h.lease quarter) ∷ ‵ (stake h.lease) ∷ ‵ (known t h.born)
           ∷ held_by (Own R) γ₁ (no_owner R h) κ₁ q₁ b₁ o₁
@@ -188,26 +201,26 @@ module _ {M : Type 1} {𝓤 : Ura M} (𝓛 : Logic 𝓤) (𝓜 : Model 𝓤 𝓛
   R = param 0 T
 
   -- the owner, the pass and the end tokens, which come back
-  abbrev three : List (Slot 5)
+  abbrev pub three : List (Slot 5)
   three = mut_ref_to (1 ∷ []) tt (plain (λ _. Own R)) ∷ mut_ref_to (2 ∷ []) tt (plain (λ _. Pass))
       ∷ mut_ref_to (3 ∷ []) tt (plain (λ _. End)) ∷ []
 
-  abbrev three_stay : Stays three (yes, (yes, (yes, tt)))
+  abbrev pub three_stay : Stays three (yes, (yes, (yes, tt)))
   three_stay = (
     stay_ref (1 ∷ []) tt (plain (λ _. Own R)),
     (stay_ref (2 ∷ []) tt (plain (λ _. Pass)), (stay_ref (3 ∷ []) tt (plain (λ _. End)), tt)),
   )
 
-  three_go : AllGo 𝓛 5 three (yes, (yes, (yes, tt))) three_stay
+  pub three_go : AllGo 𝓛 5 three (yes, (yes, (yes, tt))) three_stay
   three_go = (
     Goes-ref 𝓛 5 1 tt (plain (λ _. Own R)),
     (Goes-ref 𝓛 5 2 tt (plain (λ _. Pass)), (Goes-ref 𝓛 5 3 tt (plain (λ _. End)), tt)),
   )
 
-  abbrev three_vals : (κs : Lfts 5) → Spells (types_at three κs)
+  abbrev pub three_vals : (κs : Lfts 5) → Spells (types_at three κs)
   three_vals κs = (mut_vals, (mut_vals, (mut_vals, tt)))
 
-  three_tell : (κs : Lfts 5)
+  pub three_tell : (κs : Lfts 5)
       → Tellss (types_at three κs) (Ises (types_at three κs)) (three_vals κs)
   three_tell κs = (
     mut_Tells (named 1) κs.1.0 (Own R),

@@ -7,11 +7,11 @@ use mathlib.Core.List.{Mem, mem-cons, not-mem-nil}
 use mathlib.Core.HLevel.{⊥_prop}
 use mathlib.Core.Logic.Or
 use seplogic.Ra.Ura.{Ura}
-use base.Logic.{ex, guard, upd, upd_i, ex_i, apply∗}
+use base.Logic.{ex, all, all_e, guard, upd, upd_i, ex_i, apply∗}
 use base.Fml.{Lft, Share, Fml, fsep, flft, fbor, fnamed}
 use types.Logic.{Logic}
 use types.Kit.{‵, raw, ◌⊛◌, ◌$◌, ◌∵◌, !, qed, by, move, split, split3, join, group, fsplit, fsplit3}
-use types.Kit.{fjoin, fpick, fpack, frame, each, assume, show, check, done, use1, use2, use3}
+use types.Kit.{drop, fjoin, fpick, fpack, frame, each, assume, show, check, done, use1, use2, use3}
 use types.Kit.{suffices, settle}
 use denote.RawPtr.{block_ptr}
 use Rattle.core.specs.Sync.RawAtomic.{Shift, rests, opens, shuts, enters, leaves, word, along}
@@ -20,6 +20,8 @@ use Rattle.arc_owners.specs.declared.history.entry.Entry.{Entry}
 use Rattle.arc_owners.specs.count.Invariant.{BlockId, Line, Lease, known, right, right_owns}
 use Rattle.arc_owners.specs.count.Invariant.{contents}
 use Rattle.arc_owners.specs.count.Invariant.{behind, lies, counting, pass_holds, trace_owns}
+use Rattle.arc_owners.specs.count.Invariant.{borrowed, leads, word_borrow_as, Borrowing}
+use Rattle.arc_owners.proofs.count.Lodgings.{Whole, has_word}
 use Rattle.arc_owners.proofs.count.Signs.{signs}
 use Rattle.arc_owners.proofs.count.Operations.{Operation, with_entry, left_by, left, made_if}
 use Rattle.arc_owners.proofs.count.Moves.{Steps}
@@ -38,9 +40,9 @@ module _ {M : Type 1} {𝓤 : Ura M} (𝓛 : Logic 𝓤) (t : BlockId) where
   abbrev N : Fml
   N = fnamed t.number J
 
-  module _ (i b o : ℕ) (past : t.number < i) (κ : Lft) (e : Share) where
+  module _ (j : Borrowing) (b o : ℕ) (κ : Lft) (e : Share) where
     abbrev I : Fml
-    I = counting t b o
+    I = borrowed t b o j.1
 
     abbrev P : Fml
     P = fbor κ I
@@ -49,25 +51,25 @@ module _ {M : Type 1} {𝓤 : Ura M} (𝓛 : Logic 𝓤) (t : BlockId) where
     O = At.obor κ e I
 
     abbrev open_both : List (ℕ × Fml)
-    open_both = (t.number, J) ∷ (i, P) ∷ []
+    open_both = (t.number, J) ∷ (j.0, P) ∷ []
 
     abbrev Held : List (ℕ × Fml) → (ℕ → ℕ) → (ℕ → Fml) → Pr
     Held L f after = ex 𝓤 (found 𝓛 L b o f always after)
 
     -- before the step: the word's invariant, the block's, and the borrow are opened, in this order
-    opening : (f : ℕ → ℕ) (X : Pr) (after : ℕ → Fml) → (O ∗ ⟦ I ⟧) ∗ ⟦ J ⟧ ∗ X
+    opening : t.number < j.0 → (f : ℕ → ℕ) (X : Pr) (after : ℕ → Fml) → (O ∗ ⟦ I ⟧) ∗ ⟦ J ⟧ ∗ X
         ⊢ upd 𝓤 (Held open_both f after)
-        → At.named i P ∗ ⟦ N ⟧ ∗ At.lft κ e ∗ X ⊢ asks 𝓛 (block_ptr b o) f always after
-    opening f X after step = let Q : List (ℕ × Fml) → Pr = λ L. Held L f after in
+        → At.named j.0 P ∗ ⟦ N ⟧ ∗ At.lft κ e ∗ X ⊢ asks 𝓛 (block_ptr b o) f always after
+    opening past f X after step = let Q : List (ℕ × Fml) → Pr = λ L. Held L f after in
         let Lent : Pr = (At.bor κ I ∗ At.lft κ e) ∗ ((O ∗ ⟦ I ⟧) -∗ upd 𝓤 (Q open_both)) in
-        let Second : Pr = guard 𝓤 (¬ Mem t.number (i ∷ [])) (⟦ N ⟧ ∗ (⟦ J ⟧ -∗ upd 𝓤 Lent)) in
-        let apart : ¬ Mem t.number (i ∷ []) = λ m. mathlib.Core.Logic.Or.elim ⊥_prop
-        ((mem-cons {a = t.number} {b = i} {l = []}).0 m) (λ (x : t.number ≡ i). omega arith)
+        let Second : Pr = guard 𝓤 (¬ Mem t.number (j.0 ∷ [])) (⟦ N ⟧ ∗ (⟦ J ⟧ -∗ upd 𝓤 Lent)) in
+        let apart : ¬ Mem t.number (j.0 ∷ []) = λ m. mathlib.Core.Logic.Or.elim ⊥_prop
+        ((mem-cons {a = t.number} {b = j.0} {l = []}).0 m) (λ (x : t.number ≡ j.0). omega arith)
         (λ x. not-mem-nil x) in
-        qed 𝓛 (‵ (fnamed i P) ∷ ‵ N ∷ ‵ (flft κ e) ∷ raw X ∷ []) ∵
+        qed 𝓛 (‵ (fnamed j.0 P) ∷ ‵ N ∷ ‵ (flft κ e) ∷ raw X ∷ []) ∵
         suffices ! _ (ex_i 𝓤 (λ (s : Shift). along 𝓛 s Q [])
-        (enters i P (enters t.number J (opens κ e I rests)))) $
-        suffices ! _ (upd_i 𝓤 (guard 𝓤 (¬ Mem i []) (At.named i P ∗ (⟦ P ⟧ -∗ upd 𝓤 Second)))) $
+        (enters j.0 P (enters t.number J (opens κ e I rests)))) $
+        suffices ! _ (upd_i 𝓤 (guard 𝓤 (¬ Mem j.0 []) (At.named j.0 P ∗ (⟦ P ⟧ -∗ upd 𝓤 Second)))) $
         check ! (λ m. not-mem-nil m) $ frame ! $ assume ! (‵ P) $
         suffices ! _ (upd_i 𝓤 Second) $ check ! apart $ move ! (1 ∷ []) $ frame ! $ assume ! (‵ J) $
         suffices ! _ (upd_i 𝓤 Lent) $ move ! (1 ∷ 2 ∷ []) $ join ! $ frame ! $
@@ -88,22 +90,34 @@ module _ {M : Type 1} {𝓤 : Ura M} (𝓛 : Logic 𝓤) (t : BlockId) where
         suffices ! _ (upd_i 𝓤 (⟦ P ⟧ ∗ upd 𝓤 Z)) $ move ! (1 ∷ []) $ frame ! $
         suffices ! _ (upd_i 𝓤 Z) $ done !
 
+    -- whether the borrow is the word's own or that of a cell which leads there
     pub spends : (f : ℕ → ℕ) (X : Pr) (after : ℕ → Fml)
         → ((n : ℕ) → ⟦ behind t n ⟧ ∗ ⟦ J ⟧ ∗ X ⊢ upd 𝓤
         (⟦ behind t (f n) ⟧ ∗ (At.lft κ e -∗ (⟦ J ⟧ ∗ ⟦ after n ⟧))))
-        → At.named i P ∗ ⟦ N ⟧ ∗ At.lft κ e ∗ X ⊢ asks 𝓛 (block_ptr b o) f always after
-    spends f X after turns = opening f X after (qed 𝓛 ((raw O ⊛ ‵ I) ∷ ‵ J ∷ raw X ∷ []) ∵
-        split ! $ move ! (1 ∷ []) $ fpick ! (λ n. fsplit ! $
+        → ⟦ word_borrow_as t b o κ j ⟧ ∗ ⟦ N ⟧ ∗ At.lft κ e ∗ X
+        ⊢ asks 𝓛 (block_ptr b o) f always after
+    spends f X after turns = let Way : ℕ → Pr = Whole 𝓛 t b o j.1 in
+        let L : Fml = leads t b o j.1 in
+        qed 𝓛 (‵ (word_borrow_as t b o κ j) ∷ ‵ N ∷ ‵ (flft κ e) ∷ raw X ∷ []) ∵ fsplit3 ! $
+        fpick ! (λ past. drop ! $
+        -- [where it leads; the word's invariant; the block's; the token; X]
+        move ! (1 ∷ 2 ∷ 3 ∷ 0 ∷ 4 ∷ []) $
+        by ! (opening past f (⟦ L ⟧ ∗ X) after
+        (qed 𝓛 ((raw O ⊛ ‵ I) ∷ ‵ J ∷ ‵ L ∷ raw X ∷ []) ∵ split ! $
+        move ! (3 ∷ 1 ∷ []) $ use2 𝓛 (‵ (counting t b o) ⊛ raw (all 𝓤 Way))
+        (has_word 𝓛 t b o j.1) $ split ! $ fpick ! (λ n. fsplit ! $
         let W : Pr = At.lft κ e -∗ (⟦ J ⟧ ∗ ⟦ after n ⟧) in
-        -- [the word; what is behind it; the open borrow; the invariant; X]
-        move ! (1 ∷ 3 ∷ 4 ∷ []) $ use3 𝓛 (raw (upd 𝓤 (⟦ behind t (f n) ⟧ ∗ W))) (turns n) $
+        -- [the word; what is behind it; the way back; the open borrow; the invariant; X]
+        move ! (1 ∷ 4 ∷ 5 ∷ []) $ use3 𝓛 (raw (upd 𝓤 (⟦ behind t (f n) ⟧ ∗ W))) (turns n) $
         settle 𝓛 (Held open_both f after) (‵ (behind t (f n)) ⊛ raw W) $ split ! $
         suffices ! _ (upd_i 𝓤 (Held open_both f after)) $
         show ! (found 𝓛 open_both b o f always after) n $ move ! (2 ∷ []) $ frame ! $
         each ! (λ (_ : always n). back 𝓛 open_both b o f after n)
-        (λ _. assume ! (‵ (word b o (f n))) $
-        move ! (0 ∷ 1 ∷ []) $ fjoin ! $ fpack ! ℕ (lies t b o) (f n) $ move ! (2 ∷ 0 ∷ 1 ∷ []) $
-        by ! (closing ⟦ after n ⟧))))
+        (λ _. assume ! (‵ (word b o (f n))) $ fjoin ! $
+        -- [the word; W; the way back; the open borrow]
+        move ! (2 ∷ []) $ use1 𝓛 (raw (Way (f n))) (all_e 𝓤 Way (f n)) $ move ! (1 ∷ 0 ∷ []) $
+        use2 𝓛 (‵ I) (apply∗ 𝓤 ⟦ lies t b o (f n) ⟧ ⟦ I ⟧) $ move ! (2 ∷ 0 ∷ 1 ∷ []) $
+        by ! (closing ⟦ after n ⟧))))))
 
   module _ (p : ℕ) (ready : Bool) (seen : List Line) where
     abbrev T : List Line → Fml
@@ -112,7 +126,7 @@ module _ {M : Type 1} {𝓤 : Ura M} (𝓛 : Logic 𝓤) (t : BlockId) where
     abbrev B : Fml
     B = pass_holds t p ready seen
 
-    resumes : (ls : List Line) → ⟦ N ⟧ ∗ ⟦ pass_holds t p ready ls ⟧ ⊢ ⟦ T ls ⟧
+    pub resumes : (ls : List Line) → ⟦ N ⟧ ∗ ⟦ pass_holds t p ready ls ⟧ ⊢ ⟦ T ls ⟧
     resumes ls = qed 𝓛 (‵ N ∷ ‵ (pass_holds t p ready ls) ∷ []) ∵
         move ! (1 ∷ []) $ fsplit ! $ move ! (2 ∷ 0 ∷ []) $ fjoin ! $ fjoin ! $ done !
 
@@ -171,15 +185,15 @@ module _ {M : Type 1} {𝓤 : Ura M} (𝓛 : Logic 𝓤) (t : BlockId) where
           frame ! $ by ! (outside (op.entry n) (op.gain n) n)
 
       -- by a reference to the word, whose token comes back
-      pub by_reference : (κ : Lft) (e : Share) (i b o : ℕ) → t.number < i
-          → At.named i (fbor κ (counting t b o)) ∗ At.lft κ e ∗ ⟦ T seen ⟧ ∗ ⟦ right t own l q ⟧
+      pub by_reference : (κ : Lft) (e : Share) (j : Borrowing) (b o : ℕ)
+          → ⟦ word_borrow_as t b o κ j ⟧ ∗ At.lft κ e ∗ ⟦ T seen ⟧ ∗ ⟦ right t own l q ⟧
           ∗ ⟦ owed ⟧
           ⊢ asks 𝓛 (block_ptr b o) op.next always (λ n. fsep (flft κ e) (after op n))
-      by_reference κ e i b o past = let R : Fml = right t own l q in
-          qed 𝓛 (‵ (fnamed i (fbor κ (counting t b o))) ∷ ‵ (flft κ e) ∷ ‵ (T seen) ∷ ‵ R ∷ ‵ owed
+      by_reference κ e j b o = let R : Fml = right t own l q in
+          qed 𝓛 (‵ (word_borrow_as t b o κ j) ∷ ‵ (flft κ e) ∷ ‵ (T seen) ∷ ‵ R ∷ ‵ owed
           ∷ []) ∵
           move ! (2 ∷ []) $ use1 𝓛 (‵ N ⊛ ‵ N ⊛ ‵ B) pauses $ split3 ! $ move ! (3 ∷ 0 ∷ 4 ∷ []) $
-          by ! (spends i b o past κ e op.next (⟦ N ⟧ ∗ ⟦ B ⟧ ∗ ⟦ R ⟧ ∗ ⟦ owed ⟧)
+          by ! (spends j b o κ e op.next (⟦ N ⟧ ∗ ⟦ B ⟧ ∗ ⟦ R ⟧ ∗ ⟦ owed ⟧)
           (λ n. fsep (flft κ e) (after op n)) (λ n.
           let m : ℕ = op.next n in let W : Pr = ⟦ owed ⟧ -∗ (⟦ J ⟧ ∗ ⟦ after op n ⟧) in
           let Z : Pr = ⟦ behind t m ⟧ ∗ (At.lft κ e -∗ (⟦ J ⟧

@@ -1,11 +1,11 @@
 -- What a `&` to an owner's right or to a pass holds, and that all of it may go to another thread.
 -- Assumes `Logic`.
 use Rattle.std.proofs.Common.{ℕ, zero, suc, ◌<◌, Bool, true, false, List, [], ◌∷◌}
+use mathlib.Core.Option.{Option, none, some}
 use seplogic.Ra.Ura.{Ura}
 use base.Share
 use base.Share.{quarter}
 use base.Logic.{SProp, ent, sep, wand, ex, emp, id⊢, snd∗, never_e, upd_i}
-use base.FractionLaws.{Counts}
 use base.Fml.{Lft, Share, Fml, Incl-refl, ftrue, fsep, fseps, fwand, fupd, fdead, flft, fbor}
 use base.Fml.{fshr_bor, fnamed}
 use base.Growing.{latest, at_least}
@@ -33,7 +33,9 @@ use Rattle.arc_owners.specs.count.Invariant.{history_at_least, withheld, pooled,
 use Rattle.arc_owners.specs.count.Invariant.{tokens, right, contents, known, behind, right_owns}
 use Rattle.arc_owners.specs.count.Invariant.{right_without, right_shown, told}
 use Rattle.arc_owners.specs.count.Invariant.{right_shares, trace_owns, trace_shares, end_tokens}
-use Rattle.arc_owners.specs.count.Invariant.{stake, counting, word_borrow_as, word_borrow}
+use Rattle.arc_owners.specs.count.Invariant.{stake, word_borrow_as, word_borrow, Borrowing, places}
+use Rattle.arc_owners.specs.count.Invariant.{place_coded, pointed, cell_holds, cell_at, borrowed}
+use Rattle.arc_owners.specs.count.Invariant.{leads, IsStake}
 use Rattle.arc_owners.proofs.count.Cells.{row_keyless, cell_cut, cell_joins}
 
 pooled_keyless : (y : Bool) (l : Lease) (n : ℕ) → Keyless (pooled y l n)
@@ -119,8 +121,35 @@ pub end_tokens_keyless : (l : Lease) (b : Bool) → Keyless (end_tokens l b)
 end_tokens_keyless l true = (tt, entry_keyless token l.key 0 tt)
 end_tokens_keyless l false = tt
 
+pub pointed_keyless : (t : BlockId) (x : Option (ℕ × ℕ)) → Keyless (pointed t x)
+pointed_keyless t none = entry_keyless (halved base.Stored.coded_ℕ) t.count 0 _
+pointed_keyless t (some x) = (
+  (λ _. tt),
+  ((λ k. entry_keyless (halved place_coded) t.receipts k _), λ n. (tt, behind_keyless t n)),
+)
+
+pub held_keyless : (t : BlockId) (x : Option (ℕ × ℕ)) → Keyless (cell_holds t x)
+unfolding latest
+held_keyless t x = (tt, pointed_keyless t x)
+
+pub cell_keyless : (t : BlockId) (b o : ℕ) → Keyless (cell_at t b o)
+cell_keyless t b o = λ x. (tt, held_keyless t x)
+
+borrowed_keyless : (t : BlockId) (b o : ℕ) (w : Option (ℕ × ℕ)) → Keyless (borrowed t b o w)
+borrowed_keyless t b o none = λ n. (tt, behind_keyless t n)
+borrowed_keyless t b o (some c) = cell_keyless t c.0 c.1
+
+leads_keyless : (t : BlockId) (b o : ℕ) (w : Option (ℕ × ℕ)) → Keyless (leads t b o w)
+unfolding at_least
+leads_keyless t b o none = tt
+leads_keyless t b o (some c) = tt
+
+pub borrow_keyless : (t : BlockId) (b o : ℕ) (κ : Lft) (j : Borrowing)
+    → Keyless (word_borrow_as t b o κ j)
+borrow_keyless t b o κ j = ((λ _. tt), (leads_keyless t b o j.1, borrowed_keyless t b o j.1))
+
 pub word_borrow_keyless : (t : BlockId) (p : Ptr) (a : ℕ) → Keyless (word_borrow t p a)
-word_borrow_keyless t (block_ptr b o) a = λ j. ((λ _. tt), λ n. (tt, behind_keyless t n))
+word_borrow_keyless t (block_ptr b o) a = λ j. borrow_keyless t b o (a ∷ []) j
 word_borrow_keyless t null_ptr a = tt
 
 module _ {M : Type 1} {𝓤 : Ura M} (𝓛 : Logic 𝓤) (t : BlockId) where
@@ -137,16 +166,32 @@ module _ {M : Type 1} {𝓤 : Ura M} (𝓛 : Logic 𝓤) (t : BlockId) where
       (at_least_dup lines_order 𝓛 t.history ls) $ split ! $ move ! (2 ∷ 0 ∷ []) $ fjoin ! $
       move ! (2 ∷ 1 ∷ []) $ fjoin ! $ done !
 
+  leads_twice : (b o : ℕ) (w : Option (ℕ × ℕ)) → ent 𝓤 ⟦ leads t b o w ⟧
+      (sep 𝓤 ⟦ leads t b o w ⟧ ⟦ leads t b o w ⟧)
+  leads_twice b o none = base.Logic.emp∗ 𝓤 (emp 𝓤)
+  leads_twice b o (some c) = at_least_dup places 𝓛 t.place (some (b, o))
+
+  pub borrow_twice : (b o : ℕ) (κ : Lft) (j : Borrowing) → ent 𝓤 ⟦ word_borrow_as t b o κ j ⟧
+      (sep 𝓤 ⟦ word_borrow_as t b o κ j ⟧ ⟦ word_borrow_as t b o κ j ⟧)
+  borrow_twice b o κ j = let I : Fml = fbor κ (borrowed t b o j.1) in
+      let L : Fml = leads t b o j.1 in
+      qed 𝓛 (‵ (word_borrow_as t b o κ j) ∷ []) ∵ fsplit3 ! $ fpick ! (λ past. drop ! $
+      use1 𝓛 (‵ L ⊛ ‵ L) (leads_twice b o j.1) $ split ! $ move ! (2 ∷ []) $
+      use1 𝓛 (‵ (fnamed j.0 I) ⊛ ‵ (fnamed j.0 I)) (𝓛.invs.named_dup j.0 I) $ split ! $
+      -- [the invariant, twice; where it leads, twice]
+      move ! (2 ∷ 0 ∷ []) $ fjoin ! $
+      nothing ! $ fpack ! (t.number < j.0) (λ _. ftrue) past $ fjoin ! $
+      move ! (2 ∷ 1 ∷ []) $ fjoin ! $
+      nothing ! $ fpack ! (t.number < j.0) (λ _. ftrue) past $ fjoin ! $
+      move ! (1 ∷ 0 ∷ []) $ done !)
+
   pub word_borrow_twice : (p : Ptr) (a : ℕ) → ent 𝓤 ⟦ word_borrow t p a ⟧
       (sep 𝓤 ⟦ word_borrow t p a ⟧ ⟦ word_borrow t p a ⟧)
-  word_borrow_twice (block_ptr b o) a = let I : Fml = fbor (a ∷ []) (counting t b o) in
+  word_borrow_twice (block_ptr b o) a = let κ : Lft = a ∷ [] in
       qed 𝓛 (‵ (word_borrow t (block_ptr b o) a) ∷ []) ∵
-      fpick ! (λ j. fsplit ! $ fpick ! (λ past. drop ! $
-      use1 𝓛 (‵ (fnamed j I) ⊛ ‵ (fnamed j I)) (𝓛.invs.named_dup j I) $ split ! $ nothing ! $
-      fpack ! (t.number < j) (λ _. ftrue) past $ move ! (0 ∷ 1 ∷ []) $ fjoin ! $
-      fpack ! ℕ (word_borrow_as t b o (a ∷ [])) j $
-      nothing ! $ fpack ! (t.number < j) (λ _. ftrue) past $ move ! (0 ∷ 2 ∷ []) $ fjoin ! $
-      fpack ! ℕ (word_borrow_as t b o (a ∷ [])) j $ done !))
+      fpick ! (λ j. use1 𝓛 (‵ (word_borrow_as t b o κ j) ⊛ ‵ (word_borrow_as t b o κ j))
+      (borrow_twice b o κ j) $ split ! $ fpack ! Borrowing (word_borrow_as t b o κ) j $
+      move ! (1 ∷ []) $ fpack ! Borrowing (word_borrow_as t b o κ) j $ done !)
   word_borrow_twice null_ptr a = never_e 𝓤
       (sep 𝓤 ⟦ word_borrow t null_ptr a ⟧ ⟦ word_borrow t null_ptr a ⟧)
 
@@ -171,7 +216,7 @@ module _ {M : Type 1} {𝓤 : Ura M} (𝓛 : Logic 𝓤) (t : BlockId) where
         ∷ []) {P = H.⇛ (sep 𝓤 ⟦ fshr_bor κ R ⟧ (lfts 𝓛 ts))} (updating ! $
         bor_fracture ! tt R quarter $ now ! $ done !)
 
-    part_back : (κ : Lft) (e : Share) → Counts 64 e 1
+    part_back : (κ : Lft) (e : Share) → IsStake e
         → ent 𝓤 ⟦ ftrue ⟧ ⟦ fwand (fsep (fdead κ) (fseps (flft (l.lifetime ∷ []) e ∷ [])))
         (fupd (part 64 l.lifetime)) ⟧
     unfolding fseps
@@ -230,9 +275,9 @@ module _ {M : Type 1} {𝓤 : Ura M} (𝓛 : Logic 𝓤) (t : BlockId) where
     -- so has a `&` to one whose part of the lifetime is elsewhere
     pub without_lends : (born : List Line) (e : Share) (λ' : Lft)
         → Lends 𝓛 (right_without t o l born e) (right_shown t o l born) λ'
-    without_lends born e λ' = Lends-both 𝓛 (known t born) (fsep (R quarter) (told (Counts 64 e 1)))
+    without_lends born e λ' = Lends-both 𝓛 (known t born) (fsep (R quarter) (told (IsStake e)))
         (said (known t born)) (one R) λ' (lends_twice 𝓛 (known t born) (known_twice born) λ')
-        (Lends-first 𝓛 (R quarter) (told (Counts 64 e 1)) (one R) λ' (fractured λ'))
+        (Lends-first 𝓛 (R quarter) (told (IsStake e)) (one R) λ' (fractured λ'))
 
   pub trace_lends : (b : Bool) (p : ℕ) (ready : Bool) (seen : List Line) (λ' : Lft)
       → Lends 𝓛 (trace_owns b t p ready seen) (said (trace_shares b t seen)) λ'

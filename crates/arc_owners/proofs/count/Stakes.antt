@@ -2,7 +2,6 @@
 -- given that up once the step is done: the word may then be gone. Assumes `Logic`.
 use Rattle.std.proofs.Common.{◌≡◌, ℕ, ◌<◌, Bool, true, List, [], ◌∷◌, refl, sym}
 use seplogic.Ra.Ura.{Ura}
-use base.FractionLaws.{Counts}
 use base.Share.{quarter}
 use base.Logic.{upd, never, never_e, via, fst∗, upd_i, apply∗}
 use base.Fml.{Lft, Share, Fml, flft, fbor, fnamed}
@@ -13,7 +12,9 @@ use types.Kit.{frame, assume, done, use1, rewrite, suffices, settle}
 use denote.RawPtr.{Ptr, block_ptr, null_ptr}
 use Rattle.core.specs.Sync.RawAtomic.{asks, always}
 use Rattle.arc_owners.specs.count.Invariant.{BlockId, Line, Lease, right, staked, stake, contents}
-use Rattle.arc_owners.specs.count.Invariant.{behind, counting, word_borrow, pass_holds, trace_owns}
+use Rattle.arc_owners.specs.count.Invariant.{IsStake}
+use Rattle.arc_owners.specs.count.Invariant.{behind, word_borrow_as, word_borrow, Borrowing}
+use Rattle.arc_owners.specs.count.Invariant.{pass_holds, trace_owns}
 use Rattle.arc_owners.proofs.count.Signs.{signs}
 use Rattle.arc_owners.proofs.count.Operations.{Operation}
 use Rattle.arc_owners.proofs.count.Moves.{Steps}
@@ -45,7 +46,7 @@ module _ {M : Type 1} {𝓤 : Ura M} (𝓛 : Logic 𝓤) (t : BlockId) (p : ℕ)
   abbrev R : Fml
   R = right t own l quarter
 
-  as_stake : (e : Share) → Counts 64 e 1 → At.lft κ e ⊢ ⟦ stake l ⟧
+  pub as_stake : (e : Share) → IsStake e → At.lft κ e ⊢ ⟦ stake l ⟧
   as_stake e c = qed 𝓛 (‵ (flft κ e) ∷ []) ∵ use1 𝓛 (‵ (staked true l))
       (part_in 64 𝓛 l.lifetime e c) $
       rewrite ! 0 (λ (y : Bool). ‵ (staked y l)) (sym lent) refl $ done !
@@ -54,16 +55,16 @@ module _ {M : Type 1} {𝓤 : Ura M} (𝓛 : Logic 𝓤) (t : BlockId) (p : ℕ)
     abbrev after : ℕ → Fml
     after n = places.after 𝓛 t p ready seen op n
 
-    at_word : (i b o : ℕ) → t.number < i → At.named i (fbor κ (counting t b o)) ∗ ⟦ T ⟧ ∗ ⟦ R ⟧
+    at_word : (j : Borrowing) (b o : ℕ) → ⟦ word_borrow_as t b o κ j ⟧ ∗ ⟦ T ⟧ ∗ ⟦ R ⟧
         ∗ ⟦ stake l ⟧
         ⊢ asks 𝓛 (block_ptr b o) op.next always after
-    at_word i b o past = qed 𝓛 (‵ (fnamed i (fbor κ (counting t b o))) ∷ ‵ T ∷ ‵ R
+    at_word j b o = qed 𝓛 (‵ (word_borrow_as t b o κ j) ∷ ‵ T ∷ ‵ R
         ∷ ‵ (staked l.is_lent l) ∷ []) ∵
         rewrite ! 3 (λ (y : Bool). ‵ (staked y l)) lent refl $ move ! (3 ∷ []) $
         fpick ! (λ e. fpick ! (λ c. move ! (2 ∷ []) $
         use1 𝓛 (‵ N ⊛ ‵ N ⊛ ‵ B) (places.pauses 𝓛 t p ready seen) $ split3 ! $
         move ! (4 ∷ 0 ∷ 3 ∷ 1 ∷ 2 ∷ 5 ∷ []) $
-        by ! (places.spends 𝓛 t i b o past κ e op.next (⟦ N ⟧ ∗ ⟦ B ⟧ ∗ ⟦ R ⟧) after (λ n.
+        by ! (places.spends 𝓛 t j b o κ e op.next (⟦ N ⟧ ∗ ⟦ B ⟧ ∗ ⟦ R ⟧) after (λ n.
         let m : ℕ = op.next n in let W : Pr = ⟦ stake l ⟧ -∗ (⟦ J ⟧ ∗ ⟦ after n ⟧) in
         let Z : Pr = ⟦ behind t m ⟧ ∗ (At.lft κ e -∗ (⟦ J ⟧ ∗ ⟦ after n ⟧)) in
         qed 𝓛 (‵ (behind t n) ∷ ‵ J ∷ ‵ N ∷ ‵ B ∷ ‵ R ∷ []) ∵ group ! 5 $
@@ -78,6 +79,6 @@ module _ {M : Type 1} {𝓤 : Ura M} (𝓛 : Logic 𝓤) (t : BlockId) (p : ℕ)
         ⊢ asks 𝓛 place op.next always after
     by_place (block_ptr b o) = qed 𝓛 (‵ (word_borrow t (block_ptr b o) l.lifetime) ∷ ‵ T ∷ ‵ R
         ∷ ‵ (stake l) ∷ []) ∵
-        fpick ! (λ i. fsplit ! $ fpick ! (λ past. drop ! $ by ! (at_word i b o past)))
+        fpick ! (λ j. by ! (at_word j b o))
     by_place null_ptr = via 𝓤 (never 𝓤) (fst∗ 𝓤 (never 𝓤) (⟦ T ⟧ ∗ ⟦ R ⟧ ∗ ⟦ stake l ⟧))
         (never_e 𝓤 (asks 𝓛 null_ptr op.next always after))

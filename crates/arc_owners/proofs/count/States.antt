@@ -1,10 +1,11 @@
 -- A state stays true where one more line is written by a pass, with what that line does to the
 -- roll.
 use Rattle.std.proofs.Common.{inl, inr, ◌≡◌, ℕ, suc, ◌+◌, ◌<◌, ◌≤◌, Bool, true, false, eqb, List}
-use Rattle.std.proofs.Common.{[], ◌∷◌, ◌++◌, length, get_or, set, None, refl, sym, ap, ◌∙◌, subst}
+use Rattle.std.proofs.Common.{[], ◌∷◌, ◌++◌, length, get_or, set, Some, None, refl, sym, ap, ◌∙◌, subst}
 use Rattle.std.proofs.Common.{arith, length-append, length-set}
 use Rattle.std.proofs.lemmas.Bool.{eqb-true, eqb-false, cases_Bool, false≢true}
 use Rattle.std.proofs.lemmas.List.{append-nil}
+use Rattle.std.specs.List.{cons_option}
 use Rattle.arc_owners.specs.declared.history.entry.Entry.{Entry}
 use Rattle.arc_owners.specs.declared.history.entry.Entry.TheVariants.{Up, Full, Down, Alone}
 use Rattle.arc_owners.specs.history.Histories.{Beginning, is_in, owner_made, owner_ended}
@@ -85,6 +86,7 @@ fits-relet t a f o k l low is one = let same : living 0 (set a.roll o (true, l))
       made = f.made;
       leased = relet-leased t a f o k l low is one;
       within = subst (λ (ns : List ℕ). length ns ≤ t.most) (sym same) f.within;
+      least = f.least;
       small = f.small;
     }
 
@@ -126,6 +128,7 @@ module _ (t : BlockId) (a : State) (f : Fits t a) (p : ℕ) (ready : Bool)
     made = made-wrote e a.roll;
     leased = f.leased;
     within = f.within;
+    least = f.least;
     small = f.small;
   }
 
@@ -149,26 +152,64 @@ module _ (t : BlockId) (a : State) (f : Fits t a) (p : ℕ) (ready : Bool)
   how_many-raised = ap length (living-made 0 a.roll a.lease) ∙ length-append (living 0 a.roll)
       ((0 + length a.roll) ∷ [])
 
-  -- a new owner, whose number is how many there ever were
-  pub fits-raised : (by : ℕ) → MayFollow t.most began h (Up by (length a.roll))
-      → Fits t (wrote a p ready (Up by (length a.roll)) raised)
-  fits-raised by may = let new = length a.roll in let e = Up by new in record {
+  -- an entry that makes an owner, whose number is how many there ever were
+  pub fits-made : (e : Entry) → owner_made e ≡ Some (length a.roll) → owner_ended e ≡ None
+      → MayFollow t.most began h e → how_many a.roll < t.most → Fits t (wrote a p ready e raised)
+  fits-made e made ends may below = let new = length a.roll in record {
     legal = legal-wrote e may;
     live = ap live_owners (entries-append a.lines p e)
-        ∙ (grown h e new refl refl may.1 (legal-owned t.most began h f.legal)
+        ∙ (grown h e new made ends never (legal-owned t.most began h f.legal)
         ∙ (ap (λ (ns : List ℕ). ns ++ new ∷ []) f.live
         ∙ sym (living-made 0 a.roll a.lease ∙ ap (λ (n : ℕ). living 0 a.roll ++ n ∷ [])
         (let z : 0 + new ≡ new = omega arith in z))));
     ever = ap owners_ever (entries-append a.lines p e)
-        ∙ (ever-append h e ∙ (ap (λ (ns : List ℕ). ns ++ new ∷ []) f.ever
+        ∙ (ever-append h e ∙ (ap (λ m. owners_ever h ++ cons_option m []) made
+        ∙ (ap (λ (ns : List ℕ). ns ++ new ∷ []) f.ever
         ∙ (ap (λ (n : ℕ). upto 0 new ++ n ∷ []) (let z : new ≡ 0 + new = omega arith in z)
         ∙ (upto-more 0 new
         ∙ ap (upto 0) (sym (length-append a.roll ((true, a.lease) ∷ [])
-        ∙ (let z : new + 1 ≡ suc new = omega arith in z)))))));
+        ∙ (let z : new + 1 ≡ suc new = omega arith in z))))))));
     made = made-wrote e raised;
     leased = raised-leased;
-    within = (let below : length (live_owners h) < t.most = may.3 in
-        omega (arith, how_many-raised, ap length f.live));
+    within = omega (arith, how_many-raised);
+    least = f.least;
+    small = f.small;
+  }
+
+  pub fits-raised : (by : ℕ) → MayFollow t.most began h (Up by (length a.roll))
+      → Fits t (wrote a p ready (Up by (length a.roll)) raised)
+  fits-raised by may = let below : length (live_owners h) < t.most = may.3 in
+      fits-made (Up by (length a.roll)) refl refl may (omega (arith, ap length f.live))
+
+  -- the pass stands so, ready or not
+  abbrev pub reseated : Bool → State
+  reseated r = record {
+    lines = a.lines;
+    roll = a.roll;
+    seats = seat_set a.seats p r (made_by p a.lines);
+    lease = a.lease;
+  }
+
+  made-reseated : (r : Bool) (j : ℕ) → (seat_of (reseated r).seats j).1.1 ≡ made_by j a.lines
+  made-reseated r j = let s : Bool × Seat = (true, (r, made_by p a.lines)) in
+      elim (cases_Bool (eqb p j)) [
+        | inl same ↦
+            subst (λ (i : ℕ). (seat_of (reseated r).seats i).1.1 ≡ made_by i a.lines)
+            (eqb-true p j same)
+            (ap (λ (x : Bool × Seat). x.1.1) (get-set a.seats p s (false, fresh_seat) seated))
+        | inr other ↦ ap (λ (x : Bool × Seat). x.1.1)
+            (get-set_other a.seats p j s (false, fresh_seat) (eqb-false p j other)) ∙ f.made j
+      ]
+
+  pub fits-reseated : (r : Bool) → Fits t (reseated r)
+  fits-reseated r = record {
+    legal = f.legal;
+    live = f.live;
+    ever = f.ever;
+    made = made-reseated r;
+    leased = f.leased;
+    within = f.within;
+    least = f.least;
     small = f.small;
   }
 
@@ -213,6 +254,7 @@ module _ (t : BlockId) (a : State) (f : Fits t a) (p : ℕ) (ready : Bool)
     made = made-wrote e (lowered o);
     leased = lowered-leased o low;
     within = omega (arith, f.within, how_many-lowered o l is);
+    least = f.least;
     small = f.small;
   }
 

@@ -33,6 +33,8 @@ use Rattle.arc_owners.specs.declared.history.entry.Entry.{Entry}
 use Rattle.arc_owners.specs.count.Invariant.{BlockId, Line, Lease, known, right, stake, word_shares}
 use Rattle.arc_owners.specs.count.Invariant.{right_owns, right_shares, right_shown, trace_owns}
 use Rattle.arc_owners.specs.count.Invariant.{end_tokens, trace_shares, word_borrow}
+use Rattle.arc_owners.specs.count.Leads.{pending}
+use Rattle.arc_owners.specs.contracts.lone.loose.PendingCount as PendingCount
 use Rattle.arc_owners.specs.contracts.count.word.OwnerToken as OwnerToken
 use Rattle.arc_owners.specs.contracts.count.word.PassState as PassState
 use Rattle.arc_owners.specs.contracts.count.word.EndTokens as EndTokens
@@ -75,6 +77,9 @@ an_owner R held t o l born = record {
 
 abbrev pub no_owner : (R : RattleType) → (Own R).Denot → (Own R).Denot
 no_owner R h = an_owner R false h.block h.owner h.lease h.born
+
+abbrev pub no_count : PendingCount.the_row.Denot → PendingCount.the_row.Denot
+no_count h = record h { marker = record {}; held = false }
 
 abbrev pub an_end : Bool → Lease → EndTokens.the_row.Denot
 an_end last l = record { marker = record {}; last = last; lease = l }
@@ -131,6 +136,34 @@ module _ {M : Type 1} {𝓤 : Ura M} {𝓛 : Logic 𝓤} {K : Type 0} {Γ : List
   ends_in t z b o was h = step (λ s. swaps t z EndTokens.the_row
       (λ vs. (Token unit).own_val (record {}, tt) vs)
       (λ e. end_tokens e.lease e.last) (λ e vs. refl) b o was h $ drop t $ s)
+
+  swaps_count : K → Soaks G → {κ : Lft} {q : Share} {γ : GName} (b o : ℕ)
+      (h h' : PendingCount.the_row.Denot)
+      → Step K 𝓛 (‵ (pending h.held h.receipts h.at h.number)
+      ∷ ‵ (fobs γ (PendingCount.the_row.coded.code h'))
+      ∷ ‵ (fbor κ (Body (mem PendingCount.the_row) b o γ)) ∷ ‵ (flft κ q) ∷ Γ) G
+      (‵ (pending h'.held h'.receipts h'.at h'.number) ∷ ‵ (fobs γ (PendingCount.the_row.coded.code h))
+      ∷ ‵ (fbor κ (Body (mem PendingCount.the_row) b o γ)) ∷ ‵ (flft κ q) ∷ Γ) G
+  swaps_count t z b o h h' = swaps t z PendingCount.the_row
+      (λ vs. (Token unit).own_val (record {}, tt) vs)
+      (λ c. pending c.held c.receipts c.at c.number) (λ c vs. refl) b o h h'
+
+  pub count_out : K → Soaks G → {κ : Lft} {q : Share} {γ : GName} (b o : ℕ)
+      (h : PendingCount.the_row.Denot)
+      → Step K 𝓛 (‵ (pending h.held h.receipts h.at h.number)
+      ∷ ‵ (fobs γ (PendingCount.the_row.coded.code (no_count h)))
+      ∷ ‵ (fbor κ (Body (mem PendingCount.the_row) b o γ)) ∷ ‵ (flft κ q) ∷ Γ) G
+      (‵ (fobs γ (PendingCount.the_row.coded.code h))
+      ∷ ‵ (fbor κ (Body (mem PendingCount.the_row) b o γ)) ∷ ‵ (flft κ q) ∷ Γ) G
+  count_out t z b o h = step (λ s. nothing t $ swaps_count t z b o h (no_count h) $ s)
+
+  pub count_in : K → Soaks G → {κ : Lft} {q : Share} {γ : GName} (b o : ℕ)
+      (was h : PendingCount.the_row.Denot)
+      → Step K 𝓛 (‵ (fobs γ (PendingCount.the_row.coded.code h))
+      ∷ ‵ (fbor κ (Body (mem PendingCount.the_row) b o γ)) ∷ ‵ (flft κ q) ∷ Γ) G
+      (‵ (pending h.held h.receipts h.at h.number) ∷ ‵ (fobs γ (PendingCount.the_row.coded.code was))
+      ∷ ‵ (fbor κ (Body (mem PendingCount.the_row) b o γ)) ∷ ‵ (flft κ q) ∷ Γ) G
+  count_in t z b o was h = step (λ s. swaps_count t z b o was h $ drop t $ s)
 
   -- what the function answers
   pub answered : K → (n : ℕ) → n < 2 ^ 64
@@ -276,22 +309,22 @@ module _ {M : Type 1} {𝓤 : Ura M} (𝓛 : Logic 𝓤) (𝓜 : Model 𝓤 𝓛
         let out : ℕ → Fml = λ n. fsep (flft κ₀ q₀) (after n) in
         qed 𝓛 (‵ (word_shares t (block_ptr b o) κ₀) ∷ ‵ (flft κ₀ q₀) ∷ ‵ (T seen) ∷ ‵ R ∷ ‵ owed
         ∷ []) ∵ updating ! $
-        fpick ! (λ z. fsplit3 ! $ move ! (1 ∷ []) $ fpick ! (λ past. drop ! $
-        -- [the lifetimes; the word's invariant; the token; the pass; the right; what is owed]
+        fpick ! (λ z. fsplit ! $
+        -- [the lifetimes; the word's borrow; the token; the pass; the right; what is owed]
         move ! (0 ∷ 2 ∷ []) $ use2 𝓛 (later (some (λ (s : Share). ‵ (flft z.0 s)
         ⊛ raw (At.lft z.0 s -∗ H.⇛ (At.lft κ₀ q₀)))))
         (Lends-one 𝓛 𝓜 𝓡 κ₀ z.0 q₀) $ await ! tt $ pick ! (λ s. split ! $
         let held : ℕ → Fml = λ n. fsep (flft z.0 s) (after n) in
         let Back : Pr = At.lft z.0 s -∗ H.⇛ (At.lft κ₀ q₀) in
-        -- [the word's token; its way back; the word's invariant; the pass; the right; what is owed]
+        -- [the word's token; its way back; the word's borrow; the pass; the right; what is owed]
         move ! (2 ∷ 0 ∷ 3 ∷ 4 ∷ 5 ∷ []) $ group ! 5 $ use1 𝓛 (raw (Answers held))
-        (via 𝓤 _ (places.by_reference 𝓛 t p ready seen own l q owed op steps z.0 s z.1 b o past)
+        (via 𝓤 _ (places.by_reference 𝓛 t p ready seen own l q owed op steps z.0 s z.1 b o)
         (calls held)) $
         use2 𝓛 (raw (Answers out)) (carries held out Back (λ n. qed 𝓛 (‵ (held n) ∷ raw Back ∷ []) ∵
         updating ! $
         fsplit ! $ move ! (0 ∷ 2 ∷ []) $ use2 𝓛 (later (‵ (flft κ₀ q₀)))
         (apply∗ 𝓤 (At.lft z.0 s) (H.⇛ (At.lft κ₀ q₀))) $
-        await ! tt $ now ! $ fjoin ! $ done !)) $ now ! $ done !)))
+        await ! tt $ now ! $ fjoin ! $ done !)) $ now ! $ done !))
 
     -- the same of an owner that is borrowed itself, with a share of its right
     pub borrowed : (next : ℕ → ℕ) (entry : ℕ → List Line → Option Entry) (gain : Share → ℕ

@@ -23,7 +23,8 @@ use Rattle.arc_owners.specs.count.Calls.{RefusesOwner, Leaves, HasCountIn, IsFir
 use Rattle.arc_owners.specs.count.Calls.{IsPassOf, IsNewPass, IsSamePass, mine, seen}
 use Rattle.arc_owners.proofs.history.Legality.{legal-at, legal-front}
 use Rattle.arc_owners.proofs.history.Owned.{live-same, live-ended, ever-append}
-use Rattle.arc_owners.proofs.history.Steps.{counted-more}
+use Rattle.arc_owners.proofs.history.LoneWords.{counted-after}
+pub use Rattle.arc_owners.proofs.history.LoneWords.{promoted-counted}
 use Rattle.arc_owners.proofs.history.Told.{Owned, grown, legal-owned}
 use Rattle.arc_owners.proofs.count.Calls.{begins_counted}
 use Rattle.arc_owners.proofs.count.Rolls.{entries-after, made-after}
@@ -43,15 +44,6 @@ made-others p [] all = refl
 made-others p (l ∷ ls) all =
     rw (ne_eqb l.0 p (All-head (λ (x : Line). ¬ (x.0 ≡ p)) l ls all))
     (made-others p ls (All-tail (λ (x : Line). ¬ (x.0 ≡ p)) l ls all))
-
--- a word that has a count keeps it
-counted-after : (began : Beginning) (h more : List Entry) → is_counted began h ≡ true
-    → is_counted began (h ++ more) ≡ true
-counted-after began h [] c =
-    subst (λ (es : List Entry). is_counted began es ≡ true) (sym (append-nil h)) c
-counted-after began h (e ∷ more) c =
-    subst (λ (es : List Entry). is_counted began es ≡ true) (append_assoc h (e ∷ []) more)
-    (counted-after began (h ++ e ∷ []) more (counted-more began h e c))
 
 -- a word that began with a count has one after every history
 pub counted_ever : (t : BlockId) (h : List Entry) → HasCountIn t [] → HasCountIn t h
@@ -115,12 +107,6 @@ unjoined : {H : Type 0} (o : Owner) {old middle : Pass H} → HasCountIn o.block
     → MayJoin o old middle → middle ≡ old
 unjoined o c (inl same) = same
 unjoined o c (inr joined) = absurd (false≢true (sym joined.1 ∙ c))
-
-pub promoted-counted : (b : Beginning) (h : List Entry) → IsTrue (is_promoted h)
-    → is_counted b h ≡ true
-unfolding is_counted
-promoted-counted Counted h p = refl
-promoted-counted Lone h p = p
 
 -- a pass whose exchange was lost knows since that the word has a count
 joined-counted : {H : Type 0} (o : Owner) {old new : Pass H} {before : List Line}

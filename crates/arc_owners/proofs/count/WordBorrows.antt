@@ -2,6 +2,7 @@
 -- invariant whose number is past the invariant's. Assumes `Logic`.
 use Rattle.std.proofs.Common.{ℕ, zero, ◌+◌, ◌<◌, ◌≤◌, List, [], ◌∷◌, sym, refl, arith, add-zero}
 use Rattle.std.proofs.Common.{subst}
+use mathlib.Core.Option.{none}
 use seplogic.Ra.Ura.{Ura}
 use mir.Syntax.{ty_struct}
 use mir.Val.{Val}
@@ -24,7 +25,7 @@ use Rattle.core.specs.Sync.RawAtomic.{word}
 use Rattle.core.proofs.cell.Borrows.{flag}
 use Rattle.core.proofs.tally.Steps.{word_in, word_out}
 use Rattle.arc_owners.specs.count.Invariant.{BlockId, behind, lies, counting, word_borrow_as}
-use Rattle.arc_owners.specs.count.Invariant.{word_borrow_for}
+use Rattle.arc_owners.specs.count.Invariant.{word_borrow_for, Borrowing}
 use Rattle.arc_owners.specs.contracts.count.word.Word as C
 use Rattle.arc_owners.proofs.count.Signs.{signs}
 
@@ -99,5 +100,7 @@ module _ {M : Type 1} {𝓤 : Ura M} (𝓛 : Logic 𝓤) (t : BlockId) (b o : �
       use1 𝓛 (‵ (fbor κ I) ⊛ ‵ ftrue) (id⊢ 𝓤 _) $ split ! $
       use1 𝓛 (later (some (λ (j : ℕ). given (t.number + 1 ≤ j) (‵ (fnamed j (fbor κ I))))))
       (named_past 𝓛 (t.number + 1) (fbor κ I)) $ await ! tt $ pick ! (λ j. learn ! (λ past.
+      nothing ! $ fjoin ! $
       nothing ! $ fpack ! (t.number < j) (λ _. ftrue) (omega arith) $ fjoin ! $
-      fpack ! ℕ (word_borrow_as t b o κ) j $ now ! $ keep ! (0 ∷ 2 ∷ []) $ done !)))
+      fpack ! Borrowing (word_borrow_as t b o κ) (j, none) $ now ! $ keep ! (0 ∷ 2 ∷ []) $
+      done !)))

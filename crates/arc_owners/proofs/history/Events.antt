@@ -14,6 +14,7 @@ use Rattle.arc_owners.specs.history.Histories.{owners_ended, live_owners, is_cou
 use Rattle.arc_owners.specs.history.Histories.{IsLegal, NeverLived}
 use Rattle.arc_owners.specs.history.Machine.{Machine, is_fresh, changed, without_number}
 use Rattle.arc_owners.specs.history.Agreement.{Tells, IsOneEvent, IsEndWithoutStep, IsOneStep}
+use Rattle.arc_owners.proofs.history.LoneWords.{promoted-counted}
 use Rattle.arc_owners.proofs.history.Numbers.{length-without, times-in}
 use Rattle.arc_owners.proofs.history.Owned.{live-same, live-ended}
 use Rattle.arc_owners.proofs.history.Steps.{one_is, counted-more, counted-won}
@@ -205,11 +206,6 @@ module _ (most : ℕ) (began : Beginning) (h : List Entry) (legal : IsLegal most
     ap (λ (es : List Entry). es ++ Down owner ∷ []) (sym t.entries),
   )
 
-  promoted-counted : (b : Beginning) → is_promoted h ≡ true → is_counted b h ≡ true
-  unfolding is_counted
-  promoted-counted Counted p = refl
-  promoted-counted Lone p = p
-
   -- each entry that may follow is one step, on a word with a count and on a lone one
   pub one_step : (e : Entry) → MayFollow most began h e → IsOneStep most began h e
   one_step (Up by new) may = inl (one-up most began h legal may.2 by new may)
@@ -220,4 +216,4 @@ module _ (most : ℕ) (began : Beginning) (h : List Entry) (legal : IsLegal most
   ]
   one_step (Alone by found) may = inl (one-look most began h legal may.1 by found may)
   one_step (Promote by new) may = inl (one-won by new may)
-  one_step (Joined by) may = inl (one-lost most began h legal (promoted-counted began may.1) by may)
+  one_step (Joined by) may = inl (one-lost most began h legal (promoted-counted began h may.1) by may)

@@ -50,7 +50,7 @@ nothing_after_last most began h legal before (e ∷ after) split none =
     split))
 
 pub alone_is_exact : (most : ℕ) (began : Beginning) (h : List Entry) → IsLegal most began h
-    → AloneIsExact h
+    → AloneIsExact most h
 alone_is_exact most began h legal before after by found split =
     (legal-at most began h before (Alone by found) after legal split).2
 
@@ -239,7 +239,7 @@ legal-owned most began h legal =
     owned-after most began [] h owned-none (legal-after most began h legal)
 
 pub released_by_last : (most : ℕ) (began : Beginning) (h : List Entry) → IsLegal most began h
-    → ReleasedByLast h
+    → ReleasedByLast most h
 released_by_last most began h legal before after entry split none =
     released most began before entry
     (legal-owned most began before (legal-front most began h before (entry ∷ after) legal split))
@@ -265,7 +265,7 @@ last-of e (next ∷ h) = let rest = last-of next h in
 
 -- of owners that have all ended one was the last
 pub one_is_last : (most : ℕ) (began : Beginning) (h : List Entry) → IsLegal most began h
-    → live_owners h ≡ [] → OneIsLast h
+    → live_owners h ≡ [] → OneIsLast most h
 one_is_last most began [] legal none =
     absurd (omega (arith, one-lives, ap length none))
 one_is_last most began (e ∷ h) legal none =

@@ -30,7 +30,7 @@ use denote.Param.Laws.{Laws, param_laws}
 use denote.Steps.{nothing}
 use denote.Struct.Members.{Member, rows_of, parts_at, raw_tys, lawful_Lones}
 use denote.Struct.Parts.{Struct-left, left_Struct}
-use Rattle.arc_owners.specs.count.Invariant.{BlockId, lent, word_borrow_for}
+use Rattle.arc_owners.specs.count.Invariant.{BlockId, lent, word_borrow_for, Borrowing}
 use Rattle.arc_owners.specs.contracts.count.word.Word as Word
 use Rattle.arc_owners.specs.contracts.memory.inner.Inner as Inner
 use Rattle.arc_owners.proofs.count.Shared.{word_borrow_twice}
@@ -179,7 +179,7 @@ module _ (T : RattleType) (L : Laws T) {M : Type 1} {𝓤 : Ura M} (𝓛 : Logic
         ∵ use1 𝓛 (‵ Lodged ⊛ ‵ Lodged) (word_borrow_twice 𝓛 t (block_ptr b o) a) $ split ! $
         rewrite ! 0 (λ (x : ℕ). ‵ (word_borrow_for t b x α)) (sym (add-zero o)) refl $ fpick ! (λ j.
         use0 𝓛 (‵ (before α α)) (before-Incl 𝓛 α α (Incl-refl α)) $ fjoin ! $
-        fpack ! (Lft × ℕ) (lent t b (o + word_at T) α) (α, j) $
+        fpack ! (Lft × Borrowing) (lent t b (o + word_at T) α) (α, j) $
         -- [the word; its borrow; the value; the rest]
         move ! (2 ∷ []) $ nothing ! $ move ! (1 ∷ 0 ∷ []) $ fjoin ! $ move ! (1 ∷ 0 ∷ []) $
         fjoin ! $ move ! (0 ∷ 2 ∷ []) $ fjoin ! $ move ! (1 ∷ 0 ∷ []) $ done !)

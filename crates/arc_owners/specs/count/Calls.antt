@@ -1,7 +1,7 @@
 -- What contracts read in a count, in an owner and in a pass, and what a call adds to a block's
 -- history.
 use Rattle.std.specs.Prelude.{◌≡◌, ℕ, Bool, true, false, List, [], ◌∷◌, ◌++◌, length, map, IsTrue}
-use Rattle.std.specs.Prelude.{◌↔◌, ◌⊎◌, if◌then◌else◌, All}
+use Rattle.std.specs.Prelude.{◌↔◌, ◌⊎◌, if◌then◌else◌, All, not}
 use mathlib.Core.List.{IsPrefix}
 use Rattle.arc_owners.specs.declared.mark.Mark.{Ghosts}
 use Rattle.arc_owners.specs.declared.history.entry.Entry.{Entry}
@@ -115,7 +115,7 @@ module _ {H : Type 0} where
     pub kept : IsPrefix (history_of old) (history_of new)
     pub own : mine new ≡ mine old
     pub undisturbed : o.block.whole ≡ true → history_of new ≡ history_of old
-    pub alone : IsAlone o.number (seen new)
+    pub alone : IsAlone o.block.most o.number (seen new)
 
   -- Uniqueness was read. The answer is yes exactly where no other owner lived. On a lone word it is
   -- yes, and no entry is added.
@@ -123,7 +123,23 @@ module _ {H : Type 0} where
     pub before : List Line
     pub added : Appends o.block old new before
         (if is_counted o.block.began (entries_of before) then Alone o.number found ∷ [] else [])
-    pub exact : IsTrue found ↔ IsAlone o.number (entries_of before)
+    pub exact : IsTrue found ↔ IsAlone o.block.most o.number (entries_of before)
+
+  -- The word was loaded: after all that the pass has seen it is lone, or it has a count. The pass
+  -- added nothing; one that found the word lone is ready, and may try to promote it.
+  pub record Looks (o : Owner) (old new : Pass H) (lone : Bool) : Type 0 where
+    pub added : Appends o.block old new (history_of new) []
+    pub told : is_counted o.block.began (seen new) ≡ not lone
+    pub ready : lone ≡ true → new.trace.ready ≡ true
+
+  -- a pass that has found the word lone
+  abbrev pub IsReady : Pass H → Type 0
+  IsReady p = p.trace.ready ≡ true
+
+  -- the exchange that promotes a lone word lost
+  pub record Joins (o : Owner) (old new : Pass H) : Type 0 where
+    pub before : List Line
+    pub added : Appends o.block old new before (Joined o.number ∷ [])
 
   -- No entry was added; or the exchange that promotes a lone word lost, where the pass didn't know
   -- that the word has a count.
@@ -169,7 +185,7 @@ module _ {H : Type 0} where
   pub record Leaves (o : Owner) (old new : Pass H) (last : Bool) : Type 0 where
     pub before : List Line
     pub added : Appends o.block old new before (Down o.number ∷ [])
-    pub exact : IsTrue last ↔ IsAlone o.number (entries_of before)
+    pub exact : IsTrue last ↔ IsAlone o.block.most o.number (entries_of before)
 
   -- this owner asked, was alone, and ended as the last one
   pub record TakesBlock (o : Owner) (old new : Pass H) : Type 0 where

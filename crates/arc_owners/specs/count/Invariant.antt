@@ -19,6 +19,7 @@ use types.Keyed.{entry, entries_from, ticket}
 use types.RcWeak.{part, rest}
 use denote.RawPtr.{Ptr, block_ptr, null_ptr}
 use Rattle.core.specs.Sync.RawAtomic.{word}
+use Rattle.core.specs.Sync.RawAtomic.Pointer.{cell}
 use Rattle.arc_owners.specs.count.LentNotes.{LentNote, note_coded, no_note}
 use Rattle.arc_owners.specs.declared.history.entry.Entry.{Entry}
 use Rattle.arc_owners.specs.declared.history.entry.Entry.TheVariants.{Up, Full}
@@ -39,8 +40,8 @@ beginning_told Counted Counted e = refl
 abbrev pub beginning_coded : Coded Beginning
 beginning_coded = coded_via coded_bool begins_counted beginning_told
 
--- which block it is: the number of its invariant, the ghost names in it, and what is fixed when it
--- begins
+-- which block it is: the number of its invariant, the ghost names in it, the number of its bank
+-- with the name of the receipts for what lies there, and what is fixed when it begins
 pub record BlockId : Type 0 where
   pub number : ℕ
   pub history : ℕ
@@ -48,6 +49,8 @@ pub record BlockId : Type 0 where
   pub passes : ℕ
   pub count : ℕ
   pub place : ℕ
+  pub bank : ℕ
+  pub receipts : ℕ
   pub most : ℕ
   pub began : Beginning
   pub whole : Bool
@@ -55,7 +58,8 @@ pub record BlockId : Type 0 where
 abbrev pub block_id_coded : Coded BlockId
 block_id_coded = coded_via
     (coded× coded_ℕ (coded× coded_ℕ (coded× coded_ℕ (coded× coded_ℕ (coded× coded_ℕ
-    (coded× coded_ℕ (coded× coded_ℕ (coded× beginning_coded coded_bool))))))))
+    (coded× coded_ℕ (coded× coded_ℕ (coded× coded_ℕ (coded× coded_ℕ
+    (coded× beginning_coded coded_bool))))))))))
     (λ (t : BlockId). (
       t.number,
       (
@@ -66,7 +70,7 @@ block_id_coded = coded_via
             t.passes,
             (
               t.count,
-              (t.place, (t.most, (t.began, t.whole))),
+              (t.place, (t.bank, (t.receipts, (t.most, (t.began, t.whole))))),
             ),
           ),
         ),
@@ -79,9 +83,11 @@ block_id_coded = coded_via
       passes = (e i).1.1.1.0;
       count = (e i).1.1.1.1.0;
       place = (e i).1.1.1.1.1.0;
-      most = (e i).1.1.1.1.1.1.0;
-      began = (e i).1.1.1.1.1.1.1.0;
-      whole = (e i).1.1.1.1.1.1.1.1;
+      bank = (e i).1.1.1.1.1.1.0;
+      receipts = (e i).1.1.1.1.1.1.1.0;
+      most = (e i).1.1.1.1.1.1.1.1.0;
+      began = (e i).1.1.1.1.1.1.1.1.1.0;
+      whole = (e i).1.1.1.1.1.1.1.1.1.1;
     })
 
 -- an entry, with the number of the pass that made it
@@ -213,6 +219,7 @@ pub record FitsFor (most : ℕ) (began : Beginning) (a : State) : Type 0 where
   pub leased : (o : ℕ) (l : Lease) → slice_index_or a.roll o (false, no_lease) ≡ (true, l)
       → l ≡ a.lease
   pub within : how_many a.roll ≤ most
+  pub least : 2 ≤ most
   pub small : most < 2 ^ 64
 
 -- the state is true of the block
@@ -228,6 +235,10 @@ pooled false l n = told (n ≡ 0)
 abbrev pub pool : Lease → ℕ → Fml
 pool l zero = ftrue
 pool l (suc n) = pooled l.is_lent l n
+
+-- why a share of the lifetime may be an owner's: it is one of the parts that are counted
+abbrev pub IsStake : Share → Type 0
+IsStake e = Counts 64 e 1
 
 -- what an owner has of the lifetime
 abbrev pub staked : Bool → Lease → Fml
@@ -279,6 +290,61 @@ lies t b o n = fsep (word b o n) (behind t n)
 abbrev pub counting : BlockId → ℕ → ℕ → Fml
 counting t b o = fex ℕ (lies t b o)
 
+-- A block that began lone has a cell in place of a word: null while it is lone, and then for good
+-- the place of the count.
+abbrev pub placed : BlockId → Share → Option (ℕ × ℕ) → Fml
+placed t q x = latest places q t.place x
+
+abbrev pub pointer : Option (ℕ × ℕ) → Ptr
+pointer none = null_ptr
+pointer (some x) = block_ptr x.0 x.1
+
+abbrev pub place_coded : Coded (ℕ × ℕ)
+place_coded = coded× coded_ℕ coded_ℕ
+
+-- a receipt for the right to free the memory at a place. That right has a type, the receipt has
+-- none
+abbrev pub receipt : ℕ → ℕ → ℕ × ℕ → Fml
+receipt δ k x = ghost_var place_coded δ k quarter x
+
+-- the rights that lie in a bank, which was made for the memory of one allocator
+abbrev pub laid : (ℕ × ℕ → Fml) → List (Bool × (ℕ × ℕ)) → Fml
+laid right [] = ftrue
+laid right ((true, x) ∷ xs) = fsep (right x) (laid right xs)
+laid right ((false, x) ∷ xs) = laid right xs
+
+abbrev pub banked_as : (ℕ × ℕ → Fml) → ℕ → List (Bool × (ℕ × ℕ)) → Fml
+banked_as right δ xs = fsep (row place_coded (0, 0) δ 0 xs) (laid right xs)
+
+abbrev pub banked : (ℕ × ℕ → Fml) → ℕ → Fml
+banked right δ = fex (List (Bool × (ℕ × ℕ))) (banked_as right δ)
+
+-- what lies behind the cell: while it is lone, what the invariant lacks of a count of one owner;
+-- then the count, whose place can be compared with null, and a receipt for its memory
+abbrev pub pointed : BlockId → Option (ℕ × ℕ) → Fml
+pointed t none = counted_as t quarter 1
+pointed t (some x) = fsep (told (x.1 < 2 ^ 63))
+    (fsep (fex ℕ (λ k. receipt t.receipts k x)) (counting t x.0 x.1))
+
+abbrev pub cell_holds : BlockId → Option (ℕ × ℕ) → Fml
+cell_holds t x = fsep (placed t quarter x) (pointed t x)
+
+abbrev pub cell_lies : BlockId → ℕ → ℕ → Option (ℕ × ℕ) → Fml
+cell_lies t b o x = fsep (cell b o (pointer x)) (cell_holds t x)
+
+abbrev pub cell_at : BlockId → ℕ → ℕ → Fml
+cell_at t b o = fex (Option (ℕ × ℕ)) (cell_lies t b o)
+
+-- whose borrow leads to the count at this place: the count's own, or that of the cell with its
+-- pointer
+abbrev pub borrowed : BlockId → ℕ → ℕ → Option (ℕ × ℕ) → Fml
+borrowed t b o none = counting t b o
+borrowed t b o (some c) = cell_at t c.0 c.1
+
+abbrev pub leads : BlockId → ℕ → ℕ → Option (ℕ × ℕ) → Fml
+leads t b o none = ftrue
+leads t b o (some c) = at_least places t.place (some (b, o))
+
 -- the invariant, and a beginning of its history: what can be had twice
 abbrev pub known : BlockId → List Line → Fml
 known t ls = fsep (fnamed t.number (contents t)) (history_at_least t ls)
@@ -291,7 +357,7 @@ share_owns t o l born = fsep (known t born) (fsep (right t o l quarter) (stake l
 -- share of the lifetime that part is
 abbrev pub right_without : BlockId → ℕ → Lease → List Line → Share → Fml
 right_without t o l born e = fsep (known t born)
-    (fsep (right t o l quarter) (told (Counts 64 e 1)))
+    (fsep (right t o l quarter) (told (IsStake e)))
 
 -- what a pass of a block has: the invariant, what it has seen, and its seat, with what it has made
 -- of that
@@ -343,21 +409,40 @@ abbrev pub claim_gain : BlockId → ℕ → Lease → Bool → Fml
 claim_gain t o l y = fsep (right t o (lease_after l y) quarter)
     (fsep (stake (lease_after l y)) (end_tokens l y))
 
--- a `&` to the word: an invariant over a borrow of it, whose number is past the invariant's
-abbrev pub lent : BlockId → ℕ → ℕ → Lft → Lft × ℕ → Fml
-lent t b o κ z = fsep (before κ z.0)
-    (fsep (told (t.number < z.1)) (fnamed z.1 (fbor z.0 (counting t b o))))
-
-abbrev pub word_shares : BlockId → Ptr → Lft → Fml
-word_shares t (block_ptr b o) κ = fex (Lft × ℕ) (lent t b o κ)
-word_shares t null_ptr κ = ffalse
+-- a borrow of the word: the number of the invariant behind which it stands, and the cell that leads
+-- to the word, if one does
+abbrev pub Borrowing : Type 0
+Borrowing = ℕ × Option (ℕ × ℕ)
 
 -- a borrow of the word stands behind an invariant whose number is past the invariant's
-abbrev pub word_borrow_as : BlockId → ℕ → ℕ → Lft → ℕ → Fml
-word_borrow_as t b o κ j = fsep (told (t.number < j)) (fnamed j (fbor κ (counting t b o)))
+abbrev pub word_borrow_as : BlockId → ℕ → ℕ → Lft → Borrowing → Fml
+word_borrow_as t b o κ j = fsep (told (t.number < j.0))
+    (fsep (leads t b o j.1) (fnamed j.0 (fbor κ (borrowed t b o j.1))))
 
 abbrev pub word_borrow_for : BlockId → ℕ → ℕ → Lft → Fml
-word_borrow_for t b o κ = fex ℕ (word_borrow_as t b o κ)
+word_borrow_for t b o κ = fex Borrowing (word_borrow_as t b o κ)
+
+-- a `&` to the word: such a borrow, for a lifetime that outlasts the reference
+abbrev pub lent : BlockId → ℕ → ℕ → Lft → Lft × Borrowing → Fml
+lent t b o κ z = fsep (before κ z.0) (word_borrow_as t b o z.0 z.1)
+
+abbrev pub word_shares : BlockId → Ptr → Lft → Fml
+word_shares t (block_ptr b o) κ = fex (Lft × Borrowing) (lent t b o κ)
+word_shares t null_ptr κ = ffalse
+
+-- the same of a cell
+abbrev pub cell_borrow_as : BlockId → ℕ → ℕ → Lft → ℕ → Fml
+cell_borrow_as t b o κ j = fsep (told (t.number < j)) (fnamed j (fbor κ (cell_at t b o)))
+
+abbrev pub cell_borrow_for : BlockId → ℕ → ℕ → Lft → Fml
+cell_borrow_for t b o κ = fex ℕ (cell_borrow_as t b o κ)
+
+abbrev pub cell_lent : BlockId → ℕ → ℕ → Lft → Lft × ℕ → Fml
+cell_lent t b o κ z = fsep (before κ z.0) (cell_borrow_as t b o z.0 z.1)
+
+abbrev pub cell_shares : BlockId → Ptr → Lft → Fml
+cell_shares t (block_ptr b o) κ = fex (Lft × ℕ) (cell_lent t b o κ)
+cell_shares t null_ptr κ = ffalse
 
 -- the word lies at this place for as long as the block is lent
 abbrev pub word_borrow : BlockId → Ptr → ℕ → Fml

@@ -1,16 +1,17 @@
 -- What a step says of an owner's right and of the pass that makes it.
 use Rattle.std.specs.Prelude.{◌≡◌, ℕ, ◌+◌, ◌-◌, ◌^◌, ◌<◌, Bool, true, false, List, [], IsTrue, ◌↔◌}
+use Rattle.std.specs.Prelude.{not}
 use mathlib.Core.List.{IsPrefix}
 use Rattle.arc_owners.specs.declared.history.entry.Entry.{Entry}
-use Rattle.arc_owners.specs.declared.history.entry.Entry.TheVariants.{Down}
-use Rattle.arc_owners.specs.history.Histories.{Counted, IsAlone}
+use Rattle.arc_owners.specs.declared.history.entry.Entry.TheVariants.{Down, Promote}
+use Rattle.arc_owners.specs.history.Histories.{Beginning, IsAlone, IsLegal, Lives, is_counted}
 use Rattle.arc_owners.specs.declared.count.word.OwnerToken.{OwnerToken}
 use Rattle.arc_owners.specs.declared.count.word.PassState.{PassState}
 use Rattle.arc_owners.specs.declared.count.word.WordBorrow.{WordBorrow}
 use Rattle.arc_owners.specs.declared.count.owner_without_lifetime.OwnerWithoutLifetime as declared
 use denote.RawPtr.{Ptr}
 use Rattle.arc_owners.specs.count.Invariant.{BlockId, Line, Written, Filled, MadeOne, AddedTo}
-use Rattle.arc_owners.specs.count.Invariant.{entries_of, made_by, Lease, lease_after}
+use Rattle.arc_owners.specs.count.Invariant.{entries_of, made_by, Lease, lease_after, next_owner}
 
 -- the right is held, by an owner of this block
 abbrev pub IsRightOf : {H : Type 0} → BlockId → OwnerToken H → Type 0
@@ -34,12 +35,12 @@ IsWithoutLifetime r w = (w.block ≡ r.block) × (w.owner ≡ r.owner) × (w.lea
 abbrev pub IsOf : BlockId → PassState → Type 0
 IsOf t p = (p.bound ≡ true) × (p.block ≡ t)
 
--- the word of a new block, its first owner, to whom it is lent or not, and a pass that has seen
--- nothing
-abbrev pub IsOpened : {H : Type 0} → ℕ → Bool → Bool → BlockId → OwnerToken H → PassState
-    → Type 0
-IsOpened most whole lent t r p =
-    (t.most ≡ most) × (t.began ≡ Counted) × (t.whole ≡ whole)
+-- the word of a new block, which begins with a count or lone, its first owner, to whom it is lent
+-- or not, and a pass that has seen nothing
+abbrev pub IsOpened : {H : Type 0} → ℕ → Beginning → Bool → Bool → BlockId → OwnerToken H
+    → PassState → Type 0
+IsOpened most began whole lent t r p =
+    (t.most ≡ most) × (t.began ≡ began) × (t.whole ≡ whole)
     × ((r.held ≡ true) × (r.block ≡ t) × (r.lease.is_lent ≡ lent)) × IsOf t p × (r.owner ≡ 0)
     × (r.born ≡ [])
     × (p.number ≡ 0) × (p.ready ≡ false) × (p.lines ≡ [])
@@ -82,7 +83,7 @@ IsNext most old next = old < 2 ^ 64 - 1 → next ≡ next_count most old
 -- this owner ended, and whether it was the last one
 abbrev pub Ends : BlockId → PassState → PassState → ℕ → Bool → Type 0
 Ends t p r o last = (before : List Line) × AddedTo t p.number p.lines (λ _. Down o) before r.lines
-    × (IsTrue last ↔ IsAlone o (entries_of before))
+    × (IsTrue last ↔ IsAlone t.most o (entries_of before))
 
 -- the pass sees the block's whole history, in which this owner lives alone; it added nothing, and
 -- under `Whole` it had seen it all
@@ -90,7 +91,33 @@ abbrev pub SeesSole : {H : Type 0} → OwnerToken H → PassState → PassState 
 SeesSole own p r =
     SamePass own.block p r × IsPrefix p.lines r.lines
     × (made_by p.number r.lines ≡ made_by p.number p.lines)
-    × (own.block.whole ≡ true → r.lines ≡ p.lines) × IsAlone own.owner (entries_of r.lines)
+    × (own.block.whole ≡ true → r.lines ≡ p.lines)
+    × IsAlone own.block.most own.owner (entries_of r.lines)
+
+-- A load of the cell of a block that began lone found the word lone, or its count. The pass has
+-- seen all of the history up to there, and added nothing; one that found the word lone is ready.
+pub record Looked {H : Type 0} (by : OwnerToken H) (p r : PassState) (lone : Bool)
+    : Type 0 where
+  pub same : (r.bound ≡ true) × (r.block ≡ by.block) × (r.number ≡ p.number)
+  pub ready : (lone ≡ true → r.ready ≡ true) × (p.ready ≡ true → r.ready ≡ true)
+  pub kept : IsPrefix p.lines r.lines
+  pub own : made_by p.number r.lines ≡ made_by p.number p.lines
+  pub undisturbed : by.block.whole ≡ true → p.lines ≡ r.lines
+  pub told : is_counted by.block.began (entries_of r.lines) ≡ not lone
+  pub legal : IsLegal by.block.most by.block.began (entries_of r.lines)
+  pub lives : Lives by.owner (entries_of r.lines)
+
+-- the promoting exchange won through this owner, which made another one
+pub record Promoted {H : Type 0} (by : OwnerToken H) (p r : PassState) (new : OwnerToken H)
+    : Type 0 where
+  pub before : List Line
+  pub added : AddedTo by.block p.number p.lines (λ h. Promote by.owner (next_owner h)) before
+      r.lines
+  pub held : new.held ≡ true
+  pub block : new.block ≡ by.block
+  pub owner : new.owner ≡ next_owner before
+  pub lease : new.lease ≡ by.lease
+  pub born : new.born ≡ r.lines
 
 -- a new pass of a block: it has seen these lines, and made nothing
 abbrev pub IsForkOf : BlockId → List Line → PassState → Type 0

@@ -72,9 +72,10 @@ Lives owner history = IsTrue (is_in owner (live_owners history))
 abbrev pub LivesAlone : ℕ → List Entry → Type 0
 LivesAlone owner history = live_owners history ≡ owner ∷ []
 
--- the owner is alone with the block: what a look at the count finds, and what the last one is
-abbrev pub IsAlone : ℕ → List Entry → Type 0
-IsAlone owner history = LivesAlone owner history
+-- the owner is alone with a block that can have so many owners at most: what a look at the count
+-- finds, and what the last one is
+abbrev pub IsAlone : (most owner : ℕ) → List Entry → Type 0
+IsAlone most owner history = LivesAlone owner history
 
 -- the owner never lived
 abbrev pub NeverLived : ℕ → List Entry → Type 0
@@ -89,7 +90,7 @@ MayFollow most began before (Full by) =
     Lives by before × (is_counted began before ≡ true) × (length (live_owners before) ≡ most)
 MayFollow most began before (Down owner) = Lives owner before
 MayFollow most began before (Alone by found) =
-    Lives by before × (is_counted began before ≡ true) × (IsTrue found ↔ IsAlone by before)
+    Lives by before × (is_counted began before ≡ true) × (IsTrue found ↔ IsAlone most by before)
 MayFollow most began before (Promote by new) =
     LivesAlone by before × (is_in new (owners_ever before) ≡ false)
     × (is_counted began before ≡ false)

@@ -18,24 +18,24 @@ abbrev pub NothingAfterLast : List Entry → Type 0
 NothingAfterLast history = (before after : List Entry) → history ≡ before ++ after
     → live_owners before ≡ [] → after ≡ []
 
--- the entry after which no owner lives is the Down of an owner that lived alone
-abbrev pub ReleasedByLast : List Entry → Type 0
-ReleasedByLast history =
+-- the entry after which no owner lives is the Down of an owner that was alone
+abbrev pub ReleasedByLast : ℕ → List Entry → Type 0
+ReleasedByLast most history =
     (before after : List Entry) (entry : Entry) → history ≡ before ++ entry ∷ after
     → live_owners (before ++ entry ∷ []) ≡ []
-    → (owner : ℕ) × (entry ≡ Down owner) × IsAlone owner before
+    → (owner : ℕ) × (entry ≡ Down owner) × IsAlone most owner before
 
--- of owners that have all ended one was the last: he lived alone, and his Down is the history's last
+-- of owners that have all ended one was the last: he was alone, and his Down is the history's last
 -- entry; of no other entry is that so
-pub record OneIsLast (history : List Entry) : Type 0 where
+pub record OneIsLast (most : ℕ) (history : List Entry) : Type 0 where
   pub before : List Entry
   pub owner : ℕ
   pub ends : history ≡ before ++ Down owner ∷ []
-  pub alone : IsAlone owner before
+  pub alone : IsAlone most owner before
   pub only : (earlier later : List Entry) (other : ℕ) → history ≡ earlier ++ Down other ∷ later
-      → IsAlone other earlier → later ≡ []
+      → IsAlone most other earlier → later ≡ []
 
--- uniqueness is found exactly where no other owner lives
-abbrev pub AloneIsExact : List Entry → Type 0
-AloneIsExact history = (before after : List Entry) (by : ℕ) (found : Bool)
-    → history ≡ before ++ Alone by found ∷ after → (IsTrue found ↔ IsAlone by before)
+-- uniqueness is found exactly where the owner is alone
+abbrev pub AloneIsExact : ℕ → List Entry → Type 0
+AloneIsExact most history = (before after : List Entry) (by : ℕ) (found : Bool)
+    → history ≡ before ++ Alone by found ∷ after → (IsTrue found ↔ IsAlone most by before)

@@ -55,6 +55,31 @@ pub(crate) fn try_up<H: Mark>(
     }))
 }
 
+/// A new owner by as many attempts as that takes.
+pub(crate) fn up<H: Mark>(
+    word: &Word,
+    rt: &impl Wait,
+    most: u64,
+    by: &Share<H>,
+    pass: &mut Pass<H>,
+) -> Result<Share<H>, CountFull>
+    requires most { word.now.most ≡ most }
+    requires share { IsOwnerOf word.now by.now }
+    requires pass { IsPassOf word.now pass.old }
+    ensures made { IfOk result (λ s.
+        MakesAnother (owner_of by.now) pass.old pass.new (owner_of s)) }
+    ensures lent { IfOk result (λ s. lease_of s ≡ lease_of by.now) }
+    ensures full { IfErr result (λ _. FindsFull (owner_of by.now) pass.old pass.new) }
+{
+    let leave = RaiseLeave::of(rt);
+    for _ in rt.forever() {
+        if let Some(made) = try_up(word, leave, most, by, pass) {
+            return made;
+        }
+    }
+    unreachable!()
+}
+
 /// What is left by the end of an owner that found this number.
 #[inline(always)]
 pub(crate) fn released(found: u64, last: EndTokens) -> Release

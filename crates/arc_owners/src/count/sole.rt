@@ -53,7 +53,7 @@ impl<const MAX: u64, H: Mark> Owners<MAX, H> {
         ensures sole { (sole_owner result.1).block ≡ block_of result.0 }
         ensures first { IsFirst MAX H.whole Counted (sole_owner result.1) }
         ensures pass { IsFreshPass (sole_owner result.1) result.2 }
-        ensures alone { IsAlone (sole_owner result.1).number (seen result.2) }
+        ensures alone { IsAlone MAX (sole_owner result.1).number (seen result.2) }
     {
         let (word, right, trace) = H::open(Internal, MAX, false);
         (

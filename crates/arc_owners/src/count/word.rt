@@ -106,13 +106,14 @@ impl Word {
     ghost use Rattle.arc_owners.specs.count.Steps.{IsHeld, IsOf, IsNext, IsOpened, SamePass, Wrote};
     ghost use Rattle.arc_owners.specs.count.Steps.{IsRightOf};
     ghost use Rattle.arc_owners.specs.count.Steps.{FullIf, RaisedIf, Ends, Claimed, IsLodged};
+    ghost use Rattle.arc_owners.specs.history.Histories.{Counted};
     ghost use Rattle.std.specs.Prelude.{◌≢◌, ◌≤◌, []};
 
     /// The word of a new block, its one owner's right, and a pass. The block is lent to that owner,
     /// or not.
     pub(crate) fn open<H>(most: u64, whole: bool, lent: bool) -> (Word, OwnerToken<H>, PassState)
-        requires { 1 ≤ most }
-        ensures { IsOpened most whole lent result.0 result.1 result.2 }
+        requires { 2 ≤ most }
+        ensures { IsOpened most Counted whole lent result.0 result.1 result.2 }
     {
         let _ = (most, whole, lent);
         (

@@ -37,9 +37,9 @@ pub fn keeps<const MAX: u64>(events: &[Event])
     ensures nothing_after_last { (began : Beginning) (history : List AnyEntry) →
         RunAgrees MAX began events.now history → NothingAfterLast history }
     ensures released_by_last { (began : Beginning) (history : List AnyEntry) →
-        RunAgrees MAX began events.now history → ReleasedByLast history }
+        RunAgrees MAX began events.now history → ReleasedByLast MAX history }
     ensures alone_is_exact { (began : Beginning) (history : List AnyEntry) →
-        RunAgrees MAX began events.now history → AloneIsExact history }
+        RunAgrees MAX began events.now history → AloneIsExact MAX history }
     // Once no owner lives no event does anything.
     ensures no_event_after_last { (began : Beginning) (later : List AnyEvent) →
         let m = after_events MAX began events.now in
@@ -70,5 +70,5 @@ pub fn is_run<const MAX: u64>(history: &[Entry])
 pub fn one_is_last<const MAX: u64>(history: &[Entry])
     requires legal { (began : Beginning) × IsLegal MAX began history.now }
     requires ended { live_owners history.now ≡ [] }
-    ensures { OneIsLast history.now }
+    ensures { OneIsLast MAX history.now }
 {}

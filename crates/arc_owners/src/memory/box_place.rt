@@ -11,7 +11,7 @@ use std::marker::{Model, PhantomData};
 /// What a box owns, as its pointer: whoever has the allocator besides can have the box again.
 pub(crate) struct BoxPlace<T, A: Allocator> {
     pub(crate) at: *mut T,
-    marker: PhantomData<A>,
+    pub(crate) marker: PhantomData<A>,
     pub(crate) ghost value: { T },
     pub(crate) ghost alloc: { A },
 }

@@ -68,7 +68,7 @@ impl<V: Drop, A: Allocator + Copy, const MAX: u64, H: Mark> SoleBox<V, A, MAX, H
         ensures made { IfOk result (λ r. IsFirst MAX H.whole Counted (sole_in r.0)
             × (sole_value r.0 ≡ value)) }
         ensures pass { IfOk result (λ r. IsFreshPass (sole_in r.0) r.1) }
-        ensures alone { IfOk result (λ r. IsAlone (sole_in r.0).number (seen r.1)) }
+        ensures alone { IfOk result (λ r. IsAlone MAX (sole_in r.0).number (seen r.1)) }
         ensures refused { IfErr result (λ back. back ≡ value) }
     {
         let (owners, sole, pass) = Owners::<MAX, H>::new_sole();

@@ -32,7 +32,7 @@ impl<const MAX: u64, H: Mark> SoleCount<MAX, H> {
         requires { 2 ≤ MAX }
         ensures first { IsFirst MAX H.whole Counted (count_owner result.0) }
         ensures pass { IsFreshPass (count_owner result.0) result.1 }
-        ensures alone { IsAlone (count_owner result.0).number (seen result.1) }
+        ensures alone { IsAlone MAX (count_owner result.0).number (seen result.1) }
     {
         let (owners, sole, pass) = Owners::<MAX, H>::new_sole();
         (SoleCount { owners, sole }, pass)

@@ -5,8 +5,9 @@ ghost use Rattle.std.specs.Prelude.{IfNone, IsTrue, is_some};
 ghost use Rattle.std.specs.Arc.{arc_value};
 ghost use Rattle.arc_owners.specs.count.Calls.{IsPassOfNone};
 ghost use Rattle.arc_block.specs.Block.{buffer_info, raw_info};
-ghost use Rattle.arc_block.specs.Metadata.{IsMetadataAt, IsOnCallers};
-ghost use Rattle.arc_block.specs.Place.{on_block, metadata_at, size_at};
+ghost use Rattle.arc_block.specs.Given.{given_as};
+ghost use Rattle.arc_block.specs.Metadata.{FitsGivenAt, IsMetadataAt, IsOnCallers};
+ghost use Rattle.arc_block.specs.Place.{on_block, buffer_at, metadata_at, size_at};
 ghost use Rattle.arc_block.specs.Table.{reader};
 ghost use Rattle.arc_parts.specs.Window.{IsBufferWhole, IsRawWhole, window_of};
 ghost use Rattle.arc_parts.specs.Steps.{IsPassAt, MakesOver, MakesOverRaw, Begins, TakesAt};
@@ -50,8 +51,8 @@ impl<S: Slice, B: Buffer<S::Item> + Drop, M: Drop, A: Allocator + Copy, H: Mark>
     ) -> Result<Self, (B, Option<M>)>
         requires pass { IsPassOfNone pass.old }
         ensures made { IfOk result (λ parts. MakesOver Counted H.whole
-            (buffer_info false (B.places buffer) (length (B.list buffer)) metadata)
-            (B.list buffer) (window_of parts)) }
+            (buffer_info false (B.places buffer) (length (B.list buffer))
+            (Some (given_as false buffer metadata))) (B.list buffer) (window_of parts)) }
         ensures role { IfOk result (λ parts. parts.role ≡ reader) }
         ensures pass { IfOk result (λ parts. Begins (window_of parts) pass.old pass.new) }
         ensures refused { IfErr result (λ back. (back.0 ≡ buffer) × (back.1 ≡ metadata)
@@ -86,7 +87,8 @@ impl<S: Slice, B: Buffer<S::Item> + Drop, M: Drop, A: Allocator + Copy, H: Mark>
     ) -> Result<Self, Arc<B, A>>
         requires pass { IsPassOfNone pass.old }
         ensures made { IfOk result (λ parts. MakesOverRaw L.RAW H.whole
-            (B.list (arc_value shared)) (window_of parts)) }
+            (B.list (arc_value shared)) (given_as false (arc_value shared) None)
+            (window_of parts)) }
         ensures role { IfOk result (λ parts. parts.role ≡ reader) }
         ensures pass { IfOk result (λ parts. Begins (window_of parts) pass.old pass.new) }
         ensures refused { IfErr result (λ back. (back ≡ shared) × (L.RAW ≡ false)
@@ -103,7 +105,8 @@ impl<S: Slice, B: Buffer<S::Item> + Drop, M: Drop, A: Allocator + Copy, H: Mark>
     /// its own owners. The pass becomes the block's.
     fn try_over_raw_as(alloc: A, shared: Arc<B, A>, pass: &mut Pass<H>) -> Result<Self, Arc<B, A>>
         ensures made { IfOk result (λ parts. MakesOver Counted H.whole
-            (raw_info (length (B.list (arc_value shared)))) (B.list (arc_value shared))
+            (raw_info (length (B.list (arc_value shared)))
+            (Some (given_as false (arc_value shared) None))) (B.list (arc_value shared))
             (window_of parts)) }
         ensures role { IfOk result (λ parts. parts.role ≡ reader) }
         ensures pass { IfOk result (λ parts. Begins (window_of parts) pass.old pass.new) }
@@ -120,11 +123,11 @@ impl<S: Slice, B: Buffer<S::Item> + Drop, M: Drop, A: Allocator + Copy, H: Mark>
     }
 
     /// All items of an `Arc` that is a block by itself, of which there are so many.
-    fn on_shared(alloc: A, shared: SharedBuffer<S::Item, B, A>, end: usize) -> Self
-        requires { end ≡ length shared }
+    fn on_shared(alloc: A, shared: SharedBuffer<S::Item, B, M, A>, end: usize) -> Self
+        requires { end ≡ length shared.items }
         ensures { result ≡ record {
-          items = shared;
-          place = on_block None 0 (raw_info (length shared));
+          items = shared.items;
+          place = on_block None 0 (raw_info (length shared.items) (Some shared.given));
           role = reader;
         } }
     {
@@ -136,6 +139,20 @@ impl<S: Slice, B: Buffer<S::Item> + Drop, M: Drop, A: Allocator + Copy, H: Mark>
         }
     }
 
+    /// What is known of a caller's buffer on which the parts stand, behind an `Arc` or not, fits the
+    /// buffer: the items are a part of its own, and the block has its places. Does nothing: its
+    /// contract is the law.
+    #[tactic(auto, using(crate::proofs::GivenParts::parts_fit))]
+    pub fn known_given(&self)
+        ensures { FitsGivenAt B.list B.places self.now.place self.now.items }
+    {
+        match &self.on {
+            Storage::Block(block) => block.known_given(),
+            Storage::Raw(shared) => shared.known_given(),
+            _ => {}
+        }
+    }
+
     /// The metadata that the block was made with, or `None`.
     pub fn metadata(&self) -> Option<&M>
         ensures some { IfSome result (λ m. metadata_at self.now.place ≡ Some m.now) }
@@ -143,6 +160,7 @@ impl<S: Slice, B: Buffer<S::Item> + Drop, M: Drop, A: Allocator + Copy, H: Mark>
     {
         match &self.on {
             Storage::Block(block) => block.metadata(),
+            Storage::Raw(shared) => shared.metadata(),
             _ => None,
         }
     }
@@ -174,6 +192,7 @@ impl<S: Slice, B: Buffer<S::Item> + Drop, M: Drop, A: Allocator + Copy, H: Mark>
         requires pass { IsPassAt self.place pass.old }
         ensures taken { IfOk result (λ buffer. IsBufferWhole self.items self.place
             × (B.list buffer ≡ self.items) × (B.places buffer ≡ size_at self.place)) }
+        ensures itself { IfOk result (λ buffer. buffer_at self.place ≡ Some buffer) }
         ensures entries { IfOk result (λ _. TakesAt self.place pass.old pass.new) }
         ensures refused { IfErr result (λ parts. (parts ≡ self) × RefusesTaking
             (IsBufferWhole self.items self.place) self.place pass.old pass.new) }
@@ -228,6 +247,8 @@ impl<S: Slice, B: Buffer<S::Item> + Drop, M: Drop, A: Allocator + Copy, H: Mark>
             × LeavesLastAt self.place pass.old pass.new (is_some last)) }
         ensures buffer { IfOk result (λ last. IfSome last (λ buffer.
             (B.list buffer ≡ self.items) × (B.places buffer ≡ size_at self.place))) }
+        ensures itself { IfOk result (λ last. IfSome last (λ buffer.
+            buffer_at self.place ≡ Some buffer)) }
         ensures refused { IfErr result (λ parts. (parts ≡ self)
             × (¬ IsBufferWhole self.items self.place) × (pass.new ≡ pass.old)) }
     {
@@ -286,6 +307,7 @@ impl<S: Slice, B: Buffer<S::Item> + Drop, M: Drop, A: Allocator + Copy, H: Mark>
         requires pass { IsPassAt self.place pass.old }
         ensures taken { IfOk result (λ shared. IsRawWhole self.items self.place
             × (B.list (arc_value shared) ≡ self.items)) }
+        ensures itself { IfOk result (λ shared. buffer_at self.place ≡ Some (arc_value shared)) }
         ensures entries { IfOk result (λ _. TakesAt self.place pass.old pass.new) }
         ensures refused { IfErr result (λ parts. (parts ≡ self) × RefusesTaking
             (IsRawWhole self.items self.place) self.place pass.old pass.new) }
@@ -333,6 +355,8 @@ impl<S: Slice, B: Buffer<S::Item> + Drop, M: Drop, A: Allocator + Copy, H: Mark>
             × LeavesLastAt self.place pass.old pass.new (is_some last)) }
         ensures shared { IfOk result (λ last. IfSome last (λ shared.
             B.list (arc_value shared) ≡ self.items)) }
+        ensures itself { IfOk result (λ last. IfSome last (λ shared.
+            buffer_at self.place ≡ Some (arc_value shared))) }
         ensures refused { IfErr result (λ parts. (parts ≡ self)
             × (¬ IsRawWhole self.items self.place) × (pass.new ≡ pass.old)) }
     {

@@ -2,6 +2,7 @@
 ghost use Rattle.std.specs.Prelude.{◌≡◌, ℕ, ◌≤◌, Bool, List, Option, length, drop};
 ghost use Rattle.arc_owners.specs.count.Calls.{Leaves, Owner};
 ghost use Rattle.arc_owners.specs.declared.count.tokens.Pass.{Pass};
+ghost use Rattle.arc_block.specs.Given.{Given};
 ghost use Rattle.arc_block.specs.Place.{Place, at_owner, moved};
 ghost use Rattle.arc_parts.specs.Steps.{IsPassAt};
 ghost use Rattle.arc_read.specs.Kept.{kept_read, without_metadata};
@@ -84,14 +85,15 @@ impl<
     /// What `kept` of `Buf` tells: after reads the window stands on the same block, as the same
     /// owner, as many places further in as bytes were read. Does nothing: its contract is the law.
     pub fn known_after_reads(&self)
-        ensures place { (n : ℕ) (place : Place (Option Owner) M) (items : List S.Item)
+        ensures place { (n : ℕ) (place : Place (Option Owner) (Given B M)) (items : List S.Item)
             → kept_read self.now.place self.now.items ≡ kept_read place items
             → n ≤ length items → self.now.items ≡ drop n items
             → without_metadata self.now.place ≡ moved n (without_metadata place) }
-        ensures pass { (place : Place (Option Owner) M) (items : List S.Item) (pass : Pass H)
+        ensures pass { (place : Place (Option Owner) (Given B M)) (items : List S.Item)
+            (pass : Pass H)
             → kept_read self.now.place self.now.items ≡ kept_read place items
             → IsPassAt place pass → IsPassAt self.now.place pass }
-        ensures left { (place : Place (Option Owner) M) (items : List S.Item)
+        ensures left { (place : Place (Option Owner) (Given B M)) (items : List S.Item)
             (before after : Pass H)
             → kept_read self.now.place self.now.items ≡ kept_read place items
             → at_owner self.now.place (after ≡ before) (λ o. (last : Bool)

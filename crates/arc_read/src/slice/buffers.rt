@@ -5,8 +5,9 @@ ghost use Rattle.std.specs.Prelude.{IfOk, IfErr, IfSome, IfNone, is_some};
 ghost use Rattle.std.specs.Arc.{arc_value};
 ghost use Rattle.arc_owners.specs.count.Calls.{IsPassOfNone};
 ghost use Rattle.arc_block.specs.Block.{buffer_info};
-ghost use Rattle.arc_block.specs.Metadata.{IsMetadataAt, IsOnCallers};
-ghost use Rattle.arc_block.specs.Place.{nowhere, metadata_at};
+ghost use Rattle.arc_block.specs.Metadata.{FitsGivenAt, IsMetadataAt, IsOnCallers};
+ghost use Rattle.arc_block.specs.Given.{given_as};
+ghost use Rattle.arc_block.specs.Place.{nowhere, buffer_at, metadata_at};
 ghost use Rattle.arc_parts.specs.Window.{IsBufferWhole, IsRawWhole};
 ghost use Rattle.arc_block.specs.Place.{size_at};
 ghost use Rattle.arc_parts.specs.Steps.{IsPassAt, MakesOver, MakesOverRaw, Begins};
@@ -44,8 +45,8 @@ impl<
         L: AnyBufferLayout,
         requires pass { IsPassOfNone pass.old }
         ensures made { IfOk result (λ window. MakesOver Counted H.whole
-            (buffer_info false (B.places buffer) (length (B.list buffer)) metadata)
-            (B.list buffer) window) }
+            (buffer_info false (B.places buffer) (length (B.list buffer))
+            (Some (given_as false buffer metadata))) (B.list buffer) window) }
         ensures pass { IfOk result (λ window. Begins window pass.old pass.new) }
         ensures refused { IfErr result (λ back. (back.0 ≡ buffer) × (back.1 ≡ metadata)
             × (pass.new ≡ pass.old)) }
@@ -73,8 +74,8 @@ impl<
         L: AnyBufferLayout,
         requires pass { IsPassOfNone pass.old }
         ensures made { IfOk result (λ window. MakesOver Counted H.whole
-            (buffer_info false (B.places buffer) (length (B.list buffer)) None)
-            (B.list buffer) window) }
+            (buffer_info false (B.places buffer) (length (B.list buffer))
+            (Some (given_as false buffer None))) (B.list buffer) window) }
         ensures pass { IfOk result (λ window. Begins window pass.old pass.new) }
         ensures refused { IfErr result (λ back. (back ≡ buffer) × (pass.new ≡ pass.old)) }
     {
@@ -106,8 +107,8 @@ impl<
         L: AnyBufferLayout,
         requires pass { IsPassOfNone pass.old }
         ensures made { IfOk result (λ window. MakesOver Counted H.whole
-            (buffer_info false (B.places buffer) (length (B.list buffer)) (Some metadata))
-            (B.list buffer) window) }
+            (buffer_info false (B.places buffer) (length (B.list buffer))
+            (Some (given_as false buffer (Some metadata)))) (B.list buffer) window) }
         ensures pass { IfOk result (λ window. Begins window pass.old pass.new) }
         ensures refused { IfErr result (λ back. (back.0 ≡ buffer) × (back.1 ≡ metadata)
             × (pass.new ≡ pass.old)) }
@@ -145,7 +146,7 @@ impl<
         L: AnyBufferLayout,
         requires pass { IsPassOfNone pass.old }
         ensures made { IfOk result (λ window. MakesOverRaw L.RAW H.whole
-            (B.list (arc_value shared)) window) }
+            (B.list (arc_value shared)) (given_as false (arc_value shared) None) window) }
         ensures pass { IfOk result (λ window. Begins window pass.old pass.new) }
         ensures refused { IfErr result (λ back. (back ≡ shared) × (L.RAW ≡ false)
             × (pass.new ≡ pass.old)) }
@@ -154,6 +155,15 @@ impl<
             Ok(parts) => Ok(Self::from_parts(parts)),
             Err(back) => Err(back),
         }
+    }
+
+    /// What is known of a caller's buffer on which the window stands, behind an `Arc` or not, fits
+    /// the buffer: the items are a part of its own, and the block has its places. Does nothing: its
+    /// contract is the law.
+    pub fn known_given(&self)
+        ensures { FitsGivenAt B.list B.places self.now.place self.now.items }
+    {
+        self.parts.known_given();
     }
 
     /// The metadata that the window's block was made with, or `None`.
@@ -192,6 +202,7 @@ impl<
         requires pass { IsPassAt self.place pass.old }
         ensures taken { IfOk result (λ buffer. IsBufferWhole self.items self.place
             × (B.list buffer ≡ self.items) × (B.places buffer ≡ size_at self.place)) }
+        ensures itself { IfOk result (λ buffer. buffer_at self.place ≡ Some buffer) }
         ensures entries { IfOk result (λ _. TakesAt self.place pass.old pass.new) }
         ensures refused { IfErr result (λ window. (window ≡ self) × RefusesTaking
             (IsBufferWhole self.items self.place) self.place pass.old pass.new) }
@@ -218,6 +229,7 @@ impl<
         requires pass { IsPassAt self.place pass.old }
         ensures taken { IfOk result (λ shared. IsRawWhole self.items self.place
             × (B.list (arc_value shared) ≡ self.items)) }
+        ensures itself { IfOk result (λ shared. buffer_at self.place ≡ Some (arc_value shared)) }
         ensures entries { IfOk result (λ _. TakesAt self.place pass.old pass.new) }
         ensures refused { IfErr result (λ window. (window ≡ self) × RefusesTaking
             (IsRawWhole self.items self.place) self.place pass.old pass.new) }
@@ -246,6 +258,8 @@ impl<
             × LeavesLastAt self.place pass.old pass.new (is_some last)) }
         ensures buffer { IfOk result (λ last. IfSome last (λ buffer.
             (B.list buffer ≡ self.items) × (B.places buffer ≡ size_at self.place))) }
+        ensures itself { IfOk result (λ last. IfSome last (λ buffer.
+            buffer_at self.place ≡ Some buffer)) }
         ensures refused { IfErr result (λ window. (window ≡ self)
             × (¬ IsBufferWhole self.items self.place) × (pass.new ≡ pass.old)) }
     {
@@ -273,6 +287,8 @@ impl<
             × LeavesLastAt self.place pass.old pass.new (is_some last)) }
         ensures shared { IfOk result (λ last. IfSome last (λ shared.
             B.list (arc_value shared) ≡ self.items)) }
+        ensures itself { IfOk result (λ last. IfSome last (λ shared.
+            buffer_at self.place ≡ Some (arc_value shared))) }
         ensures refused { IfErr result (λ window. (window ≡ self)
             × (¬ IsRawWhole self.items self.place) × (pass.new ≡ pass.old)) }
     {
@@ -298,8 +314,8 @@ impl<
         L: AnyBufferLayout,
         H: Stepping,
         ensures made { IfOk result (λ window. MakesOver Counted H.whole
-            (buffer_info false (B.places buffer) (length (B.list buffer)) None)
-            (B.list buffer) window) }
+            (buffer_info false (B.places buffer) (length (B.list buffer))
+            (Some (given_as false buffer None))) (B.list buffer) window) }
         ensures pass { IfOk result (λ window.
             WithNewPass {M = M} {H = H} H.real nowhere (λ first last. Begins window first last)) }
         ensures refused { IfErr result (λ back. back ≡ buffer) }
@@ -326,8 +342,8 @@ impl<
         L: AnyBufferLayout,
         H: Stepping,
         ensures made { IfOk result (λ window. MakesOver Counted H.whole
-            (buffer_info false (B.places buffer) (length (B.list buffer)) (Some metadata))
-            (B.list buffer) window) }
+            (buffer_info false (B.places buffer) (length (B.list buffer))
+            (Some (given_as false buffer (Some metadata)))) (B.list buffer) window) }
         ensures pass { IfOk result (λ window.
             WithNewPass {M = M} {H = H} H.real nowhere (λ first last. Begins window first last)) }
         ensures refused { IfErr result (λ back. (back.0 ≡ buffer) × (back.1 ≡ metadata)) }
@@ -354,7 +370,7 @@ impl<
         L: AnyBufferLayout,
         H: Stepping,
         ensures made { IfOk result (λ window. MakesOverRaw L.RAW H.whole
-            (B.list (arc_value shared)) window) }
+            (B.list (arc_value shared)) (given_as false (arc_value shared) None) window) }
         ensures pass { IfOk result (λ window.
             WithNewPass {M = M} {H = H} H.real nowhere (λ first last. Begins window first last)) }
         ensures refused { IfErr result (λ back. (back ≡ shared) × (L.RAW ≡ false)) }
@@ -381,6 +397,7 @@ impl<
         H: Stepping,
         ensures taken { IfOk result (λ buffer. IsBufferWhole self.items self.place
             × (B.list buffer ≡ self.items) × (B.places buffer ≡ size_at self.place)) }
+        ensures itself { IfOk result (λ buffer. buffer_at self.place ≡ Some buffer) }
         ensures entries { IfOk result (λ _. WithNewPass {H = H} H.real self.place (λ first last.
             TakesAt self.place first last)) }
         ensures refused { IfErr result (λ window. window ≡ self) }
@@ -410,6 +427,7 @@ impl<
         H: Stepping,
         ensures taken { IfOk result (λ shared. IsRawWhole self.items self.place
             × (B.list (arc_value shared) ≡ self.items)) }
+        ensures itself { IfOk result (λ shared. buffer_at self.place ≡ Some (arc_value shared)) }
         ensures entries { IfOk result (λ _. WithNewPass {H = H} H.real self.place (λ first last.
             TakesAt self.place first last)) }
         ensures refused { IfErr result (λ window. window ≡ self) }
@@ -441,6 +459,8 @@ impl<
             LeavesLastAt self.place first now (is_some last))) }
         ensures buffer { IfOk result (λ last. IfSome last (λ buffer.
             (B.list buffer ≡ self.items) × (B.places buffer ≡ size_at self.place))) }
+        ensures itself { IfOk result (λ last. IfSome last (λ buffer.
+            buffer_at self.place ≡ Some buffer)) }
         ensures refused { IfErr result (λ window. (window ≡ self)
             × (¬ IsBufferWhole self.items self.place)
             × WithNewPass {H = H} H.real self.place (λ first last. last ≡ first)) }
@@ -470,6 +490,8 @@ impl<
             LeavesLastAt self.place first now (is_some last))) }
         ensures shared { IfOk result (λ last. IfSome last (λ shared.
             B.list (arc_value shared) ≡ self.items)) }
+        ensures itself { IfOk result (λ last. IfSome last (λ shared.
+            buffer_at self.place ≡ Some (arc_value shared))) }
         ensures refused { IfErr result (λ window. (window ≡ self)
             × (¬ IsRawWhole self.items self.place)
             × WithNewPass {H = H} H.real self.place (λ first last. last ≡ first)) }

@@ -2,6 +2,7 @@
 ghost use Rattle.std.specs.Prelude.{◌≡◌, ℕ, ◌≤◌, List, Option, length, drop};
 ghost use Rattle.arc_owners.specs.count.Calls.{Owner};
 ghost use Rattle.arc_owners.specs.declared.count.tokens.Pass.{Pass};
+ghost use Rattle.arc_block.specs.Given.{Given};
 ghost use Rattle.arc_block.specs.Place.{Place, moved};
 ghost use Rattle.arc_parts.specs.Shared.{LeavesAt};
 ghost use Rattle.arc_parts.specs.Steps.{IsPassAt};
@@ -134,14 +135,14 @@ impl<
     /// owner, as many places further in as bytes were read. Of bytes in the window itself that is
     /// nothing. Does nothing: its contract is the law.
     pub fn known_after_reads(&self)
-        ensures place { (n : ℕ) (place : Place (Option Owner) M) (items : List ℕ)
+        ensures place { (n : ℕ) (place : Place (Option Owner) (Given B M)) (items : List ℕ)
             → kept_read self.now.place self.now.items ≡ kept_read place items
             → n ≤ length items → self.now.items ≡ drop n items
             → without_metadata self.now.place ≡ moved n (without_metadata place) }
-        ensures pass { (place : Place (Option Owner) M) (items : List ℕ) (pass : Pass H)
+        ensures pass { (place : Place (Option Owner) (Given B M)) (items : List ℕ) (pass : Pass H)
             → kept_read self.now.place self.now.items ≡ kept_read place items
             → IsPassAt place pass → IsPassAt self.now.place pass }
-        ensures left { (place : Place (Option Owner) M) (items : List ℕ)
+        ensures left { (place : Place (Option Owner) (Given B M)) (items : List ℕ)
             (before after : Pass H)
             → kept_read self.now.place self.now.items ≡ kept_read place items
             → LeavesAt self.now.place before after → LeavesAt place before after }

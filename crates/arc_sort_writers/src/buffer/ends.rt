@@ -7,7 +7,7 @@ ghost use Rattle.arc_block.specs.LayoutFacts.{layout_facts};
 ghost use Rattle.arc_block.specs.Contents.{held_in};
 ghost use Rattle.arc_block.specs.Metadata.{IsMetadataAt};
 ghost use Rattle.arc_block.specs.Moves.{IsRefused, layout_move};
-ghost use Rattle.arc_block.specs.Place.{at_owner, metadata_at, IsOnBlock, size_at};
+ghost use Rattle.arc_block.specs.Place.{at_owner, buffer_at, metadata_at, IsOnBlock, size_at};
 ghost use Rattle.arc_parts.specs.Steps.{IsPassAt, EndsAt, Makes, Begins};
 ghost use Rattle.arc_block.specs.Table.{reader};
 ghost use Rattle.arc_parts.specs.Window.{IsBufferWhole, IsVecPart, IsBoxWhole, IsHeld, IsBlockHeld};
@@ -157,6 +157,7 @@ impl<S: Slice, B: BufferMut<S::Item> + Drop, M: Drop, A: Allocator + Copy, H: Ma
         requires pass { IsPassAt self.place pass.old }
         ensures taken { IfOk result (λ buffer. IsBufferWhole self.items self.place
             × (B.list buffer ≡ self.items) × (B.places buffer ≡ size_at self.place)) }
+        ensures itself { IfOk result (λ buffer. buffer_at self.place ≡ Some buffer) }
         ensures entry { IfOk result (λ _. at_owner self.place ⊥ (λ o.
             Leaves o pass.old pass.new true)) }
         ensures refused { IfErr result (λ back. (back ≡ self)

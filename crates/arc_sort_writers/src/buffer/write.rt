@@ -8,6 +8,7 @@ ghost use Rattle.arc_parts.specs.Steps.{IsPassAt};
 ghost use Rattle.arc_parts.specs.Writers.{capacity_of, room_for, MakesRoom, Pushes, Reclaims};
 ghost use Rattle.arc_parts.specs.Writers.{with_more, after_advance, after_truncate};
 ghost use Rattle.arc_block.specs.Place.{size_at};
+ghost use Rattle.arc_block.specs.Table.{bare};
 
 use super::SoleBuffer;
 use arc_block::block::Content;
@@ -48,7 +49,8 @@ impl<S: Slice, B: BufferMut<S::Item> + Drop, M: Drop, A: Allocator + Copy, H: Ma
 > {
     ghost use Rattle.arc_sort_writers.specs.Lends.{lends_buffer_items};
 
-    /// The items, to be changed in their places: they are what is written there.
+    /// The items, to be changed in their places: they are what is written there, and so are the
+    /// buffer's.
     pub fn as_mut_slice(&mut self) -> &mut [S::Item]
         ensures* writes_back { sem 𝓛 (lends_buffer_items S.row B.row M.row A.row H.row S.Item.row
             S.TryFromSliceError.row H.Mark S.Slice B.BufferMut.own B.Buffer
@@ -86,7 +88,7 @@ impl<S: Slice, B: BufferMut<S::Item> + Drop, M: Drop, A: Allocator + Copy, H: Ma
         requires pass { IsPassAt self.old.place pass.old }
         ensures room { MakesRoom S.DROPS H.whole
             (room_for S.DROPS (type_size S.Item.row) self.old additional)
-            self.old self.new pass.old pass.new result }
+            (bare self.old) (bare self.new) pass.old pass.new result }
         ensures items { self.new.items ≡ self.old.items }
         ensures enough { OnOk result
             (length self.new.items + additional ≤ capacity_of self.new.role) }
@@ -114,7 +116,7 @@ impl<S: Slice, B: BufferMut<S::Item> + Drop, M: Drop, A: Allocator + Copy, H: Ma
     /// is room.
     pub fn try_reclaim(&mut self, additional: usize) -> bool
         ensures { Reclaims (room_for S.DROPS (type_size S.Item.row) self.old additional)
-            self.old self.new result }
+            (bare self.old) (bare self.new) result }
     {
         match self.room(additional) {
             Room::Spare => true,
@@ -150,11 +152,11 @@ impl<S: Slice, B: BufferMut<S::Item> + Drop, M: Drop, A: Allocator + Copy, H: Ma
         requires pass { IsPassAt self.old.place pass.old }
         ensures pushed { OnOk result (Pushes S.DROPS H.whole
             (room_for S.DROPS (type_size S.Item.row) self.old 1) (item ∷ [])
-            self.old self.new pass.old pass.new) }
+            (bare self.old) (bare self.new) pass.old pass.new) }
         ensures items { OnOk result (self.new.items ≡ self.old.items ++ item ∷ []) }
         ensures refused { IfErr result (λ r. (r.1 ≡ item) × MakesRoom S.DROPS H.whole
             (room_for S.DROPS (type_size S.Item.row) self.old 1)
-            self.old self.new pass.old pass.new (Err r.0)) }
+            (bare self.old) (bare self.new) pass.old pass.new (Err r.0)) }
         ensures own { IfAsked (room_for S.DROPS (type_size S.Item.row) self.old 1) (λ k.
             AsksForRoom B.list B.places B.grows B.refuses self.old k (size_at self.new.place)
             (without_item result)) }
@@ -171,7 +173,7 @@ impl<S: Slice, B: BufferMut<S::Item> + Drop, M: Drop, A: Allocator + Copy, H: Ma
     /// Appends an item. There is a place for it.
     pub fn push_reserved(&mut self, item: S::Item)
         requires { length self.old.items + 1 ≤ capacity_of self.old.role }
-        ensures { self.new ≡ with_more (item ∷ []) self.old }
+        ensures { bare self.new ≡ with_more (item ∷ []) (bare self.old) }
     {
         match self.count.get_mut() {
             Content::Buffer(held) => self.end = put_at(&mut held.buffer, self.end, item),
@@ -231,11 +233,11 @@ where
         requires pass { IsPassAt self.old.place pass.old }
         ensures extended { OnOk result (Pushes S.DROPS H.whole
             (room_for S.DROPS (type_size S.Item.row) self.old (length items.now)) items.now
-            self.old self.new pass.old pass.new) }
+            (bare self.old) (bare self.new) pass.old pass.new) }
         ensures items { OnOk result (self.new.items ≡ self.old.items ++ items.now) }
         ensures refused { IfErr result (λ e. MakesRoom S.DROPS H.whole
             (room_for S.DROPS (type_size S.Item.row) self.old (length items.now))
-            self.old self.new pass.old pass.new (Err e)) }
+            (bare self.old) (bare self.new) pass.old pass.new (Err e)) }
         ensures own { IfAsked (room_for S.DROPS (type_size S.Item.row) self.old
             (length items.now)) (λ k. AsksForRoom B.list B.places B.grows B.refuses self.old k
             (size_at self.new.place) result) }
@@ -252,7 +254,7 @@ where
     /// Appends a copy of the items. There are places for them.
     pub fn extend_reserved(&mut self, items: &[S::Item])
         requires { length self.old.items + length items.now ≤ capacity_of self.old.role }
-        ensures { self.new ≡ with_more items.now self.old }
+        ensures { bare self.new ≡ with_more items.now (bare self.old) }
     {
         for item in items {
             self.push_reserved(*item);

@@ -1,9 +1,9 @@
 //! What a sole writer's parts on a native block say to those of one of several writers that consist
 //! of them.
-ghost use Rattle.std.specs.Prelude.{◌≡◌, ◌↔◌, true, false, IsTrue};
+ghost use Rattle.std.specs.Prelude.{◌≡◌, ◌↔◌, true, false, IsTrue, None};
 ghost use Rattle.arc_sort_writers.specs.NativeWriters.{IsAlonePlace};
 ghost use Rattle.arc_block.specs.Block.{IsLimited};
-ghost use Rattle.arc_block.specs.Place.{IsOnBlock, at_owner, nowhere};
+ghost use Rattle.arc_block.specs.Place.{IsOnBlock, at_owner, given_at, nowhere};
 ghost use Rattle.arc_parts.specs.Shared.{AsksAlone};
 ghost use Rattle.arc_parts.specs.Steps.{IsPassAt};
 ghost use Rattle.arc_block.specs.Table.{sole_writer};
@@ -21,6 +21,16 @@ impl<S: Slice, M: Drop, A: Allocator + Copy, H: Mark> SoleNative<S, M, A, H> {
     /// Their role is a sole writer's. Does nothing: its contract is the law.
     pub fn known_role(&self)
         ensures { self.now.role ≡ sole_writer (capacity_of self.now.role) }
+    {
+        match &self.count {
+            Some(_) => (),
+            None => (),
+        }
+    }
+
+    /// No caller gave what they stand on. Does nothing: its contract is the law.
+    pub fn known_ungiven(&self)
+        ensures { given_at self.now.place ≡ None }
     {
         match &self.count {
             Some(_) => (),

@@ -17,7 +17,7 @@ ghost use Rattle.arc_parts.specs.Window.{IsVecPart, IsBoxWhole};
 ghost use Rattle.arc_block.specs.Moves.{IsRefused, layout_move};
 
 use super::{SoleNative, whole_of};
-use arc_block::block::{MAX_OWNERS, NativeBlock, NativeCount};
+use arc_block::block::{CallersBuffer, MAX_OWNERS, NativeBlock, NativeCount};
 use arc_block::layout::Layout;
 use arc_buffer::buffer::{BorrowMetadata, Buffer};
 use arc_buffer::kinds::Slice;
@@ -68,69 +68,6 @@ impl<S: Slice, M: Drop, A: Allocator + Copy, H: Mark> SoleNative<S, M, A, H> {
         (count, memory, alloc)
     }
 
-    /// The same items at the same place, as a reader's. It adds no entry and takes no memory.
-    pub fn freeze<B: Buffer<S::Item> + Drop>(self) -> Parts<S, B, M, A, H>
-        ensures { result ≡ as_reader self }
-    {
-        let SoleNative {
-            count,
-            memory,
-            alloc,
-            marker: _,
-        } = self;
-        let (start, len) = (memory.start(), memory.len());
-        let memory = whole_of::<S, A>(memory);
-        match count {
-            Some(count) => {
-                let on = Storage::Native(NativeBlock::of_sole(count, memory));
-                Parts::over(on, start, start + len, alloc)
-            }
-            None => {
-                drop(memory);
-                Parts::on_nothing(alloc)
-            }
-        }
-    }
-
-    /// The same items, as parts of a window under the layout `L` that is read. It adds no entry.
-    /// Where the parts stand on nothing, the new ones stand on nothing too, or, if that layout has
-    /// no static data, on a new native block of no places, and the pass becomes that block's.
-    ///
-    /// # Errors
-    ///
-    /// The parts come back where memory for a block of no places is refused; the pass is then as
-    /// before.
-    ///
-    /// # Allocates
-    ///
-    /// Once on nothing, where the layout has no static data.
-    pub fn try_freeze_as<L: Layout, B: Buffer<S::Item> + Drop>(
-        self,
-        pass: &mut Pass<H>,
-    ) -> Result<Parts<S, B, M, A, H>, Self>
-        requires pass { IsPassAt self.place pass.old }
-        ensures frozen { IfOk result (λ parts.
-            Freezes (layout_facts L.Layout) S.DROPS H.whole self parts pass.old pass.new) }
-        ensures stays { IfOk result (λ parts. IsOnBlock self.place
-            → (parts ≡ as_reader self) × (pass.new ≡ pass.old)) }
-        ensures made { IfOk result (λ parts. (¬ IsOnBlock self.place)
-            → Makes L.STATIC S.DROPS H.whole self.items (window_of parts)
-            × Begins (window_of parts) pass.old pass.new) }
-        ensures items { IfOk result (λ parts. parts.items ≡ self.items) }
-        ensures role { IfOk result (λ parts. parts.role ≡ reader) }
-        ensures held { IfOk result (λ parts. IsHeld (layout_facts L.Layout) parts.place) }
-        ensures refused { IfErr result (λ back. (back ≡ self)
-            × IsRefused (layout_move (layout_facts L.Layout) self.place) × (pass.new ≡ pass.old)) }
-    {
-        match &self.count {
-            Some(_) => Ok(self.freeze()),
-            None => match Parts::try_from_array_as::<L, 0>(self.alloc, [], pass) {
-                Ok(parts) => Ok(parts),
-                Err(_) => Err(self),
-            },
-        }
-    }
-
     /// Every layout holds a native block: the answer is `true`.
     pub fn is_held<L: Layout>(&self) -> bool
         ensures { IsTrue result ↔ IsBlockHeld (layout_facts L.Layout) self.now.place }
@@ -148,25 +85,6 @@ impl<S: Slice, M: Drop, A: Allocator + Copy, H: Mark> SoleNative<S, M, A, H> {
     {
         let _ = &self.count;
         self
-    }
-
-    /// `None`: a native block has no metadata.
-    pub fn metadata(&self) -> Option<&M>
-        ensures some { IfSome result (λ m. metadata_at self.now.place ≡ Some m.now) }
-        ensures none { IfNone result (metadata_at self.now.place ≡ None) }
-    {
-        let _ = &self.count;
-        None
-    }
-
-    /// `None`: no caller's buffer is there.
-    pub fn borrowed_metadata<B: Buffer<S::Item> + BorrowMetadata>(&self) -> Option<&B::Metadata>
-        ensures some { IfSome result (λ m.
-            IsMetadataAt B.list B.metadata self.now.place self.now.items m.now) }
-        ensures none { IfNone result (¬ IsOnCallers self.now.place) }
-    {
-        let _ = &self.count;
-        None
     }
 
     /// The same parts, which have no vector.
@@ -290,6 +208,94 @@ impl<S: Slice, M: Drop, A: Allocator + Copy, H: Mark> SoleNative<S, M, A, H> {
         if let Some(count) = &self.count {
             count.learn(pass, other);
         }
+    }
+}
+
+impl<S: Slice, B: Buffer<S::Item> + Drop, M: Drop, A: Allocator + Copy, H: Mark> SoleNative<
+    S,
+    CallersBuffer<B, M>,
+    A,
+    H,
+> {
+    /// The same items at the same place, as a reader's. It adds no entry and takes no memory.
+    pub fn freeze(self) -> Parts<S, B, M, A, H>
+        ensures { result ≡ as_reader self }
+    {
+        let SoleNative {
+            count,
+            memory,
+            alloc,
+            marker: _,
+        } = self;
+        let (start, len) = (memory.start(), memory.len());
+        let memory = whole_of::<S, A>(memory);
+        match count {
+            Some(count) => {
+                let on = Storage::Native(NativeBlock::of_sole(count, memory));
+                Parts::over(on, start, start + len, alloc)
+            }
+            None => {
+                drop(memory);
+                Parts::on_nothing(alloc)
+            }
+        }
+    }
+
+    /// The same items, as parts of a window under the layout `L` that is read. It adds no entry.
+    /// Where the parts stand on nothing, the new ones stand on nothing too, or, if that layout has
+    /// no static data, on a new native block of no places, and the pass becomes that block's.
+    ///
+    /// # Errors
+    ///
+    /// The parts come back where memory for a block of no places is refused; the pass is then as
+    /// before.
+    ///
+    /// # Allocates
+    ///
+    /// Once on nothing, where the layout has no static data.
+    pub fn try_freeze_as<L: Layout>(self, pass: &mut Pass<H>) -> Result<Parts<S, B, M, A, H>, Self>
+        requires pass { IsPassAt self.place pass.old }
+        ensures frozen { IfOk result (λ parts.
+            Freezes (layout_facts L.Layout) S.DROPS H.whole self parts pass.old pass.new) }
+        ensures stays { IfOk result (λ parts. IsOnBlock self.place
+            → (parts ≡ as_reader self) × (pass.new ≡ pass.old)) }
+        ensures made { IfOk result (λ parts. (¬ IsOnBlock self.place)
+            → Makes L.STATIC S.DROPS H.whole self.items (window_of parts)
+            × Begins (window_of parts) pass.old pass.new) }
+        ensures items { IfOk result (λ parts. parts.items ≡ self.items) }
+        ensures role { IfOk result (λ parts. parts.role ≡ reader) }
+        ensures held { IfOk result (λ parts. IsHeld (layout_facts L.Layout) parts.place) }
+        ensures refused { IfErr result (λ back. (back ≡ self)
+            × IsRefused (layout_move (layout_facts L.Layout) self.place) × (pass.new ≡ pass.old)) }
+    {
+        match &self.count {
+            Some(_) => Ok(self.freeze()),
+            None => match Parts::try_from_array_as::<L, 0>(self.alloc, [], pass) {
+                Ok(parts) => Ok(parts),
+                Err(_) => Err(self),
+            },
+        }
+    }
+
+    /// `None`: a native block has no metadata.
+    pub fn metadata(&self) -> Option<&M>
+        ensures some { IfSome result (λ m. metadata_at self.now.place ≡ Some m.now) }
+        ensures none { IfNone result (metadata_at self.now.place ≡ None) }
+    {
+        let _ = &self.count;
+        None
+    }
+
+    /// `None`: no caller's buffer is there.
+    pub fn borrowed_metadata(&self) -> Option<&B::Metadata>
+    where
+        B: BorrowMetadata,
+        ensures some { IfSome result (λ m.
+            IsMetadataAt B.list B.metadata self.now.place self.now.items m.now) }
+        ensures none { IfNone result (¬ IsOnCallers self.now.place) }
+    {
+        let _ = &self.count;
+        None
     }
 }
 

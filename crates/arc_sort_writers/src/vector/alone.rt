@@ -1,9 +1,9 @@
 //! What a sole writer's parts on a vector say to those of one of several writers that consist of
 //! them.
-ghost use Rattle.std.specs.Prelude.{◌≡◌, ℕ, ◌↔◌, true, false, IsTrue};
+ghost use Rattle.std.specs.Prelude.{◌≡◌, ℕ, ◌↔◌, true, false, IsTrue, None};
 ghost use Rattle.arc_sort_writers.specs.NativeWriters.{IsAlonePlace};
 ghost use Rattle.arc_block.specs.Block.{IsLimited};
-ghost use Rattle.arc_block.specs.Place.{IsOnBlock, at_owner};
+ghost use Rattle.arc_block.specs.Place.{IsOnBlock, at_owner, given_at};
 ghost use Rattle.arc_parts.specs.Shared.{AsksAlone};
 ghost use Rattle.arc_parts.specs.Steps.{IsPassAt};
 ghost use Rattle.arc_block.specs.Table.{sole_writer};
@@ -33,6 +33,13 @@ impl<S: Slice, B: Buffer<S::Item> + Drop, M: Drop, A: Allocator + Copy, H: Mark>
     /// Their role is a sole writer's. Does nothing: its contract is the law.
     pub fn known_role(&self)
         ensures { self.now.role ≡ sole_writer (capacity_of self.now.role) }
+    {
+        let _ = &self.count;
+    }
+
+    /// The vector is no buffer that a caller gave. Does nothing: its contract is the law.
+    pub fn known_ungiven(&self)
+        ensures { given_at self.now.place ≡ None }
     {
         let _ = &self.count;
     }

@@ -2,6 +2,7 @@
 ghost use Rattle.std.specs.Prelude.{◌≡◌, ℕ, ◌≤◌, Option, length, drop};
 ghost use Rattle.arc_owners.specs.count.Calls.{Owner};
 ghost use Rattle.arc_owners.specs.declared.count.tokens.Pass.{Pass};
+ghost use Rattle.arc_block.specs.Given.{Given};
 ghost use Rattle.arc_block.specs.Place.{Place, moved};
 ghost use Rattle.arc_parts.specs.Shared.{IsOneBlock, LeavesAt};
 ghost use Rattle.arc_parts.specs.Steps.{IsPassAt};
@@ -102,18 +103,20 @@ impl<
     /// owner, as many places further in as bytes were read, and as many places are spare. Does
     /// nothing: its contract is the law.
     pub fn known_after_reads(&self)
-        ensures place { (n : ℕ) (old : PartsView S.Item M)
-            → kept_written self.now ≡ kept_written old → n ≤ length old.items → self.now.items ≡ drop n old.items
+        ensures place { (n : ℕ) (old : PartsView S.Item (Given B M))
+            → kept_written self.now ≡ kept_written old → n ≤ length old.items
+            → self.now.items ≡ drop n old.items
             → without_metadata self.now.place ≡ moved n (without_metadata old.place) }
-        ensures spare { (old : PartsView S.Item M) → kept_written self.now ≡ kept_written old
-            → spare_places self.now ≡ spare_places old }
-        ensures pass { (old : PartsView S.Item M) (pass : Pass H)
+        ensures spare { (old : PartsView S.Item (Given B M))
+            → kept_written self.now ≡ kept_written old → spare_places self.now ≡ spare_places old }
+        ensures pass { (old : PartsView S.Item (Given B M)) (pass : Pass H)
             → kept_written self.now ≡ kept_written old
             → IsPassAt old.place pass → IsPassAt self.now.place pass }
-        ensures left { (old : PartsView S.Item M) (before after : Pass H)
+        ensures left { (old : PartsView S.Item (Given B M)) (before after : Pass H)
             → kept_written self.now ≡ kept_written old
             → LeavesAt self.now.place before after → LeavesAt old.place before after }
-        ensures block { (old : PartsView S.Item M) (other : Place (Option Owner) M)
+        ensures block { (old : PartsView S.Item (Given B M))
+            (other : Place (Option Owner) (Given B M))
             → kept_written self.now ≡ kept_written old
             → IsOneBlock old.place other → IsOneBlock self.now.place other }
     {}

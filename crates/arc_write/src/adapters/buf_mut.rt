@@ -2,6 +2,7 @@
 //! makes no room.
 ghost use Rattle.std.specs.Prelude.{◌≡◌, ◌≤◌, ◌+◌, ◌-◌, ◌^◌, ◌++◌, ◌∷◌, [], min, length};
 ghost use Rattle.std.specs.Prelude.{OnOk, OnErr, Some, replicate};
+ghost use Rattle.arc_block.specs.Table.{bare};
 ghost use Rattle.arc_parts.specs.Writers.{capacity_of, with_more};
 ghost use Rattle.arc_write.specs.Within.{PutsWithin, spare_places};
 ghost use Rattle.bytes.specs.Filled.{KeepsMaxSpare, MakesSpare, UsesMaxSpare, UsesSpare};
@@ -135,7 +136,7 @@ where
     /// Appends `count` bytes of one value. The window has places for them.
     fn fill(&mut self, byte: u8, count: usize)
         requires { length self.old.items + count ≤ capacity_of self.old.role }
-        ensures { self.new ≡ with_more (replicate count byte) self.old }
+        ensures { bare self.new ≡ with_more (replicate count byte) (bare self.old) }
     {
         for _ in 0..count {
             match self.try_extend_within(&[byte]) {

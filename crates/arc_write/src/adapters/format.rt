@@ -5,6 +5,7 @@ ghost use Rattle.arc_owners.specs.declared.error.TryReserveError.{TryReserveErro
 ghost use Rattle.arc_sort_writers.specs.Growth.{AsksForRoom, IfAsked};
 ghost use Rattle.arc_parts.specs.Writers.{room_for};
 ghost use Rattle.arc_block.specs.Place.{size_at};
+ghost use Rattle.arc_block.specs.Table.{bare};
 ghost use Rattle.arc_writer_parts.specs.Roles.{AsksRoom, PushesItems};
 ghost use Rattle.arc_read.specs.Steps.{WithNewPass};
 
@@ -57,7 +58,7 @@ where
             (reply : Result (Unit {0}) TryReserveError) × (is_ok reply ≡ is_ok result)
             × AsksForRoom B.list B.places B.grows B.refuses self.old additional
             (size_at self.new.place) reply) }
-        ensures same { OnErr result (self.new ≡ self.old) }
+        ensures same { OnErr result (bare self.new ≡ bare self.old) }
     {
         match self.try_extend_from_str(text) {
             Ok(()) => Ok(()),
@@ -106,7 +107,7 @@ where
             (reply : Result (Unit {0}) TryReserveError) × (is_ok reply ≡ is_ok result)
             × AsksForRoom B.list B.places B.grows B.refuses self.old additional
             (size_at self.new.place) reply) }
-        ensures same { OnErr result (self.new ≡ self.old) }
+        ensures same { OnErr result (bare self.new ≡ bare self.old) }
     {
         match self.try_extend_from_slice(text.as_bytes()) {
             Ok(()) => Ok(()),
@@ -155,7 +156,7 @@ where
             (reply : Result (Unit {0}) TryReserveError) × (is_ok reply ≡ is_ok result)
             × AsksForRoom B.list B.places B.grows B.refuses self.old additional
             (size_at self.new.place) reply) }
-        ensures same { OnErr result (self.new ≡ self.old) }
+        ensures same { OnErr result (bare self.new ≡ bare self.old) }
     {
         match self.try_extend_from_slice(text.as_bytes()) {
             Ok(()) => Ok(()),

@@ -5,6 +5,7 @@ ghost use Rattle.std.specs.Vec.{vec_capacity, vec_len};
 ghost use Rattle.std.specs.Io.{ReadsAtMost, WritesAtMost};
 ghost use Rattle.std.specs.Io.KnownBytes.{Appends, Consumes, Keeps, ReadConsumes, WriteAppends};
 ghost use Rattle.std.specs.IoError.{error_kind};
+ghost use Rattle.arc_block.specs.Table.{bare};
 ghost use Rattle.arc_parts.specs.Writers.{after_advance};
 ghost use Rattle.arc_write.specs.Within.{after_write, spare_places, taken};
 
@@ -125,7 +126,7 @@ where
         ensures bound { WritesAtMost result bytes.now }
         ensures bytes { WriteAppends (Some self.old.items) (Some self.new.items) result bytes.now }
         ensures count { result ≡ Ok (taken self.old bytes.now) }
-        ensures window { self.new ≡ after_write self.old bytes.now }
+        ensures window { bare self.new ≡ after_write (bare self.old) bytes.now }
     {
         let count = self.spare().min(bytes.len());
         match self.try_extend_within(&bytes[..count]) {
@@ -146,7 +147,7 @@ where
         ensures ok { OnOk result (length bytes.now ≤ spare_places self.old) }
         ensures full { IfErr result (λ e. (spare_places self.old < length bytes.now)
             × (error_kind e ≡ ErrorKind.WriteZero)) }
-        ensures window { self.new ≡ after_write self.old bytes.now }
+        ensures window { bare self.new ≡ after_write (bare self.old) bytes.now }
     {
         let is_full = self.spare() < bytes.len();
         self.write(bytes)?;

@@ -3,6 +3,7 @@ ghost use Rattle.std.specs.Prelude.{◌↔◌, ◌≡◌, Err, IfErr, IfNone, If
 ghost use Rattle.std.specs.Prelude.{None, Some, true};
 ghost use Rattle.arc_owners.specs.count.Calls.{IsPassOfNone};
 ghost use Rattle.arc_block.specs.Block.{buffer_info};
+ghost use Rattle.arc_block.specs.Given.{given_as};
 ghost use Rattle.arc_block.specs.Metadata.{IsMetadataAt, IsOnCallers};
 ghost use Rattle.arc_block.specs.Place.{metadata_at, nowhere};
 ghost use Rattle.arc_parts.specs.Window.{IsOfBuffer};
@@ -71,7 +72,8 @@ impl<
         L: AnyBufferLayout,
         requires pass { IsPassOfNone pass.old }
         ensures made { IfOk result (λ window. MakesBufferWriter H.whole
-            (buffer_info true (B.places buffer) (length (B.list buffer)) metadata)
+            (buffer_info true (B.places buffer) (length (B.list buffer))
+            (Some (given_as true buffer metadata)))
             (B.list buffer) window pass.new) }
         ensures refused { IfErr result (λ back. (back.0 ≡ buffer) × (back.1 ≡ metadata)
             × (pass.new ≡ pass.old)) }
@@ -99,7 +101,8 @@ impl<
         L: AnyBufferLayout,
         requires pass { IsPassOfNone pass.old }
         ensures made { IfOk result (λ window. MakesBufferWriter H.whole
-            (buffer_info true (B.places buffer) (length (B.list buffer)) None)
+            (buffer_info true (B.places buffer) (length (B.list buffer))
+            (Some (given_as true buffer None)))
             (B.list buffer) window pass.new) }
         ensures refused { IfErr result (λ back. (back ≡ buffer) × (pass.new ≡ pass.old)) }
     {
@@ -126,7 +129,8 @@ impl<
         H: Stepping,
         ensures made { IfOk result (λ window.
             WithNewPass {M = M} {H = H} H.real nowhere (λ first last. MakesBufferWriter H.whole
-            (buffer_info true (B.places buffer) (length (B.list buffer)) None)
+            (buffer_info true (B.places buffer) (length (B.list buffer))
+            (Some (given_as true buffer None)))
             (B.list buffer) window last)) }
         ensures refused { IfErr result (λ back. back ≡ buffer) }
     {
@@ -158,7 +162,8 @@ impl<
         L: AnyBufferLayout,
         requires pass { IsPassOfNone pass.old }
         ensures made { IfOk result (λ window. MakesBufferWriter H.whole
-            (buffer_info true (B.places buffer) (length (B.list buffer)) (Some metadata))
+            (buffer_info true (B.places buffer) (length (B.list buffer))
+            (Some (given_as true buffer (Some metadata))))
             (B.list buffer) window pass.new) }
         ensures refused { IfErr result (λ back. (back.0 ≡ buffer) × (back.1 ≡ metadata)
             × (pass.new ≡ pass.old)) }
@@ -189,7 +194,8 @@ impl<
         H: Stepping,
         ensures made { IfOk result (λ window.
             WithNewPass {M = M} {H = H} H.real nowhere (λ first last. MakesBufferWriter H.whole
-            (buffer_info true (B.places buffer) (length (B.list buffer)) (Some metadata))
+            (buffer_info true (B.places buffer) (length (B.list buffer))
+            (Some (given_as true buffer (Some metadata))))
             (B.list buffer) window last)) }
         ensures refused { IfErr result (λ back. (back.0 ≡ buffer) × (back.1 ≡ metadata)) }
     {

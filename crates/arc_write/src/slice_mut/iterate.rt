@@ -3,6 +3,7 @@ ghost use Rattle.std.specs.Prelude.{◌++◌, ◌≡◌, false, IfErr, IfOk, Lis
 ghost use Rattle.std.specs.Iterator.{Drains, ExtendsWithItems, IsFinite, Yields, YieldsThen};
 ghost use Rattle.std.specs.Iterator.Runs.{WholeRun};
 ghost use Rattle.std.specs.Mem.{type_size};
+ghost use Rattle.arc_block.specs.Given.{Given};
 ghost use Rattle.arc_parts.specs.Window.{PartsView};
 ghost use Rattle.arc_parts.specs.Writers.{idle_writer};
 ghost use Rattle.arc_write.specs.Extend.{PushesEach, RefusesOne};
@@ -54,14 +55,14 @@ impl<
             × PushesEach H H.real R.Parts.several S.DROPS H.whole (type_size S.Item.row)
             B.list B.places B.grows B.refuses xs self.old self.new) }
         ensures refused { IfErr result (λ r. (it : I.IntoIter) × (xs : List S.Item)
-            × (rest : I.IntoIter) × (last : PartsView S.Item M) × I.into_iter_gives iter it
-            × YieldsThen I.IntoIter.next_gives it xs (Some r.1) rest
+            × (rest : I.IntoIter) × (last : PartsView S.Item (Given B M))
+            × I.into_iter_gives iter it × YieldsThen I.IntoIter.next_gives it xs (Some r.1) rest
             × PushesEach H H.real R.Parts.several S.DROPS H.whole (type_size S.Item.row)
             B.list B.places B.grows B.refuses xs self.old last
             × RefusesOne H H.real R.Parts.several S.DROPS H.whole (type_size S.Item.row)
             B.list B.places B.grows B.refuses r.0 last self.new) }
         ensures items { ExtendsWithItems I.into_iter_gives I.IntoIter.next_gives
-            (λ (old : PartsView S.Item M) xs (new : PartsView S.Item M).
+            (λ (old : PartsView S.Item (Given B M)) xs (new : PartsView S.Item (Given B M)).
             new.items ≡ old.items ++ xs) iter self.old self.new result }
         ensures runs { OnOk result ((it : I.IntoIter) × I.into_iter_gives iter it
             × WholeRun I.IntoIter.next_gives it (λ p.
@@ -115,8 +116,8 @@ impl<
         ensures runs { IfOk result (λ window. (it : I.IntoIter) × I.into_iter_gives iter it
             × WholeRun I.IntoIter.next_gives it (λ p. window.items ≡ p.items)) }
         ensures refused { IfErr result (λ r. (it : I.IntoIter) × (xs : List S.Item)
-            × (rest : I.IntoIter) × (last : PartsView S.Item M) × I.into_iter_gives iter it
-            × YieldsThen I.IntoIter.next_gives it xs (Some r.2) rest
+            × (rest : I.IntoIter) × (last : PartsView S.Item (Given B M))
+            × I.into_iter_gives iter it × YieldsThen I.IntoIter.next_gives it xs (Some r.2) rest
             × PushesEach H H.real false S.DROPS H.whole (type_size S.Item.row) B.list B.places
             B.grows B.refuses xs idle_writer last
             × RefusesOne H H.real false S.DROPS H.whole (type_size S.Item.row) B.list B.places

@@ -2,6 +2,7 @@
 ghost use Rattle.std.specs.Prelude.{◌+◌, ◌≡◌, ◌≤◌, false, is_ok, length, OnErr, OnOk};
 ghost use Rattle.std.specs.Mem.{type_size};
 ghost use Rattle.arc_block.specs.Place.{size_at};
+ghost use Rattle.arc_block.specs.Table.{bare};
 ghost use Rattle.arc_parts.specs.Shared.{asks_alone, ReclaimsShared};
 ghost use Rattle.arc_parts.specs.Steps.{IsPassAt};
 ghost use Rattle.arc_parts.specs.Writers.{capacity_of, Reclaims, room_for};
@@ -72,10 +73,13 @@ impl<
             result) }
         ensures within { StaysWithin R.Parts.several additional
             self.old self.new (is_ok result) }
-        ensures same { OnErr result (self.new ≡ self.old) }
+        ensures same { OnErr result (bare self.new ≡ bare self.old) }
     {
         self.known_place();
-        self.parts.try_reserve_as(additional, pass)
+        self.known_ungiven();
+        let made = self.parts.try_reserve_as(additional, pass);
+        self.parts.known_ungiven();
+        made
     }
 
     /// Makes room for `additional` items more behind those of the window: `try_reserve_as` with a
@@ -119,7 +123,7 @@ impl<
             result) }
         ensures within { StaysWithin R.Parts.several additional
             self.old self.new (is_ok result) }
-        ensures same { OnErr result (self.new ≡ self.old) }
+        ensures same { OnErr result (bare self.new ≡ bare self.old) }
     {
         let mut pass = self.pass();
         let made = self.try_reserve_as(additional, &mut pass);
@@ -155,8 +159,8 @@ impl<
     /// Makes room for `additional` items more where that takes no memory, and answers whether there
     /// is room. It adds no entry.
     pub fn try_reclaim(&mut self, additional: usize) -> bool
-        ensures { Reclaims (room_for S.DROPS (type_size S.Item.row) self.old additional)
-            self.old self.new result }
+        ensures { Reclaims (room_for S.DROPS (type_size S.Item.row) (bare self.old) additional)
+            (bare self.old) (bare self.new) result }
     {
         self.parts.try_reclaim(additional)
     }
@@ -180,9 +184,9 @@ impl<
     where
         H: Stepping,
         ensures room { WithNewPass {H = H} H.real self.old.place (λ first last.
-            ReclaimsShared (asks_alone self.old additional)
-            (room_for false (type_size S.Item.row) self.old additional)
-            self.old self.new first last result) }
+            ReclaimsShared (asks_alone (bare self.old) additional)
+            (room_for false (type_size S.Item.row) (bare self.old) additional)
+            (bare self.old) (bare self.new) first last result) }
         ensures items { self.new.items ≡ self.old.items }
     {
         let mut pass = self.pass();

@@ -1,9 +1,9 @@
 //! What a write window gives back: a vector, a box, an array, the buffer.
-ghost use Rattle.std.specs.Prelude.{◌+◌, ◌≡◌, Err, IfErr, IfOk, true};
+ghost use Rattle.std.specs.Prelude.{◌+◌, ◌≡◌, Err, IfErr, IfOk, Some, true};
 ghost use Rattle.std.specs.Vec.{vec_capacity};
 ghost use Rattle.std.specs.declared.vec.Vec.{Vec};
 ghost use Rattle.arc_owners.specs.count.Calls.{Leaves};
-ghost use Rattle.arc_block.specs.Place.{at_owner, size_at};
+ghost use Rattle.arc_block.specs.Place.{at_owner, buffer_at, size_at};
 ghost use Rattle.arc_parts.specs.Steps.{IsPassAt, RefusesTaking, TakesAt};
 ghost use Rattle.arc_parts.specs.Window.{IsBoxWhole, IsBufferWhole, IsVecPart};
 ghost use Rattle.arc_parts.specs.Writers.{IsWholeWriter};
@@ -224,6 +224,7 @@ impl<
         requires pass { IsPassAt self.place pass.old }
         ensures taken { IfOk result (λ buffer. IsBufferWhole self.items self.place
             × (B.list buffer ≡ self.items) × (B.places buffer ≡ size_at self.place)) }
+        ensures itself { IfOk result (λ buffer. buffer_at self.place ≡ Some buffer) }
         ensures entry { IfOk result (λ _. at_owner self.place ⊥ (λ o.
             Leaves o pass.old pass.new true)) }
         ensures refused { IfErr result (λ back. (back ≡ self)
@@ -250,6 +251,7 @@ impl<
         H: Stepping,
         ensures taken { IfOk result (λ buffer. IsBufferWhole self.items self.place
             × (B.list buffer ≡ self.items) × (B.places buffer ≡ size_at self.place)) }
+        ensures itself { IfOk result (λ buffer. buffer_at self.place ≡ Some buffer) }
         ensures entry { IfOk result (λ _. WithNewPass {H = H} H.real self.place (λ first last.
             at_owner self.place ⊥ (λ o. Leaves o first last true))) }
         ensures refused { IfErr result (λ back. (back ≡ self)

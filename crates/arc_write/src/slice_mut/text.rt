@@ -3,6 +3,7 @@ ghost use Rattle.std.specs.Prelude.{◌++◌, ◌≡◌, ◌≤◌, Err, false, 
 ghost use Rattle.std.specs.Prelude.{OnErr, OnOk};
 ghost use Rattle.arc_owners.specs.count.Calls.{IsPassOfNone};
 ghost use Rattle.arc_block.specs.Place.{nowhere, size_at};
+ghost use Rattle.arc_block.specs.Table.{bare};
 ghost use Rattle.arc_parts.specs.Steps.{IsPassAt};
 ghost use Rattle.arc_parts.specs.Writers.{MakesWriter, room_for};
 ghost use Rattle.arc_sort_writers.specs.Growth.{AsksForRoom, IfAsked};
@@ -70,10 +71,13 @@ impl<
             result) }
         ensures within { StaysWithin R.Parts.several (length text.now)
             self.old self.new (is_ok result) }
-        ensures same { OnErr result (self.new ≡ self.old) }
+        ensures same { OnErr result (bare self.new ≡ bare self.old) }
     {
         self.known_place();
-        self.parts.try_extend_from_slice_as(text.as_bytes(), pass)
+        self.known_ungiven();
+        let extended = self.parts.try_extend_from_slice_as(text.as_bytes(), pass);
+        self.parts.known_ungiven();
+        extended
     }
 
     /// Appends a copy of the text, behind the window's: `try_extend_from_str_as` with a new pass.
@@ -107,7 +111,7 @@ impl<
             result) }
         ensures within { StaysWithin R.Parts.several (length text.now)
             self.old self.new (is_ok result) }
-        ensures same { OnErr result (self.new ≡ self.old) }
+        ensures same { OnErr result (bare self.new ≡ bare self.old) }
     {
         let mut pass = self.pass();
         let extended = self.try_extend_from_str_as(text, &mut pass);

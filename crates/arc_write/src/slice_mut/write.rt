@@ -5,7 +5,9 @@ ghost use Rattle.std.specs.Borrow.{sem};
 ghost use Rattle.std.specs.Mem.{type_size};
 ghost use Rattle.arc_owners.specs.count.Calls.{Owner};
 ghost use Rattle.arc_owners.specs.declared.count.tokens.Pass.{Pass};
+ghost use Rattle.arc_block.specs.Given.{Given};
 ghost use Rattle.arc_block.specs.Place.{Place, size_at};
+ghost use Rattle.arc_block.specs.Table.{bare};
 ghost use Rattle.arc_parts.specs.Shared.{IsOneBlock, LeavesAt};
 ghost use Rattle.arc_parts.specs.Steps.{IsPassAt};
 ghost use Rattle.arc_parts.specs.Window.{PartsView};
@@ -85,10 +87,13 @@ impl<
             AsksForRoom B.list B.places B.grows B.refuses self.old k (size_at self.new.place)
             (without_item result)) }
         ensures within { StaysWithin R.Parts.several 1 self.old self.new (is_ok result) }
-        ensures same { OnErr result (self.new ≡ self.old) }
+        ensures same { OnErr result (bare self.new ≡ bare self.old) }
     {
         self.known_place();
-        self.parts.try_push_as(item, pass)
+        self.known_ungiven();
+        let pushed = self.parts.try_push_as(item, pass);
+        self.parts.known_ungiven();
+        pushed
     }
 
     /// Appends an item, behind the others: `try_push_as` with a new pass.
@@ -123,7 +128,7 @@ impl<
             AsksForRoom B.list B.places B.grows B.refuses self.old k (size_at self.new.place)
             (without_item result)) }
         ensures within { StaysWithin R.Parts.several 1 self.old self.new (is_ok result) }
-        ensures same { OnErr result (self.new ≡ self.old) }
+        ensures same { OnErr result (bare self.new ≡ bare self.old) }
     {
         let mut pass = self.pass();
         let pushed = self.try_push_as(item, &mut pass);
@@ -169,10 +174,13 @@ impl<
             (size_at self.new.place) result) }
         ensures within { StaysWithin R.Parts.several (length items.now)
             self.old self.new (is_ok result) }
-        ensures same { OnErr result (self.new ≡ self.old) }
+        ensures same { OnErr result (bare self.new ≡ bare self.old) }
     {
         self.known_place();
-        self.parts.try_extend_from_slice_as(items, pass)
+        self.known_ungiven();
+        let extended = self.parts.try_extend_from_slice_as(items, pass);
+        self.parts.known_ungiven();
+        extended
     }
 
     /// Appends a copy of the items, behind the others: `try_extend_from_slice_as` with a new pass.
@@ -209,7 +217,7 @@ impl<
             (size_at self.new.place) result) }
         ensures within { StaysWithin R.Parts.several (length items.now)
             self.old self.new (is_ok result) }
-        ensures same { OnErr result (self.new ≡ self.old) }
+        ensures same { OnErr result (bare self.new ≡ bare self.old) }
     {
         let mut pass = self.pass();
         let extended = self.try_extend_from_slice_as(items, &mut pass);
@@ -229,7 +237,7 @@ impl<
         S::Item: Copy,
         R::Parts: CopyWriterParts<S, B, M, A, H>,
         ensures done { OnOk result ((length items.now ≤ spare_places self.old)
-            × (self.new ≡ with_more items.now self.old)) }
+            × (bare self.new ≡ with_more items.now (bare self.old))) }
         ensures full { OnErr result ((spare_places self.old < length items.now)
             × (self.new ≡ self.old)) }
     {
@@ -243,14 +251,14 @@ impl<
     /// Once items were written behind its own (`with_more`), the window stands on the same block,
     /// as the same owner. Does nothing: its contract is the law.
     pub fn known_after_writes(&self)
-        ensures pass { (old : PartsView S.Item M) (items : List S.Item) (pass : Pass H)
-            → self.now ≡ with_more items old → IsPassAt old.place pass
+        ensures pass { (old : PartsView S.Item (Given B M)) (items : List S.Item) (pass : Pass H)
+            → bare self.now ≡ with_more items (bare old) → IsPassAt old.place pass
             → IsPassAt self.now.place pass }
-        ensures left { (old : PartsView S.Item M) (items : List S.Item) (before after : Pass H)
-            → self.now ≡ with_more items old → LeavesAt self.now.place before after
-            → LeavesAt old.place before after }
-        ensures block { (old : PartsView S.Item M) (items : List S.Item)
-            (other : Place (Option Owner) M) → self.now ≡ with_more items old
+        ensures left { (old : PartsView S.Item (Given B M)) (items : List S.Item)
+            (before after : Pass H) → bare self.now ≡ with_more items (bare old)
+            → LeavesAt self.now.place before after → LeavesAt old.place before after }
+        ensures block { (old : PartsView S.Item (Given B M)) (items : List S.Item)
+            (other : Place (Option Owner) (Given B M)) → bare self.now ≡ with_more items (bare old)
             → IsOneBlock old.place other → IsOneBlock self.now.place other }
     {}
 }

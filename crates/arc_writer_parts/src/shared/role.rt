@@ -9,7 +9,7 @@ ghost use Rattle.arc_owners.specs.count.Calls.{AsksAndLeaves};
 ghost use Rattle.arc_parts.specs.Shared.{LeavesAt};
 ghost use Rattle.arc_parts.specs.Steps.{Begins, IsPassAt, Makes, RefusesTaking, TakesAt};
 ghost use Rattle.arc_parts.specs.Window.{IsBoxWhole, IsHeld, IsVecPart, window_of};
-ghost use Rattle.arc_parts.specs.Writers.{as_reader, Freezes, with_items};
+ghost use Rattle.arc_parts.specs.Writers.{as_reader, Freezes, with_written};
 
 use super::{SharedParts, SharedStorage};
 use crate::role::{CopyWriterParts, WriterParts};
@@ -34,7 +34,7 @@ impl<S: Slice, B: BufferMut<S::Item> + Drop, M: Drop, A: Allocator + Copy, H: Ma
 
     ghost several = { true };
 
-    ghost with_list = { with_items };
+    ghost with_list = { with_written B.with_part };
 
     fn known_place(&self) {
         match &self.on {
@@ -47,6 +47,13 @@ impl<S: Slice, B: BufferMut<S::Item> + Drop, M: Drop, A: Allocator + Copy, H: Ma
         match &self.on {
             SharedStorage::Several(_) => (),
             SharedStorage::Alone(parts) => parts.known_idle(),
+        }
+    }
+
+    fn known_ungiven(&self) {
+        match &self.on {
+            SharedStorage::Several(_) => (),
+            SharedStorage::Alone(parts) => parts.known_memory(),
         }
     }
 
@@ -337,7 +344,7 @@ where
     S::Item: Copy,
 {
     #[inline(always)]
-    #[tactic(auto, using(crate::proofs::Rooms::more_extended, crate::proofs::Rooms::shared_asked))]
+    #[tactic(auto, using(crate::proofs::Rooms::shared_asked))]
     fn try_extend_from_slice_as(
         &mut self,
         items: &[S::Item],

@@ -1,6 +1,7 @@
 //! Room for one of several writers, who makes it only while no other owner lives.
 ghost use Rattle.std.specs.Prelude.{◌≡◌, ◌≤◌, ◌<◌, ◌+◌, ◌-◌, ◌∷◌, [], false, length, OnOk};
 ghost use Rattle.std.specs.Mem.{type_size};
+ghost use Rattle.arc_block.specs.Table.{bare};
 ghost use Rattle.arc_parts.specs.Shared.{MakesSharedRoom, MakesRoomBeside, ReclaimsShared};
 ghost use Rattle.arc_parts.specs.Shared.{asks_alone, as_shared, extended, is_on_block};
 ghost use Rattle.arc_parts.specs.Shared.{IsSharedPlace};
@@ -43,7 +44,7 @@ impl<S: Slice, B: BufferMut<S::Item> + Drop, M: Drop, A: Allocator + Copy, H: Ma
     #[inline(always)]
     pub(super) fn push_reserved(&mut self, item: S::Item)
         requires { length self.old.items + 1 ≤ capacity_of self.old.role }
-        ensures { self.new ≡ extended (item ∷ []) self.old }
+        ensures { bare self.new ≡ extended (item ∷ []) (bare self.old) }
     {
         self.known_kind();
         match &mut self.on {
@@ -77,9 +78,9 @@ impl<S: Slice, B: BufferMut<S::Item> + Drop, M: Drop, A: Allocator + Copy, H: Ma
     ) -> Result<(), TryReserveError>
         requires short { capacity_of self.old.role - length self.old.items < additional }
         requires pass { IsPassAt self.old.place pass.old }
-        ensures room { MakesSharedRoom (asks_alone self.old additional) H.whole
-            (room_for false (type_size S.Item.row) self.old additional)
-            self.old self.new pass.old pass.new result }
+        ensures room { MakesSharedRoom (asks_alone (bare self.old) additional) H.whole
+            (room_for false (type_size S.Item.row) (bare self.old) additional)
+            (bare self.old) (bare self.new) pass.old pass.new result }
         ensures items { self.new.items ≡ self.old.items }
         ensures enough { OnOk result
             (length self.new.items + additional ≤ capacity_of self.new.role) }
@@ -100,9 +101,9 @@ impl<S: Slice, B: BufferMut<S::Item> + Drop, M: Drop, A: Allocator + Copy, H: Ma
     ) -> (Self, Result<(), TryReserveError>)
         requires short { capacity_of self.role - length self.items < additional }
         requires pass { IsPassAt self.place pass.old }
-        ensures room { MakesSharedRoom (asks_alone self additional) H.whole
-            (room_for false (type_size S.Item.row) self additional)
-            self result.0 pass.old pass.new result.1 }
+        ensures room { MakesSharedRoom (asks_alone (bare self) additional) H.whole
+            (room_for false (type_size S.Item.row) (bare self) additional)
+            (bare self) (bare result.0) pass.old pass.new result.1 }
         ensures items { result.0.items ≡ self.items }
         ensures enough { OnOk result.1
             (length result.0.items + additional ≤ capacity_of result.0.role) }
@@ -137,8 +138,8 @@ impl<S: Slice, B: BufferMut<S::Item> + Drop, M: Drop, A: Allocator + Copy, H: Ma
         requires place { ¬ IsOfBuffer sole.place }
         requires pass { IsPassAt sole.place pass.old }
         ensures room { MakesRoomBeside H.whole
-            (room_for false (type_size S.Item.row) sole additional)
-            sole result.0 pass.old pass.new result.1 }
+            (room_for false (type_size S.Item.row) (bare sole) additional)
+            (bare sole) (bare result.0) pass.old pass.new result.1 }
         ensures items { result.0.items ≡ sole.items }
         ensures enough { OnOk result.1
             (length result.0.items + additional ≤ capacity_of result.0.role) }
@@ -154,9 +155,9 @@ impl<S: Slice, B: BufferMut<S::Item> + Drop, M: Drop, A: Allocator + Copy, H: Ma
         requires short { capacity_of self.role - length self.items < additional }
         requires several { as_shared self ≡ self }
         requires pass { IsPassAt self.place pass.old }
-        ensures room { ReclaimsShared (asks_alone self additional)
-            (room_for false (type_size S.Item.row) self additional)
-            self result.0 pass.old pass.new result.1 }
+        ensures room { ReclaimsShared (asks_alone (bare self) additional)
+            (room_for false (type_size S.Item.row) (bare self) additional)
+            (bare self) (bare result.0) pass.old pass.new result.1 }
         ensures items { result.0.items ≡ self.items }
     {
         self.known_kind();

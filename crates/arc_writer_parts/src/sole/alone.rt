@@ -1,7 +1,7 @@
 //! What a sole writer's parts say to the parts of one of several writers that consist of them.
-ghost use Rattle.std.specs.Prelude.{◌≡◌, ℕ, ◌↔◌, false, IsTrue};
+ghost use Rattle.std.specs.Prelude.{◌≡◌, ℕ, ◌↔◌, false, IsTrue, None};
 ghost use Rattle.arc_sort_writers.specs.NativeWriters.{IsAlonePlace};
-ghost use Rattle.arc_block.specs.Place.{IsOnBlock, at_owner};
+ghost use Rattle.arc_block.specs.Place.{IsOnBlock, at_owner, given_at};
 ghost use Rattle.arc_parts.specs.Shared.{AsksAlone};
 ghost use Rattle.arc_parts.specs.Steps.{IsPassAt};
 ghost use Rattle.arc_block.specs.Table.{sole_writer};
@@ -44,6 +44,19 @@ impl<S: Slice, B: BufferMut<S::Item> + Drop, M: Drop, A: Allocator + Copy, H: Ma
         match &self.on {
             SoleStorage::Native(parts) => parts.known_uncounted(),
             SoleStorage::Other(SoleOther::Vector(parts)) => parts.known_uncounted(),
+            SoleStorage::Other(SoleOther::Buffer(parts)) => parts.not_alone(),
+        }
+    }
+
+    /// On nothing and on a vector there is nothing that a caller gave as a buffer. Does nothing:
+    /// its contract is the law.
+    pub(crate) fn known_memory(&self)
+        requires { IsAlonePlace self.now.place }
+        ensures { given_at self.now.place ≡ None }
+    {
+        match &self.on {
+            SoleStorage::Native(parts) => parts.known_ungiven(),
+            SoleStorage::Other(SoleOther::Vector(parts)) => parts.known_ungiven(),
             SoleStorage::Other(SoleOther::Buffer(parts)) => parts.not_alone(),
         }
     }

@@ -1,9 +1,10 @@
 //! A sole writer's parts over a caller's buffer: made of one, and taken back as one.
-ghost use Rattle.std.specs.Prelude.{◌≡◌, true, length};
+ghost use Rattle.std.specs.Prelude.{◌≡◌, true, length, Some};
 ghost use Rattle.std.specs.Prelude.{IfOk, IfErr};
 ghost use Rattle.arc_owners.specs.count.Calls.{IsPassOfNone, Leaves};
 ghost use Rattle.arc_block.specs.Block.{buffer_info};
-ghost use Rattle.arc_block.specs.Place.{at_owner};
+ghost use Rattle.arc_block.specs.Given.{given_as};
+ghost use Rattle.arc_block.specs.Place.{at_owner, buffer_at};
 ghost use Rattle.arc_parts.specs.Steps.{IsPassAt};
 ghost use Rattle.arc_parts.specs.Window.{IsBufferWhole};
 ghost use Rattle.arc_parts.specs.Writers.{MakesBufferWriter};
@@ -44,8 +45,8 @@ impl<S: Slice, B: BufferMut<S::Item> + Drop, M: Drop, A: Allocator + Copy, H: Ma
     ) -> Result<Self, (B, Option<M>)>
         requires pass { IsPassOfNone pass.old }
         ensures made { IfOk result (λ parts. MakesBufferWriter H.whole
-            (buffer_info true (B.places buffer) (length (B.list buffer)) metadata)
-            (B.list buffer) parts pass.new) }
+            (buffer_info true (B.places buffer) (length (B.list buffer))
+            (Some (given_as true buffer metadata))) (B.list buffer) parts pass.new) }
         ensures refused { IfErr result (λ back. (back.0 ≡ buffer) × (back.1 ≡ metadata)
             × (pass.new ≡ pass.old)) }
     {
@@ -69,6 +70,7 @@ impl<S: Slice, B: BufferMut<S::Item> + Drop, M: Drop, A: Allocator + Copy, H: Ma
         requires pass { IsPassAt self.place pass.old }
         ensures taken { IfOk result (λ buffer. IsBufferWhole self.items self.place
             × (B.list buffer ≡ self.items) × (B.places buffer ≡ size_at self.place)) }
+        ensures itself { IfOk result (λ buffer. buffer_at self.place ≡ Some buffer) }
         ensures entry { IfOk result (λ _. at_owner self.place ⊥ (λ o.
             Leaves o pass.old pass.new true)) }
         ensures refused { IfErr result (λ back. (back ≡ self)

@@ -6,6 +6,7 @@ ghost use Rattle.arc_owners.specs.count.Calls.{SeesAlone, IsPassFor};
 ghost use Rattle.arc_parts.specs.declared.storage.Storage.TheVariants.{Block as In};
 ghost use Rattle.arc_parts.specs.declared.storage.Storage.TheVariants.{Native as On};
 ghost use Rattle.arc_block.specs.Block.{IsWritable};
+ghost use Rattle.arc_block.specs.Given.{Given};
 ghost use Rattle.arc_block.specs.Place.{at_owner};
 ghost use Rattle.arc_block.specs.Table.{reader};
 ghost use Rattle.arc_parts.specs.Steps.{IsPassAt};
@@ -53,7 +54,7 @@ impl<S: Slice, B: BufferMut<S::Item> + Drop, M: Drop, A: Allocator + Copy, H: Ma
         pass: &mut Pass<H>,
     ) -> Result<Self, Block<S, B, M, A, MAX_OWNERS, H>>
         requires pass { IsPassFor block.owner pass.old }
-        requires within { IsWithin {T = S.Item} {M = M} (In block) start end }
+        requires within { IsWithin {T = S.Item} {M = Given B M} (In block) start end }
         requires writable { IsWritable block.facts.sort }
         ensures entry { Asks block.owner pass.old pass.new (is_ok result) }
         ensures sole { IfOk result (λ sole.
@@ -92,7 +93,7 @@ impl<S: Slice, B: BufferMut<S::Item> + Drop, M: Drop, A: Allocator + Copy, H: Ma
         pass: &mut Pass<H>,
     ) -> Result<Self, NativeBlock<S, A, MAX_OWNERS, H>>
         requires pass { IsPassFor block.owner pass.old }
-        requires within { IsWithin {T = S.Item} {M = M} (On block) start end }
+        requires within { IsWithin {T = S.Item} {M = Given B M} (On block) start end }
         ensures entry { Asks block.owner pass.old pass.new (is_ok result) }
         ensures sole { IfOk result (λ sole.
             sole ≡ as_sole S.DROPS (parts_of (window_seen (On block) start end))) }

@@ -8,7 +8,7 @@ ghost use Rattle.arc_block.specs.Table.{reader};
 ghost use Rattle.arc_owners.specs.count.Calls.{Leaves};
 ghost use Rattle.arc_parts.specs.Steps.{Begins, IsPassAt, Makes};
 ghost use Rattle.arc_parts.specs.Window.{IsBoxWhole, IsHeld, IsVecPart, window_of};
-ghost use Rattle.arc_parts.specs.Writers.{as_reader, Freezes, with_items};
+ghost use Rattle.arc_parts.specs.Writers.{as_reader, Freezes, with_written};
 
 use super::{SoleOther, SoleParts, SoleStorage};
 use crate::role::{CopyWriterParts, WriterParts};
@@ -32,7 +32,7 @@ impl<S: Slice, B: BufferMut<S::Item> + Drop, M: Drop, A: Allocator + Copy, H: Ma
 
     ghost several = { false };
 
-    ghost with_list = { with_items };
+    ghost with_list = { with_written B.with_part };
 
     fn known_place(&self) {
         self.known_role();
@@ -46,6 +46,11 @@ impl<S: Slice, B: BufferMut<S::Item> + Drop, M: Drop, A: Allocator + Copy, H: Ma
     #[tactic(auto, using(crate::proofs::Idle::no_items, crate::proofs::Idle::no_places))]
     fn known_idle(&self) {
         let _ = self.is_on_block();
+    }
+
+    #[tactic(auto, using(crate::proofs::Bare::not_several))]
+    fn known_ungiven(&self) {
+        let _ = &self.on;
     }
 
     #[inline(always)]
@@ -76,11 +81,18 @@ impl<S: Slice, B: BufferMut<S::Item> + Drop, M: Drop, A: Allocator + Copy, H: Ma
     }
 
     #[inline(always)]
+    #[tactic(auto, using(crate::proofs::Bare::ungiven_written))]
     fn as_mut_slice(&mut self) -> &mut [S::Item] {
         match &mut self.on {
-            SoleStorage::Native(parts) => parts.as_mut_slice(),
+            SoleStorage::Native(parts) => {
+                parts.known_ungiven();
+                parts.as_mut_slice()
+            }
             SoleStorage::Other(other) => match other {
-                SoleOther::Vector(parts) => parts.as_mut_slice(),
+                SoleOther::Vector(parts) => {
+                    parts.known_ungiven();
+                    parts.as_mut_slice()
+                }
                 SoleOther::Buffer(parts) => parts.as_mut_slice(),
             },
         }
@@ -105,7 +117,7 @@ impl<S: Slice, B: BufferMut<S::Item> + Drop, M: Drop, A: Allocator + Copy, H: Ma
     }
 
     #[inline(always)]
-    #[tactic(auto, using(arc_sort_writers::proofs::Growth::never_asked))]
+    #[tactic(auto, using(arc_sort_writers::proofs::Growth::never_asked, crate::proofs::Bare::bare_made, crate::proofs::Bare::held_made))]
     fn try_reserve_as(
         &mut self,
         additional: usize,
@@ -208,7 +220,7 @@ impl<S: Slice, B: BufferMut<S::Item> + Drop, M: Drop, A: Allocator + Copy, H: Ma
     {
         let SoleParts { on } = self;
         match on {
-            SoleStorage::Native(parts) => match parts.try_freeze_as::<L, B>(pass) {
+            SoleStorage::Native(parts) => match parts.try_freeze_as::<L>(pass) {
                 Ok(parts) => Ok(parts),
                 Err(back) => Err(Self::in_native(back)),
             },
@@ -243,7 +255,7 @@ impl<S: Slice, B: BufferMut<S::Item> + Drop, M: Drop, A: Allocator + Copy, H: Ma
         B: BorrowMetadata,
     {
         match &self.on {
-            SoleStorage::Native(parts) => parts.borrowed_metadata::<B>(),
+            SoleStorage::Native(parts) => parts.borrowed_metadata(),
             SoleStorage::Other(SoleOther::Vector(parts)) => parts.borrowed_metadata(),
             SoleStorage::Other(SoleOther::Buffer(parts)) => Some(parts.borrowed_metadata()),
         }
@@ -342,6 +354,7 @@ where
     }
 
     #[inline(always)]
+    #[tactic(auto, using(crate::proofs::Bare::bare_more))]
     fn extend_reserved(&mut self, items: &[S::Item]) {
         match &mut self.on {
             SoleStorage::Other(SoleOther::Buffer(parts)) => parts.extend_reserved(items),

@@ -1,6 +1,7 @@
 //! What a sole writer does without a pass.
 ghost use Rattle.std.specs.Prelude.{◌≡◌, ◌≤◌, ◌+◌, ◌∷◌, [], length};
 ghost use Rattle.std.specs.Mem.{type_size};
+ghost use Rattle.arc_block.specs.Table.{bare};
 ghost use Rattle.arc_parts.specs.Writers.{capacity_of, room_for, Reclaims, with_more};
 
 use super::{SoleOther, SoleParts, SoleStorage};
@@ -19,8 +20,8 @@ impl<S: Slice, B: BufferMut<S::Item> + Drop, M: Drop, A: Allocator + Copy, H: Ma
     /// Makes room for `additional` items more where that takes no memory, and answers whether there
     /// is room. A caller's buffer isn't asked for more.
     pub fn try_reclaim(&mut self, additional: usize) -> bool
-        ensures { Reclaims (room_for S.DROPS (type_size S.Item.row) self.old additional)
-            self.old self.new result }
+        ensures { Reclaims (room_for S.DROPS (type_size S.Item.row) (bare self.old) additional)
+            (bare self.old) (bare self.new) result }
     {
         match &mut self.on {
             SoleStorage::Other(SoleOther::Buffer(parts)) => parts.try_reclaim(additional),
@@ -31,9 +32,10 @@ impl<S: Slice, B: BufferMut<S::Item> + Drop, M: Drop, A: Allocator + Copy, H: Ma
 
     /// Appends an item. There is a place for it.
     #[inline(always)]
+    #[tactic(auto, using(crate::proofs::Bare::bare_more))]
     pub(crate) fn push_reserved(&mut self, item: S::Item)
         requires { length self.old.items + 1 ≤ capacity_of self.old.role }
-        ensures { self.new ≡ with_more (item ∷ []) self.old }
+        ensures { bare self.new ≡ with_more (item ∷ []) (bare self.old) }
     {
         match &mut self.on {
             SoleStorage::Native(parts) => parts.push_reserved(item),

@@ -3,6 +3,7 @@ use Rattle.std.proofs.Common.{if◌then◌else◌, ◌==◌, true, false, sym, s
 use Rattle.std.specs.Mem.{type_size}
 use Rattle.std.specs.Result.{OnOk}
 use Rattle.std.specs.declared.vec.Vec.{Vec}
+use Rattle.arc_block.specs.Table.{bare}
 use Rattle.arc_parts.specs.Shared.{PushesShared, asks_alone}
 use Rattle.arc_parts.specs.Writers.{room}
 use Rattle.arc_slots.specs.Writing.{seen_writing, items_of, additional_of}
@@ -13,8 +14,8 @@ use Rattle.arc_slots.proofs.several.write_beside_as.Goals as goal
 pub returns-in-Nothing-clause-written : goal.returns-in-Nothing-clause-written
 returns-in-Nothing-clause-written g c =
     let size = type_size g.row.S-Item in
-    let w = c.args.window.now in
-    let v = c.try_reserve_as.new.self in
+    let w = bare c.args.window.now in
+    let v = bare c.try_reserve_as.new.self in
     let p = c.args.pass.now in
     let q = c.try_reserve_as.new.pass in
     let reply = c.try_reserve_as.result in

@@ -3,6 +3,7 @@ use Rattle.std.proofs.Common.{if◌then◌else◌, ◌==◌, true, sym, subst}
 use Rattle.std.specs.Mem.{type_size}
 use Rattle.std.specs.Result.{OnOk}
 use Rattle.std.specs.declared.vec.Vec.{Vec}
+use Rattle.arc_block.specs.Table.{bare}
 use Rattle.arc_parts.specs.Writers.{room, Pushes}
 use Rattle.arc_slots.specs.Writing.{seen_writing, items_of, additional_of}
 use Rattle.arc_slots.specs.declared.slot.Writing.{Writing}
@@ -13,8 +14,8 @@ pub returns-in-Nothing-clause-written : goal.returns-in-Nothing-clause-written
 returns-in-Nothing-clause-written g c =
     let drops = g.S.Slice.DROPS in
     let size = type_size g.row.S-Item in
-    let w = c.args.window.now in
-    let v = c.try_reserve_as.new.self in
+    let w = bare c.args.window.now in
+    let v = bare c.try_reserve_as.new.self in
     let p = c.args.pass.now in
     let q = c.try_reserve_as.new.pass in
     let reply = c.try_reserve_as.result in

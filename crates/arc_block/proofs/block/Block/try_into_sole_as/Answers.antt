@@ -3,6 +3,7 @@ use Rattle.std.proofs.Common.{sym, ap, ◌∙◌, subst}
 use Rattle.arc_owners.specs.memory.Boxes.{value_of}
 use Rattle.arc_owners.specs.memory.SoleBoxes.{sole_in}
 use Rattle.arc_block.specs.Block.{BlockView, IsLimited}
+use Rattle.arc_block.specs.Given.{Given}
 use Rattle.arc_block.specs.Contents.{content_sort, held_in}
 use Rattle.arc_block.proofs.Contents.{vector_held, sort_told}
 use Rattle.arc_block.proofs.block.Block.try_into_sole_as.Goals as goal
@@ -13,7 +14,8 @@ into_vec-requires g c =
     let was = c.replace-content.ensures.value ∙ c.get_mut.ensures.value
     ∙ c.in-Ok.ensures.sole.1 in
     ap content_sort was ∙ sym (sort_told g.B.Buffer.list g.B.Buffer.places g.S.Slice.DROPS old)
-    ∙ ap (λ (b : BlockView g.row.S-Item.Denot g.row.M.Denot). b.facts.sort) c.self.view_is
+    ∙ ap (λ (b : BlockView g.row.S-Item.Denot (Given g.row.B.Denot g.row.M.Denot)). b.facts.sort)
+    c.self.view_is
     ∙ c.requires.sort
 
 pub returns-in-Ok-clause-sole : goal.returns-in-Ok-clause-sole

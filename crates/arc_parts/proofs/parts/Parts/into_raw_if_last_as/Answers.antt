@@ -1,10 +1,27 @@
 -- The `Arc` has all of the parts' items.
-use Rattle.std.proofs.Common.{refl, ◌∙◌}
-use Rattle.arc_parts.proofs.Raws.{raw_whole_is_all}
+use Rattle.std.proofs.Common.{Some, refl, sym, ap, ◌∙◌}
+use Rattle.arc_block.specs.Contents.{content_info}
+use Rattle.arc_block.specs.Given.{buffer_of}
+use Rattle.arc_parts.proofs.GivenParts.{buffer_kept}
+use Rattle.arc_parts.proofs.Raws.{raw_given, raw_whole_is_all}
 use Rattle.arc_parts.proofs.parts.Parts.into_raw_if_last_as.Goals as goal
 
 pub returns-in-Raw-clause-shared : goal.returns-in-Raw-clause-shared
 returns-in-Raw-clause-shared g c =
-    c.into_arc.ensures
+    ap (λ s. s.items) c.into_arc.ensures
     ∙ raw_whole_is_all _ _ _ c.args.self _ c.self.view_is c.in-Raw.is c.self.invariant
     (c.if-not-is_raw_whole.ensures.0 refl)
+
+pub returns-in-Raw-clause-itself : goal.returns-in-Raw-clause-itself
+returns-in-Raw-clause-itself g c =
+    ap buffer_of (raw_given _ _ _ c.args.self _ c.self.view_is c.in-Raw.is c.self.invariant)
+    ∙ ap (λ s. Some s.given.buffer) (sym c.into_arc.ensures)
+
+pub returns-in-Some-clause-itself : goal.returns-in-Some-clause-itself
+returns-in-Some-clause-itself g c =
+    let list = g.B.Buffer.list in
+    let places = g.B.Buffer.places in
+    let drops = g.S.Slice.DROPS in
+    buffer_kept list places drops _ _ _ c.args.self _ c.self.view_is c.in-Block.is _
+    c.in-Some.content c.in-Some.ensures.content
+    ∙ ap (λ x. buffer_of (content_info list places drops x).given) c.into_raw.ensures

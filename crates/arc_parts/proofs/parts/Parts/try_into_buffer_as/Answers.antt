@@ -1,5 +1,8 @@
 -- The same parts come back, over the same block.
-use Rattle.std.proofs.Common.{refl, arith}
+use Rattle.std.proofs.Common.{refl, ap, ◌∙◌, arith}
+use Rattle.arc_block.specs.Contents.{content_info}
+use Rattle.arc_block.specs.Given.{buffer_of}
+use Rattle.arc_parts.proofs.GivenParts.{buffer_kept}
 use Rattle.arc_parts.specs.Window.{IsBufferWhole}
 use Rattle.arc_parts.proofs.Windows.{taking_refused}
 use Rattle.std.proofs.lemmas.Grind.{common_steps}
@@ -14,3 +17,12 @@ returns-in-Err-clause-refused g c =
 
 pub returns-in-Ok-clause-taken : goal.returns-in-Ok-clause-taken
 returns-in-Ok-clause-taken g c = grind (arith, common_steps)
+
+pub returns-in-Ok-clause-itself : goal.returns-in-Ok-clause-itself
+returns-in-Ok-clause-itself g c =
+    let list = g.B.Buffer.list in
+    let places = g.B.Buffer.places in
+    let drops = g.S.Slice.DROPS in
+    buffer_kept list places drops _ _ _ c.args.self _ c.self.view_is c.in-Block.is _
+    c.in-Ok.content c.in-Ok.ensures.content
+    ∙ ap (λ x. buffer_of (content_info list places drops x).given) c.into_buffer-buffer.ensures

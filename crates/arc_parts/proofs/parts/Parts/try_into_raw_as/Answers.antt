@@ -1,7 +1,10 @@
 -- The same parts come back, over the same block.
-use Rattle.std.proofs.Common.{refl, ◌∙◌, arith}
+use Rattle.std.proofs.Common.{Some, refl, sym, ap, ◌∙◌, arith}
+use Rattle.arc_block.specs.Contents.{content_info}
+use Rattle.arc_block.specs.Given.{buffer_of}
+use Rattle.arc_parts.proofs.GivenParts.{buffer_kept}
 use Rattle.arc_parts.specs.Window.{IsRawWhole}
-use Rattle.arc_parts.proofs.Raws.{raw_whole_is_all}
+use Rattle.arc_parts.proofs.Raws.{raw_given, raw_whole_is_all}
 use Rattle.arc_parts.proofs.Windows.{taking_refused}
 use Rattle.std.proofs.lemmas.Grind.{common_steps}
 use Rattle.arc_parts.proofs.parts.Parts.try_into_raw_as.Goals as goal
@@ -17,9 +20,23 @@ pub returns-in-Raw-clause-taken : goal.returns-in-Raw-clause-taken
 returns-in-Raw-clause-taken g c =
     let whole = c.if-not-is_raw_whole.ensures.0 refl in (
       whole,
-      c.into_arc.ensures ∙ raw_whole_is_all _ _ _ c.args.self _ c.self.view_is c.in-Raw.is
-          c.self.invariant whole,
+      ap (λ s. s.items) c.into_arc.ensures ∙ raw_whole_is_all _ _ _ c.args.self _ c.self.view_is
+          c.in-Raw.is c.self.invariant whole,
     )
+
+pub returns-in-Raw-clause-itself : goal.returns-in-Raw-clause-itself
+returns-in-Raw-clause-itself g c =
+    ap buffer_of (raw_given _ _ _ c.args.self _ c.self.view_is c.in-Raw.is c.self.invariant)
+    ∙ ap (λ s. Some s.given.buffer) (sym c.into_arc.ensures)
 
 pub returns-in-Ok-clause-taken : goal.returns-in-Ok-clause-taken
 returns-in-Ok-clause-taken g c = grind (arith, common_steps)
+
+pub returns-in-Ok-clause-itself : goal.returns-in-Ok-clause-itself
+returns-in-Ok-clause-itself g c =
+    let list = g.B.Buffer.list in
+    let places = g.B.Buffer.places in
+    let drops = g.S.Slice.DROPS in
+    buffer_kept list places drops _ _ _ c.args.self _ c.self.view_is c.in-Block.is _
+    c.in-Ok.content c.in-Ok.ensures.content
+    ∙ ap (λ x. buffer_of (content_info list places drops x).given) c.into_raw.ensures

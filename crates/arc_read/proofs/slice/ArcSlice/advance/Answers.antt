@@ -2,6 +2,7 @@
 use Rattle.std.proofs.Common.{length, sym, ap, ◌∙◌, subst, arith}
 use Rattle.arc_buffer.specs.Slice.{IsEdge, IsRange}
 use Rattle.arc_block.specs.LayoutFacts.{layout_facts}
+use Rattle.arc_block.specs.Given.{Given}
 use Rattle.arc_parts.specs.Window.{Window}
 use Rattle.arc_read.proofs.Cuts.{keeps}
 use Rattle.std.proofs.lemmas.Grind.{common_steps}
@@ -11,10 +12,12 @@ pub invariant_of-self : goal.invariant_of-self
 invariant_of-self g c =
     let boundary = g.S.Subsliceable.boundary in
     let p = c.self.inside.parts in
-    let edge = subst (λ (w : Window g.row.S-Item.Denot g.row.M.Denot). IsEdge boundary w.items
+    let edge = subst (λ (w : Window g.row.S-Item.Denot (Given g.row.B.Denot g.row.M.Denot)).
+    IsEdge boundary w.items
     c.args.n) (sym c.self.view_is) c.requires in
     let end = c.len-end.ensures
-    ∙ ap (λ (w : Window g.row.S-Item.Denot g.row.M.Denot). length w.items) (sym c.self.view_is)
+    ∙ ap (λ (w : Window g.row.S-Item.Denot (Given g.row.B.Denot g.row.M.Denot)).
+    length w.items) (sym c.self.view_is)
     in
     keeps g.S.Slice.is_legal boundary g.met.S.Subsliceable.range_is_legal (layout_facts g.L.Layout)
     p _ c.args.n _ c.keep.ensures c.self.invariant

@@ -1,5 +1,6 @@
 -- The vector has the window's list, which is legal.
 use Rattle.std.proofs.Common.{sym, ap, ◌∙◌, subst}
+use Rattle.arc_block.specs.Given.{Given}
 use Rattle.arc_parts.specs.Window.{PartsView}
 use Rattle.arc_block.specs.Place.{size_at}
 use Rattle.arc_read.proofs.slice.ArcSlice.try_into_vec_as.Goals as goal
@@ -15,6 +16,7 @@ returns-in-Ok-clause-places g c = (
   c.in-Ok.inner,
   c.from_inner.ensures,
   c.in-Ok.ensures.taken.2
-      ∙ ap (λ (p : PartsView g.row.S-Item.Denot g.row.M.Denot). size_at p.place)
+      ∙ ap (λ (p : PartsView g.row.S-Item.Denot (Given g.row.B.Denot g.row.M.Denot)).
+      size_at p.place)
       c.into_parts.ensures.parts,
 )

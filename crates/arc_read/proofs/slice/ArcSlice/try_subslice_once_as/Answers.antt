@@ -3,6 +3,7 @@ use Rattle.std.proofs.Common.{◌≡◌, sym, subst, IfOk}
 use Rattle.arc_buffer.specs.Slice.{sub, IsRange}
 use Rattle.arc_block.specs.LayoutFacts.{layout_facts}
 use Rattle.arc_block.specs.Place.{part_place}
+use Rattle.arc_block.specs.Given.{Given}
 use Rattle.arc_parts.specs.Window.{Window}
 use Rattle.arc_parts.specs.Steps.{Shares}
 use Rattle.arc_parts.proofs.Held.{part_held, shared_held}
@@ -15,7 +16,8 @@ from_parts-requires-clause-legal g c =
     let boundary = g.S.Subsliceable.boundary in
     let items = subst (λ r. IfOk r (λ part. part.items ≡ sub p.items c.args.start c.args.end))
     c.in-Ok.is c.in_ok-parts.ensures.items in
-    let range = subst (λ (w : Window g.row.S-Item.Denot g.row.M.Denot). IsRange boundary w.items
+    let range = subst (λ (w : Window g.row.S-Item.Denot (Given g.row.B.Denot g.row.M.Denot)).
+    IsRange boundary w.items
     c.args.start c.args.end) (sym c.self.view_is) c.requires.range in
     subst (λ xs. ∥ g.S.Slice.is_legal xs ∥₁) (sym items)
     (part_legal g.S.Slice.is_legal boundary g.met.S.Subsliceable.range_is_legal p.items c.args.start

@@ -1,8 +1,10 @@
 -- The pass of the vector comes back to its place, and that of the new block behind the others.
-use Rattle.std.proofs.Common.{◌≡◌, ◌∙◌, refl, sym, subst, Some}
-use Rattle.arc_slots.specs.Slots.{SlotView, stand_of, window_in}
+use Rattle.std.proofs.Common.{◌≡◌, ◌∙◌, true, false, refl, sym, ap, subst, Some}
+use Rattle.arc_block.specs.Table.{bare}
+use Rattle.arc_slots.specs.Slots.{SlotView, bare_held, stand_of, window_in}
 use Rattle.arc_slots.specs.Stands.{HasNumber, HasPassFor, IsAttested}
 use Rattle.arc_slots.specs.declared.window.Held.TheVariants.{Several}
+use Rattle.arc_slots.proofs.Bare.{bare_leaves_vector, bare_vector}
 use Rattle.arc_slots.proofs.Parted.{LeftVector, left-vector}
 use Rattle.arc_slots.proofs.Parted.{shared-vector}
 use Rattle.arc_slots.proofs.Parted.{slot-nothing, still-more}
@@ -14,8 +16,11 @@ use Rattle.arc_slots.proofs.slot.Slot.leave_vector.Goals as goal
 
 pub try_leave_vector_as-requires-clause-vector : goal.try_leave_vector_as-requires-clause-vector
 try_leave_vector_as-requires-clause-vector g c =
-    shared-vector g.S.Small.SmallOf.seen c.self.inside.window c.in-Several.window
-    c.self.inside.block c.in-Several.is c.args.self.now c.self.view_is c.self.invariant.0
+    let w = c.in-Several.window in
+    sym (bare_vector w.place)
+    ∙ shared-vector g.S.Small.SmallOf.seen (bare_held c.self.inside.window) (bare w)
+    c.self.inside.block (ap bare_held c.in-Several.is) c.args.self.now c.self.view_is
+    c.self.invariant.0
     ∙ c.requires.vector
 
 pub give_back-requires : goal.give_back-requires
@@ -26,18 +31,23 @@ give_back-requires g c =
     c.lend-pass.ensures.number)
 
 did : (g : Over) (c : After-give_back g)
-    → LeftVector c.args.self.now c.try_leave_vector_as.new.window c.keep-self-inside.result
+    → LeftVector c.args.self.now (bare c.try_leave_vector_as.new.window) c.keep-self-inside.result
     c.args.passes.now.of_blocks.items c.give_back.new.self.of_blocks.items
 did g c =
-    left-vector g.S.Small.SmallOf.seen c.self.inside.window c.in-Several.window
-    c.self.inside.block c.in-Several.is c.args.self.now c.self.view_is c.self.invariant.0
-    c.args.passes.now.of_blocks.items c.lend-pass.new.self.of_blocks.items c.lend-pass.result
-    c.requires.pass c.lend-pass.ensures.taken
-    c.try_leave_vector_as.new.window c.try_leave_vector_as.new.pass c.in-Ok.first
-    c.in-Ok.ensures.moved c.keep-self-inside.result c.keep-self-inside.new.self.of_blocks.items
+    let w = c.in-Several.window in
+    let v = c.try_leave_vector_as.new.window in
+    let p = c.lend-pass.result in
+    let q = c.try_leave_vector_as.new.pass in
+    left-vector g.S.Small.SmallOf.seen (bare_held c.self.inside.window) (bare w)
+    c.self.inside.block (ap bare_held c.in-Several.is) c.args.self.now c.self.view_is
+    c.self.invariant.0
+    c.args.passes.now.of_blocks.items c.lend-pass.new.self.of_blocks.items p
+    c.requires.pass c.lend-pass.ensures.taken (bare v) q c.in-Ok.first
+    (bare_leaves_vector false true w v p q c.in-Ok.first c.in-Ok.ensures.moved)
+    c.keep-self-inside.result c.keep-self-inside.new.self.of_blocks.items
     c.give_back.new.self.of_blocks.items (c.keep-self-inside.ensures.new refl).0
     (c.keep-self-inside.ensures.new refl).1 c.give_back.ensures
-    (role-as c.self.inside.window (Several c.in-Several.window) c.in-Several.is
+    (role-as (bare_held c.self.inside.window) (Several (bare w)) (ap bare_held c.in-Several.is)
     c.self.invariant.1)
 
 pub invariant_of-self : goal.invariant_of-self
@@ -45,8 +55,8 @@ invariant_of-self g c =
     let d = did g (goal.at.invariant_of-self g c).After-give_back in (
       d.fits,
       d.shares,
-      shares-as c.self.inside.window (Several c.in-Several.window) c.in-Several.is
-          g.S.TableKind.SHARES c.self.invariant.2,
+      shares-as (bare_held c.self.inside.window) (Several (bare c.in-Several.window))
+          (ap bare_held c.in-Several.is) g.S.TableKind.SHARES c.self.invariant.2,
     )
 
 pub returns-in-Ok-clause-row : goal.returns-in-Ok-clause-row
@@ -71,7 +81,8 @@ attest-requires g c =
     subst (λ ps. HasNumber ps c.self.inside.block)
     (sym (same-passes g (goal.at.attest-requires g c).After-give_back-in-Err))
     (has-number passes c.self.inside.block
-    (window_in g.S.Small.SmallOf.seen c.self.inside.window).place c.self.invariant.0
+    (window_in g.S.Small.SmallOf.seen (bare_held c.self.inside.window)).place
+    c.self.invariant.0
     (subst (λ s. HasPassFor passes (stand_of (Some s))) (sym c.self.view_is) c.requires.pass))
 
 pub returns-in-Err-clause-passes : goal.returns-in-Err-clause-passes

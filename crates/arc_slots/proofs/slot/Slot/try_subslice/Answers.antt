@@ -3,7 +3,8 @@ use Rattle.std.proofs.Common.{◌≡◌, ◌==◌, ◌&&◌, if◌then◌else◌
 use Rattle.arc_buffer.specs.Slice.{sub}
 use Rattle.arc_buffer.proofs.Sub.{length-sub}
 use Rattle.arc_commands.specs.Changes.{part_of}
-use Rattle.arc_slots.specs.Slots.{SlotView, as_held, held, role_in, row_of, window_in}
+use Rattle.arc_slots.specs.Slots.{SlotView, as_held, bare_held, bare_read, held}
+use Rattle.arc_slots.specs.Slots.{role_in, row_of, window_in}
 use Rattle.arc_slots.proofs.Cuts.{MadeBeside, holds-made, sub-fits, sub-made, sub-refused}
 use Rattle.arc_slots.proofs.Slots.{held-call}
 use Rattle.arc_slots.proofs.slot.Slot.try_subslice.Given.{Over}
@@ -13,7 +14,8 @@ use Rattle.arc_slots.proofs.slot.Slot.try_subslice.Goals as goal
 -- the block of the part
 part-block : (g : Over) (c : After-part_block g)
     → c.part_block.result ≡ (if g.L.Layout.STATIC
-    && (length (sub (window_in g.S.Small.SmallOf.seen c.self.inside.window).items c.args.start
+    && (length (sub (window_in g.S.Small.SmallOf.seen
+    (bare_held c.self.inside.window)).items c.args.start
     c.args.end) == 0) then None else c.self.inside.block)
 part-block g c =
     let long =
@@ -27,31 +29,35 @@ part-block g c =
 pub invariant_of-result : goal.invariant_of-result
 invariant_of-result g c =
     let small = g.S.Small.SmallOf.seen in
-    holds-made small g.S.TableKind.SHARES c.in-Ok.window c.part_block.result c.hold_window.result
-    c.hold_window.ensures
-    (sub-fits (held-call small c.self.inside.window c.self.view_is c.self.invariant.0
+    let made = bare_read c.in-Ok.window in
+    holds-made small g.S.TableKind.SHARES made c.part_block.result
+    (bare_held c.hold_window.result) c.hold_window.ensures
+    (sub-fits (held-call small (bare_held c.self.inside.window) c.self.view_is c.self.invariant.0
     c.requires.pass c.lend-pass.ensures.taken) c.cut_window-made.new.pass g.L.Layout.STATIC
-    c.args.start c.args.end (window_in small (as_held c.in-Ok.window)) c.in-Ok.ensures.place
+    c.args.start c.args.end (window_in small (as_held made)) c.in-Ok.ensures.place
     c.part_block.result (part-block g (goal.at.invariant_of-result g c).After-part_block))
 
 pub returns-in-Err-clause-refused : goal.returns-in-Err-clause-refused
 returns-in-Err-clause-refused g c =
-    sub-refused (held-call g.S.Small.SmallOf.seen c.self.inside.window c.self.view_is
+    sub-refused (held-call g.S.Small.SmallOf.seen
+    (bare_held c.self.inside.window) c.self.view_is
     c.self.invariant.0 c.requires.pass c.lend-pass.ensures.taken) c.cut_window-made.new.pass
     g.L.Layout.STATIC c.args.start c.args.end g.L.Layout.clone_wants c.in-Err.e
     c.in-Err.ensures.refused c.give_back.new.self.of_blocks.items c.give_back.ensures
 
 made : (g : Over) (c : After-part_block g)
-    → MadeBeside c.args.self.now (held g.S.Small.SmallOf.seen c.hold_window.result
-    c.part_block.result) (part_of g.L.Layout.STATIC (row_of c.args.self.now) c.args.start
-    c.args.end) c.args.passes.now.of_blocks.items c.give_back.new.self.of_blocks.items
+    → MadeBeside c.args.self.now (held g.S.Small.SmallOf.seen
+    (bare_held c.hold_window.result) c.part_block.result)
+    (part_of g.L.Layout.STATIC (row_of c.args.self.now) c.args.start c.args.end)
+    c.args.passes.now.of_blocks.items c.give_back.new.self.of_blocks.items
 made g c =
     let small = g.S.Small.SmallOf.seen in
-    sub-made (held-call small c.self.inside.window c.self.view_is c.self.invariant.0
+    let made = as_held (bare_read c.in-Ok.window) in
+    sub-made (held-call small (bare_held c.self.inside.window) c.self.view_is c.self.invariant.0
     c.requires.pass c.lend-pass.ensures.taken) c.cut_window-made.new.pass g.L.Layout.STATIC
-    c.args.start c.args.end (window_in small (as_held c.in-Ok.window)) c.in-Ok.ensures.place
-    c.part_block.result (part-block g c) (role_in (as_held c.in-Ok.window))
-    (held small c.hold_window.result c.part_block.result)
+    c.args.start c.args.end (window_in small made) c.in-Ok.ensures.place
+    c.part_block.result (part-block g c) (role_in made)
+    (held small (bare_held c.hold_window.result) c.part_block.result)
     (ap (λ h. held small h c.part_block.result) c.hold_window.ensures) c.in-Ok.ensures.items
     c.in-Ok.ensures.role c.give_back.new.self.of_blocks.items c.give_back.ensures
 

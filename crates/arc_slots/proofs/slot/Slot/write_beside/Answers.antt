@@ -1,9 +1,11 @@
 -- What is written becomes the slot's, and a first block's pass one of the passes.
-use Rattle.std.proofs.Common.{◌<◌, length, Ok, Err, sym, ◌∙◌, subst}
+use Rattle.std.proofs.Common.{◌<◌, length, Ok, Err, sym, ap, ◌∙◌, subst}
 use Rattle.std.specs.Mem.{type_size}
 use Rattle.std.specs.Vec.{vec_capacity}
-use Rattle.arc_slots.specs.Slots.{row_of}
+use Rattle.arc_block.specs.Table.{bare}
+use Rattle.arc_slots.specs.Slots.{bare_held, row_of}
 use Rattle.arc_slots.specs.Writing.{additional_of, items_of, seen_writing}
+use Rattle.arc_slots.proofs.Bare.{bare_shared}
 use Rattle.arc_slots.proofs.Filled.{fresh-by}
 use Rattle.arc_slots.proofs.FilledBeside.{SlotFillsBeside, beside-room}
 use Rattle.arc_slots.proofs.FilledBeside.{slot-fills-beside, slot-unfills-beside}
@@ -15,8 +17,9 @@ pub keep-self-inside-requires-clause-room : goal.keep-self-inside-requires-claus
 keep-self-inside-requires-clause-room g c begins =
     let wants = fresh-by g.S.Slice.DROPS (type_size g.row.S-Item) (row_of c.args.self.now)
     c.additional.ensures c.wants_block-begins.ensures in
-    beside-room g.S.Small.SmallOf.seen c.self.inside.window c.in-Several.window
-    c.self.inside.block c.in-Several.is c.args.self.now c.self.view_is g.S.TableKind.SHARES
+    beside-room g.S.Small.SmallOf.seen (bare_held c.self.inside.window)
+    (bare c.in-Several.window) c.self.inside.block (ap bare_held c.in-Several.is)
+    c.args.self.now c.self.view_is g.S.TableKind.SHARES
     c.self.invariant g.S.Slice.DROPS c.known_undropped.ensures (type_size g.row.S-Item)
     (additional_of (seen_writing c.args.what)) c.args.passes.now.of_blocks.items
     c.lend-pass.new.self.of_blocks.items c.lend-pass.result c.write_beside_as.new.pass
@@ -27,30 +30,34 @@ keep-self-inside-requires-clause-room g c begins =
 filled : (g : Over) (c : After-keep-self-inside g)
     → SlotFillsBeside g.S.TableKind.SHARES g.S.Slice.DROPS (type_size g.row.S-Item)
     (additional_of (seen_writing c.args.what)) (items_of (seen_writing c.args.what))
-    c.args.self.now c.write_beside_as.new.window c.keep-self-inside.result
+    c.args.self.now (bare c.write_beside_as.new.window) c.keep-self-inside.result
     c.args.passes.now.of_blocks.items c.keep-self-inside.new.self.of_blocks.items (Ok tt)
 filled g c =
     let wants = fresh-by g.S.Slice.DROPS (type_size g.row.S-Item) (row_of c.args.self.now)
     c.additional.ensures c.wants_block-begins.ensures in
-    slot-fills-beside g.S.Small.SmallOf.seen _ _ c.self.inside.block c.in-Several.is _
+    slot-fills-beside g.S.Small.SmallOf.seen (bare_held c.self.inside.window)
+    (bare c.in-Several.window) c.self.inside.block (ap bare_held c.in-Several.is) _
     c.self.view_is _ c.self.invariant _ c.known_undropped.ensures _ _ _
     c.lend-pass.new.self.of_blocks.items c.lend-pass.result c.write_beside_as.new.pass
-    c.lend-pass.ensures.taken c.requires.pass c.known_place.ensures.place _
-    c.write_beside_as.new.window _ _ c.in-Ok.ensures.written
+    c.lend-pass.ensures.taken c.requires.pass
+    (bare_shared c.in-Several.window.place c.known_place.ensures.place) _
+    (bare c.write_beside_as.new.window) _ _ c.in-Ok.ensures.written
     (λ old. c.keep-self-inside.ensures.same (wants ∙ old))
     (λ fresh. c.keep-self-inside.ensures.new (wants ∙ fresh))
 
 unfilled : (g : Over) (c : After-give_back g)
     → SlotFillsBeside g.S.TableKind.SHARES g.S.Slice.DROPS (type_size g.row.S-Item)
     (additional_of (seen_writing c.args.what)) (items_of (seen_writing c.args.what))
-    c.args.self.now c.write_beside_as.new.window c.self.inside.block
+    c.args.self.now (bare c.write_beside_as.new.window) c.self.inside.block
     c.args.passes.now.of_blocks.items c.give_back.new.self.of_blocks.items (Err c.in-Err.e)
 unfilled g c =
-    slot-unfills-beside g.S.Small.SmallOf.seen _ _ c.self.inside.block c.in-Several.is _
+    slot-unfills-beside g.S.Small.SmallOf.seen (bare_held c.self.inside.window)
+    (bare c.in-Several.window) c.self.inside.block (ap bare_held c.in-Several.is) _
     c.self.view_is _ c.self.invariant _ c.known_undropped.ensures _ _ _
     c.lend-pass.new.self.of_blocks.items c.lend-pass.result c.write_beside_as.new.pass
-    c.lend-pass.ensures.taken c.requires.pass c.known_place.ensures.place _ c.in-Err.e
-    c.write_beside_as.new.window _ c.in-Err.ensures.refused c.give_back.ensures
+    c.lend-pass.ensures.taken c.requires.pass
+    (bare_shared c.in-Several.window.place c.known_place.ensures.place) _ c.in-Err.e
+    (bare c.write_beside_as.new.window) _ c.in-Err.ensures.refused c.give_back.ensures
 
 pub invariant_of-self : goal.invariant_of-self
 invariant_of-self g c = (filled g (goal.at.invariant_of-self g c).After-keep-self-inside).fits

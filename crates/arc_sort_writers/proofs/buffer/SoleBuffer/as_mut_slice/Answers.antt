@@ -3,6 +3,7 @@ use Rattle.std.proofs.Common.{refl, ap, ◌∙◌}
 use Rattle.arc_owners.specs.memory.SoleBoxes.{sole_in, sole_value}
 use Rattle.arc_buffer.specs.Slice.{sub}
 use Rattle.arc_block.specs.Contents.{content_items}
+use Rattle.arc_block.specs.Given.{Given}
 use Rattle.arc_parts.specs.Window.{PartsView}
 use Rattle.arc_sort_writers.proofs.SoleBuffers.{lent_held, items_held}
 use Rattle.arc_sort_writers.proofs.buffer.SoleBuffer.as_mut_slice.Goals as goal
@@ -14,7 +15,8 @@ invariant_of-self-lent g c = λ w.
     (lent_held g.B.Buffer.list g.B.Buffer.places g.S.Slice.DROPS g.H.Mark.whole
     (sole_in c.self.inside.count) (sole_value c.self.inside.count) start c.self.inside.end
     c.args.self.now c.self.view_is c.self.invariant c.get_mut.result.now c.get_mut.ensures.value b
-    (g.B.BufferMut.with_part b start w) c.buffer_mut.ensures.value w kept.0 kept.1).1
+    (g.B.BufferMut.with_part b start w) c.buffer_mut.ensures.value g.B.BufferMut.with_part w refl
+    kept.0 kept.1).1
 
 pub returns : goal.returns
 returns g c = (
@@ -27,7 +29,8 @@ returns g c = (
         (sole_in c.self.inside.count) (sole_value c.self.inside.count) start c.self.inside.end
         c.args.self.now c.self.view_is c.self.invariant c.get_mut.result.now c.get_mut.ensures.value
         b
-        (g.B.BufferMut.with_part b start w) c.buffer_mut.ensures.value w kept.0 kept.1).0,
+        (g.B.BufferMut.with_part b start w) c.buffer_mut.ensures.value g.B.BufferMut.with_part w
+        refl kept.0 kept.1).0,
   ),
   record {
     writes_back = tt;
@@ -36,6 +39,7 @@ returns g c = (
         (items_held g.B.Buffer.list c.get_mut.result.now c.buffer_mut.result.now
         c.buffer_mut.ensures.value
         ∙ ap (λ x. content_items g.B.Buffer.list x) c.get_mut.ensures.value)
-        ∙ ap (λ (s : PartsView g.row.S-Item.Denot g.row.M.Denot). s.items) c.self.view_is;
+        ∙ ap (λ (s : PartsView g.row.S-Item.Denot (Given g.row.B.Denot g.row.M.Denot)). s.items)
+        c.self.view_is;
   },
 )

@@ -3,6 +3,7 @@ use Rattle.std.proofs.Common.{ap, sym, ◌∙◌, arith}
 use Rattle.std.proofs.lemmas.Grind.{common_steps}
 use Rattle.arc_owners.specs.memory.SoleBoxes.{sole_in, sole_value}
 use Rattle.arc_block.specs.Contents.{held_in}
+use Rattle.arc_block.specs.Table.{bare}
 use Rattle.arc_sort_writers.specs.SortParts.{block_part}
 use Rattle.arc_block.specs.declared.block.content.Content.TheVariants.{Buffer}
 use Rattle.arc_sort_writers.proofs.SoleBuffers.{pushed_seen}
@@ -16,8 +17,8 @@ returns g c =
     let drops = g.S.Slice.DROPS in let start = c.self.inside.start in
     let o = sole_in c.self.inside.count in
     let now = record held { buffer = put.new.buffer } in
-    ap (λ n. block_part drops (held_in {A = g.row.A.Denot} list places drops o (Buffer now)) start
-    n)
+    ap (λ n. bare (block_part drops (held_in {A = g.row.A.Denot} list places drops o (Buffer now))
+    start n))
     put.ensures.next
     ∙ pushed_seen list places drops g.H.Mark.whole o (sole_value c.self.inside.count) held
     (sym c.get_mut.ensures.value ∙ c.in-Buffer.is) start

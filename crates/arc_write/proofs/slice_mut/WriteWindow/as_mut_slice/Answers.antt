@@ -9,8 +9,9 @@ returns g c =
     let of = g.R.Parts.WriterParts in let parts = c.self.inside.parts in (
       (
         refl,
-        λ items. lent_seen (of.seen parts) (of.seen (of.with_list parts items)) c.args.self.now
-            items (g.met.R.Parts.WriterParts.keeps parts items) c.self.view_is,
+        λ items. lent_seen g.B.BufferMut.with_part (of.seen parts)
+            (of.seen (of.with_list parts items)) c.args.self.now items
+            (g.met.R.Parts.WriterParts.keeps parts items) c.self.view_is,
       ),
       record {
         writes_back = tt;
@@ -21,6 +22,6 @@ returns g c =
 pub invariant_of-self-lent : goal.invariant_of-self-lent
 invariant_of-self-lent g c = λ items.
     let of = g.R.Parts.WriterParts in let parts = c.self.inside.parts in
-    lent_held (layout_facts g.L.Layout) g.S.Slice.is_legal (of.seen parts)
+    lent_held (layout_facts g.L.Layout) g.S.Slice.is_legal g.B.BufferMut.with_part (of.seen parts)
     (of.seen (of.with_list parts items)) items (g.met.R.Parts.WriterParts.keeps parts items)
     g.met.S.AnyItems.all_are_legal c.self.invariant

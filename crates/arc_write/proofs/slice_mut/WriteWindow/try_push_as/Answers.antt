@@ -1,7 +1,10 @@
-use Rattle.std.proofs.Common.{◌≡◌, sym, subst}
+use Rattle.std.proofs.Common.{◌≡◌, true, None, sym, subst}
 use Rattle.std.specs.Prelude.{is_ok, OnErr}
 use Rattle.std.specs.Mem.{type_size}
+use Rattle.arc_block.specs.Given.{Given}
 use Rattle.arc_block.specs.LayoutFacts.{layout_facts}
+use Rattle.arc_block.specs.Place.{given_at}
+use Rattle.arc_block.specs.Table.{bare}
 use Rattle.arc_parts.specs.Window.{PartsView}
 use Rattle.arc_writer_parts.specs.Roles.{HasWritersRole}
 use Rattle.arc_write.specs.Within.{StaysWithin}
@@ -27,19 +30,23 @@ invariant_of-self g c =
 pub returns-clause-within : goal.returns-clause-within
 returns-clause-within g c =
     let of = g.R.Parts.WriterParts in let call = c.try_push_as in
-    subst (λ (w : PartsView g.row.S-Item.Denot g.row.M.Denot). StaysWithin of.several 1 w
+    let was = subst (λ (w : PartsView g.row.S-Item.Denot (Given g.row.B.Denot g.row.M.Denot)).
+    of.several ≡ true → given_at w.place ≡ None) (sym c.self.view_is) c.known_ungiven.ensures in
+    subst (λ (w : PartsView g.row.S-Item.Denot (Given g.row.B.Denot g.row.M.Denot)).
+    StaysWithin of.several 1 w
     (of.seen call.new.self) (is_ok call.result)) c.self.view_is
     (push_within of.several g.S.Slice.DROPS g.H.Mark.whole (type_size g.row.S-Item) 1
     (of.seen c.self.inside.parts) (of.seen call.new.self) c.args.pass.now call.new.pass
-    c.args.item call.result call.ensures.pushed call.ensures.refused)
+    was c.known_ungiven-2.ensures c.args.item call.result call.ensures.pushed call.ensures.refused)
 
 pub returns-clause-same : goal.returns-clause-same
 returns-clause-same g c =
     let of = g.R.Parts.WriterParts in let call = c.try_push_as in
-    let role = subst (λ (w : PartsView g.row.S-Item.Denot g.row.M.Denot).
+    let role = subst (λ (w : PartsView g.row.S-Item.Denot (Given g.row.B.Denot g.row.M.Denot)).
     HasWritersRole of.several w.role) (sym c.self.view_is) c.known_place.ensures.role in
-    subst (λ (w : PartsView g.row.S-Item.Denot g.row.M.Denot). OnErr call.result
-    (of.seen call.new.self ≡ w)) c.self.view_is
+    subst (λ (w : PartsView g.row.S-Item.Denot (Given g.row.B.Denot g.row.M.Denot)).
+    OnErr call.result
+    (bare (of.seen call.new.self) ≡ bare w)) c.self.view_is
     (push_same of.several g.S.Slice.DROPS g.H.Mark.whole (type_size g.row.S-Item) 1
     (of.seen c.self.inside.parts) (of.seen call.new.self) c.args.pass.now call.new.pass
     role c.args.item call.result call.ensures.refused)

@@ -1,6 +1,7 @@
 -- The places of a native block's writer were split where he stood; without a block both parts stand
 -- on nothing.
 use Rattle.std.proofs.Common.{◌≡◌, ◌≤◌, true, not, eqb, sym, ap, ◌∙◌, subst, rules}
+use Rattle.arc_block.specs.Given.{Given}
 use Rattle.arc_writer_parts.specs.PartsOn.{shared_on, IsSharedOn}
 use Rattle.arc_block.specs.Place.{IsOnBlock}
 use Rattle.arc_parts.specs.Shared.{as_shared, is_vector_at}
@@ -28,13 +29,15 @@ returns-then-not-is_on_block-clause-made g c =
     idle_split g.H.Mark.real g.H.Mark.whole (not (eqb g.row.FRONT_STAYS 0)) c.args.at c.args.self
     c.alone.result c.on_nothing.result c.args.pass.now seen (c.alone.ensures ∙ ap as_shared idle)
     c.on_nothing.ensures
-    (subst (λ (w : PartsView g.row.S-Item.Denot g.row.M.Denot). c.args.at ≤ capacity_of w.role) seen
+    (subst (λ (w : PartsView g.row.S-Item.Denot (Given g.row.B.Denot g.row.M.Denot)).
+    c.args.at ≤ capacity_of w.role) seen
     c.requires.at)
 
 pub split_vector_as-requires-clause-vector : goal.split_vector_as-requires-clause-vector
 split_vector_as-requires-clause-vector g c =
     let on : IsOnBlock c.in-Alone.parts.place = search rules in
-    subst (λ (w : PartsView g.row.S-Item.Denot g.row.M.Denot). is_vector_at w.place ≡ true)
+    subst (λ (w : PartsView g.row.S-Item.Denot (Given g.row.B.Denot g.row.M.Denot)).
+    is_vector_at w.place ≡ true)
     (sym c.alone-whole.ensures)
     (alone_vector c.in-Alone.parts.place
     (subst (λ on. IsSharedOn on) c.in-Alone.is c.self.invariant.1) on)

@@ -1,6 +1,7 @@
 -- The native block's count said that another owner lives.
 use Rattle.std.proofs.Common.{◌≡◌, true, refl, sym, ap, ◌∙◌, subst, arith}
 use Rattle.std.proofs.lemmas.Grind.{common_steps}
+use Rattle.arc_block.specs.Given.{Given}
 use Rattle.arc_block.specs.LayoutFacts.{layout_facts}
 use Rattle.arc_block.specs.Layouts.{holds_sort}
 use Rattle.arc_parts.specs.Window.{PartsView, IsBlockHeld, parts_of, window_seen}
@@ -27,7 +28,7 @@ returns-in-Static-2-clause-sole g c = grind (arith, common_steps)
 pub returns-in-Ok-try_of_block_as-clause-held : goal.returns-in-Ok-try_of_block_as-clause-held
 returns-in-Ok-try_of_block_as-clause-held g c =
     let block = c.in-Block.block in let may = c.if-not-may_write.ensures.0 refl in
-    subst (λ (w : PartsView g.row.S-Item.Denot g.row.M.Denot).
+    subst (λ (w : PartsView g.row.S-Item.Denot (Given g.row.B.Denot g.row.M.Denot)).
     IsBlockHeld (layout_facts g.L.Layout) w.place) (sym c.in-Ok-try_of_block_as.ensures.sole)
     (held_writable (layout_facts g.L.Layout) block.owner block.facts.sort
     (may.0, subst (λ any. holds_sort any block.facts.sort ≡ true) c.ANY.ensures may.1))

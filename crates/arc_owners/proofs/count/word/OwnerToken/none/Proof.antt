@@ -51,8 +51,9 @@ none_spec 𝓤 𝓛 𝓜 𝓡 wired T L =
             passes = 0;
             count = 0;
             place = 0;
-            most =
-                0;
+            bank = 0;
+            receipts = 0;
+            most = 0;
             began = Counted;
             whole = false;
           };

@@ -2,7 +2,6 @@
 use Rattle.std.proofs.Common.{◌≡◌, ℕ, Bool, true, [], ◌∷◌, ◌++◌, refl}
 use contract.BorrowLft.{◌⊑◌}
 use denote.Param.{param}
-use base.FractionLaws.{Counts}
 use base.Logic.{emp}
 use base.Fml.{ftrue, fsep, flft}
 use types.Kit.{‵, raw, ◌⊛◌, ◌$◌, ◌∵◌, !, qed, by, move, keep, drop, split, fsplit, fsplit3, fjoin}
@@ -14,7 +13,7 @@ use denote.RattleType.{RattleType, owns}
 use denote.Signature.{types_at}
 use denote.Steps.{nothing, heard}
 use Rattle.logbook.proofs.Fields.{token, token_told}
-use Rattle.arc_owners.specs.count.Invariant.{right_owns, staked}
+use Rattle.arc_owners.specs.count.Invariant.{right_owns, staked, IsStake}
 use Rattle.arc_owners.proofs.count.Markers.{marked, told}
 use Rattle.arc_owners.proofs.memory.Endings.{spends, enters, two_made, both_spent}
 use Rattle.arc_owners.specs.contracts.lifetime.LifetimeToken as LifetimeToken
@@ -43,7 +42,7 @@ take_lifetime_spec 𝓤 𝓛 𝓜 𝓡 wired T L =
     move ! (2 ∷ []) $ rewrite ! 0 (λ (k : Bool). ‵ (staked k l)) asked.1 refl $
     fpick ! (λ e. fpick ! (λ counts.
     -- [the share of the lifetime; the invariant; the right; no more parameters; the tokens]
-    nothing ! $ fpack ! (Counts 64 e 1) (λ _. ftrue) counts $ move ! (3 ∷ 0 ∷ []) $ fjoin ! $
+    nothing ! $ fpack ! (IsStake e) (λ _. ftrue) counts $ move ! (3 ∷ 0 ∷ []) $ fjoin ! $
     move ! (2 ∷ 0 ∷ []) $ fjoin ! $ marked R ! $ move ! (1 ∷ []) $ marked unit ! $
     let rest : Rest.Denot = record {
       marker = record {};

@@ -49,8 +49,9 @@ none_spec 𝓤 𝓛 𝓜 𝓡 wired =
             passes = 0;
             count = 0;
             place = 0;
-            most =
-                0;
+            bank = 0;
+            receipts = 0;
+            most = 0;
             began = Counted;
             whole = false;
           };

@@ -13,7 +13,9 @@ use denote.Memory.{part_at}
 use denote.Steps.{nothing}
 use denote.SharingLaws.{ends_shr_laws}
 use Rattle.core.proofs.cell.Borrows.{by_one}
-use Rattle.arc_owners.specs.count.Invariant.{BlockId, counting, lent, word_borrow_for}
+use Rattle.arc_owners.specs.count.Invariant.{BlockId, lent, word_borrow_as, word_borrow_for}
+use Rattle.arc_owners.specs.count.Invariant.{Borrowing}
+use Rattle.arc_owners.proofs.count.Shared.{borrow_twice}
 use Rattle.arc_owners.proofs.count.Signs.{signs}
 use Rattle.arc_owners.proofs.count.WordBorrows.{borrows_word}
 use Rattle.arc_owners.specs.contracts.count.word.Word as C
@@ -25,38 +27,34 @@ module _ {M : Type 1} {𝓤 : Ura M} (𝓛 : Logic 𝓤) (t : BlockId) (b o : �
 
   infix 26 ◌⊢◌
   infixr 35 ◌∗◌
-  abbrev I : Fml
-  I = counting t b o
-
   abbrev Whole : Fml
   Whole = part_at C.the_written full_share t b o
 
   shared : (κ : Lft) (q : Share) → At.bor κ Whole ∗ At.lft κ q ⊢ H.⇛
-      (⟦ fex (Lft × ℕ) (lent t b o κ) ⟧ ∗ At.lft κ q)
+      (⟦ fex (Lft × Borrowing) (lent t b o κ) ⟧ ∗ At.lft κ q)
   shared κ q = qed 𝓛 (‵ (fbor κ Whole) ∷ ‵ (flft κ q) ∷ []) ∵ updating ! $
       use2 𝓛 (later (‵ (word_borrow_for t b o κ) ⊛ ‵ (flft κ q))) (borrows_word 𝓛 t b o κ q) $
       await ! tt $ split ! $
       fpick ! (λ j. use0 𝓛 (‵ (before κ κ)) (before-Incl 𝓛 κ κ (Incl-refl κ)) $ fjoin ! $
-      fpack ! (Lft × ℕ) (lent t b o κ) (κ, j) $ now ! $ done !)
+      fpack ! (Lft × Borrowing) (lent t b o κ) (κ, j) $ now ! $ done !)
 
   abbrev Shared : Lft → Fml
-  Shared κ = fex (Lft × ℕ) (lent t b o κ)
+  Shared κ = fex (Lft × Borrowing) (lent t b o κ)
 
   twice : (κ : Lft) → ⟦ Shared κ ⟧ ⊢ ⟦ Shared κ ⟧ ∗ ⟦ Shared κ ⟧
-  twice κ = qed 𝓛 (‵ (Shared κ) ∷ []) ∵ fpick ! (λ z. let N : Fml = fnamed z.1 (fbor z.0 I) in
-      fsplit3 ! $ use1 𝓛 (‵ (before κ z.0) ⊛ ‵ (before κ z.0)) (before_dup 𝓛 κ z.0) $ split ! $
-      move ! (2 ∷ []) $ fpick ! (λ past. drop ! $ move ! (2 ∷ []) $
-      use1 𝓛 (‵ N ⊛ ‵ N) (𝓛.invs.named_dup z.1 (fbor z.0 I)) $ split ! $ nothing ! $
-      fpack ! (t.number < z.1) (λ _. ftrue) past $ move ! (3 ∷ 0 ∷ 1 ∷ []) $ fjoin3 ! $
-      fpack ! (Lft × ℕ) (lent t b o κ) z $
-      nothing ! $ fpack ! (t.number < z.1) (λ _. ftrue) past $ move ! (3 ∷ 0 ∷ 2 ∷ []) $ fjoin3 ! $
-      fpack ! (Lft × ℕ) (lent t b o κ) z $ done !))
+  twice κ = qed 𝓛 (‵ (Shared κ) ∷ []) ∵ fpick ! (λ z. let B : Fml = word_borrow_as t b o z.0 z.1 in
+      fsplit ! $ use1 𝓛 (‵ (before κ z.0) ⊛ ‵ (before κ z.0)) (before_dup 𝓛 κ z.0) $ split ! $
+      move ! (2 ∷ []) $ use1 𝓛 (‵ B ⊛ ‵ B) (borrow_twice 𝓛 t b o z.0 z.1) $ split ! $
+      -- [the borrow, twice; the lifetimes, twice]
+      move ! (2 ∷ 0 ∷ []) $ fjoin ! $ fpack ! (Lft × Borrowing) (lent t b o κ) z $
+      move ! (2 ∷ 1 ∷ []) $ fjoin ! $ fpack ! (Lft × Borrowing) (lent t b o κ) z $
+      move ! (1 ∷ 0 ∷ []) $ done !)
 
   shorter : (κ' κ : Lft) → ⟦ before κ' κ ⟧ ∗ ⟦ Shared κ ⟧ ⊢ ⟦ Shared κ' ⟧
   shorter κ' κ = qed 𝓛 (‵ (before κ' κ) ∷ ‵ (Shared κ) ∷ []) ∵ move ! (1 ∷ []) $
       fpick ! (λ z. fsplit ! $ move ! (2 ∷ 0 ∷ []) $
       use2 𝓛 (‵ (before κ' z.0)) ((ends_shr_laws z.0).mono M 𝓤 𝓛 κ' κ) $ fjoin ! $
-      fpack ! (Lft × ℕ) (lent t b o κ') z $ done !)
+      fpack ! (Lft × Borrowing) (lent t b o κ') z $ done !)
 
 pub shares : statement
 shares = record {

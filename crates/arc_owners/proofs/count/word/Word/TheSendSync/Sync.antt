@@ -1,10 +1,10 @@
 use denote.Param.Send.{IsSync}
 use Rattle.arc_owners.specs.contracts.count.word.Word.{the_row}
 use Rattle.core.proofs.atomic.Sent.{chain-Keyless}
-use Rattle.arc_owners.proofs.count.Shared.{behind_keyless}
+use Rattle.arc_owners.proofs.count.Shared.{borrow_keyless}
 
 pub sync : IsSync the_row
 sync = record {
   shared =
-      λ t b o κ z. ((λ νs. chain-Keyless νs κ z.0), ((λ _. tt), λ n. (tt, behind_keyless t n)));
+      λ t b o κ z. ((λ νs. chain-Keyless νs κ z.0), borrow_keyless t b o z.0 z.1);
 }

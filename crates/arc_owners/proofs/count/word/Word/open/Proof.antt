@@ -64,9 +64,10 @@ open_spec 𝓤 𝓛 𝓜 𝓡 wired T L =
     alloc_all ! (λ l. pass_all ! refl
     ((tt, record { fits = are.0.1 }), ((tt, tt), ((tt, tt), tt))) $
     use0 𝓛 (later (some (λ (x : BlockId × Lease). given ((x.0.most ≡ most) × (x.0.began ≡ Counted)
-    × (x.0.whole ≡ w) × (x.1.is_lent ≡ lent))
+    × (x.0.whole ≡ w) × (x.1.is_lent ≡ lent) × (x.0.bank ≡ 0) × (x.0.receipts ≡ 0))
     (‵ (behind x.0 1) ⊛ ‵ (right_owns true x.0 0 x.1 []) ⊛ ‵
-    (trace_owns true x.0 0 false []))))) (begins.begins 𝓛 most w lent asked are.0.1) $
+    (trace_owns true x.0 0 false [])))))
+    (begins.begins 𝓛 most Counted w lent (0, 0) asked are.0.1) $
     await ! tt $ pick ! (λ x. learn ! (λ so. types.Kit.split3 ! $ let t = x.0 in
     -- [the word's; the right's; the pass's; no token]
     sets ! (agg ! (and_then ! (get ! refl)

@@ -27,7 +27,7 @@ use denote.Triple.Walked.{Stays, stay_dropped, walk_of, Goes-dropped}
 use Rattle.core.proofs.alloc.Shapes.{after}
 use Rattle.std.proofs.raw_atomic.Walks.{proved}
 use Rattle.logbook.proofs.Fields.{ends}
-use Rattle.arc_owners.specs.count.Invariant.{tokens, word_borrow, lent}
+use Rattle.arc_owners.specs.count.Invariant.{tokens, word_borrow, lent, Borrowing}
 use Rattle.arc_owners.specs.contracts.count.word.WordBorrow as WordBorrow
 use Rattle.arc_owners.proofs.count.Walks.{lodging_shown}
 use Rattle.arc_owners.proofs.count.Walks.{owner_shown}
@@ -85,7 +85,7 @@ word_spec 𝓤 𝓛 𝓜 𝓡 wired T L =
     move ! (1 ∷ 0 ∷ []) $ use2 𝓛 (‵ (before κ α)) (before_lent 𝓛 κ α α) $ move ! (1 ∷ []) $
     in_a_block ! me.at (λ q. word_borrow me.block q me.lifetime) (id⊢ 𝓤 (never 𝓤))
     (λ pb po e. fpick ! (λ j. move ! (1 ∷ 0 ∷ []) $ fjoin ! $
-    fpack ! (Lft × ℕ) (lent me.block pb po κ) (α, j) $ hide ! $
+    fpack ! (Lft × Borrowing) (lent me.block pb po κ) (α, j) $ hide ! $
     let here : place ≡ block_ptr pb po = sym asked.0 ∙ e in
     suffices ! (Run (vptr b o ∷ vptr pb po ∷ vptr b₂ o₂ ∷ []))
     (subst (λ (us : List Val). ent 𝓤 (Run (vptr b o ∷ vptr pb po ∷ vptr b₂ o₂ ∷ [])) (Run us))

@@ -8,7 +8,6 @@ use mir.MapTy.{inst_fn}
 use base.Logic.{SProp, ent, emp, id⊢}
 use base.Fml.{Fml, Lft, Share, ftrue, fsep, fex, feq, flft, fbor}
 use prog.Wp.{WpFn}
-use base.FractionLaws.{Counts}
 use types.Kit.{‵, raw, ◌⊛◌, later, ◌$◌, ◌∵◌, !, qed, by, move, keep, drop, split, split3, fsplit}
 use types.Kit.{fsplit3, fjoin, fjoin3, fpick, fpack, suffices, use0, use3, await, rewrite, feq_i}
 use types.Kit.{feq_l}
@@ -32,7 +31,7 @@ use Rattle.core.proofs.alloc.Calls.{Al, Goes-blank, token as frees}
 use Rattle.std.proofs.raw_atomic.Walks.{proved_at}
 use Rattle.std_alloc.specs.Box.Ownership.{box_owns}
 use Rattle.logbook.proofs.Fields.{token, token_told, Token, token_made, ends}
-use Rattle.arc_owners.specs.count.Invariant.{word_borrow_for, right_owns, staked}
+use Rattle.arc_owners.specs.count.Invariant.{word_borrow_for, right_owns, staked, IsStake}
 use Rattle.arc_owners.proofs.memory.Inners.{settles}
 use Rattle.arc_owners.specs.contracts.count.word.OwnerToken as OwnerToken
 use Rattle.arc_owners.specs.contracts.count.word.WordBorrow as WordBorrow
@@ -103,8 +102,8 @@ settle_spec 𝓤 𝓛 𝓜 𝓡 wired V A K LV LA LK g d da allocator glued =
     inc) $ await ! tt $ split3 ! $ move ! (2 ∷ []) $ split ! $
     -- [both tokens; the word's borrow; the memory's; the right; the invariant; the marker, cell and
     -- open borrow (3); no more parameters; the token of A]
-    fpack ! (Counts 64 s 1) (λ _. flft α s) one $
-    fpack ! Share (λ r. fex (Counts 64 r 1) (λ _. flft α r)) s $
+    fpack ! (IsStake s) (λ _. flft α s) one $
+    fpack ! Share (λ r. fex (IsStake r) (λ _. flft α r)) s $
     rewrite ! 0 (λ (k : Bool). ‵ (staked k own.lease)) (sym asked.2) refl $
     move ! (4 ∷ 0 ∷ []) $ fjoin ! $ move ! (4 ∷ 0 ∷ []) $ fjoin ! $
     rewrite ! 0 (λ (k : Bool). ‵ (right_owns k own.block own.owner own.lease own.born))

@@ -1,4 +1,5 @@
 use Rattle.std.proofs.Common.{◌≡◌, ◌∙◌, sym, ap, subst}
+use Rattle.arc_block.specs.Given.{Given}
 use Rattle.arc_block.specs.LayoutFacts.{layout_facts}
 use Rattle.arc_block.specs.Moves.{layout_move}
 use Rattle.arc_parts.specs.Steps.{IsPassAt}
@@ -20,7 +21,7 @@ returns-in-Ok-clause-sole g c =
     let layout = layout_facts g.K.Layout in
     let drops = g.S.Slice.DROPS in
     let whole = g.H.Mark.whole in
-    subst (λ (p : PartsView g.row.S-Item.Denot g.row.M.Denot).
+    subst (λ (p : PartsView g.row.S-Item.Denot (Given g.row.B.Denot g.row.M.Denot)).
     BecomesWriter layout drops whole p c.from_parts.result c.args.pass.now
     c.try_from_parts_as.new.pass) c.into_parts.ensures.parts
     (becomes_writer layout drops whole c.into_parts.result c.from_parts.result c.args.pass.now
@@ -32,7 +33,8 @@ returns-in-Ok-clause-pass g c =
     sole_has_pass (layout_facts g.K.Layout) g.S.Slice.DROPS c.into_parts.result
     c.from_parts.result c.args.pass.now c.try_from_parts_as.new.pass
     (c.from_parts.ensures ∙ c.in-Ok.ensures.sole.0) c.in-Ok.ensures.sole.1
-    (subst (λ (p : PartsView g.row.S-Item.Denot g.row.M.Denot). IsPassAt p.place c.args.pass.now)
+    (subst (λ (p : PartsView g.row.S-Item.Denot (Given g.row.B.Denot g.row.M.Denot)).
+    IsPassAt p.place c.args.pass.now)
     (sym c.into_parts.ensures.parts) c.requires.pass)
 
 pub returns-in-Ok-clause-items : goal.returns-in-Ok-clause-items
@@ -40,11 +42,13 @@ returns-in-Ok-clause-items g c =
     sole_has_items (layout_facts g.K.Layout) g.S.Slice.DROPS c.into_parts.result
     c.from_parts.result c.args.pass.now c.try_from_parts_as.new.pass
     (c.from_parts.ensures ∙ c.in-Ok.ensures.sole.0) c.in-Ok.ensures.sole.1
-    ∙ ap (λ (p : PartsView g.row.S-Item.Denot g.row.M.Denot). p.items) c.into_parts.ensures.parts
+    ∙ ap (λ (p : PartsView g.row.S-Item.Denot (Given g.row.B.Denot g.row.M.Denot)).
+    p.items) c.into_parts.ensures.parts
 
 pub returns-in-Err-clause-unasked : goal.returns-in-Err-clause-unasked
 returns-in-Err-clause-unasked g c =
     let layout = layout_facts g.K.Layout in
-    subst (λ (p : PartsView g.row.S-Item.Denot g.row.M.Denot). layout_move layout p.place
+    subst (λ (p : PartsView g.row.S-Item.Denot (Given g.row.B.Denot g.row.M.Denot)).
+    layout_move layout p.place
     ≡ HandedBack → c.try_from_parts_as.new.pass ≡ c.args.pass.now) c.into_parts.ensures.parts
     (unasked_back layout c.into_parts.result.place _ _ _ c.in-Err.ensures.refused.1)

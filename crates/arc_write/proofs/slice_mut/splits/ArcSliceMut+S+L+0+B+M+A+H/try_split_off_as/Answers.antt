@@ -1,5 +1,6 @@
 use Rattle.std.proofs.Common.{◌≡◌, ◌-◌, true, false, take, drop, sym, subst}
 use Rattle.std.specs.Prelude.{IfOk}
+use Rattle.arc_block.specs.Given.{Given}
 use Rattle.arc_block.specs.LayoutFacts.{layout_facts}
 use Rattle.arc_parts.specs.Shared.{SplitsWriterOff, IsSharedPlace, ends_at}
 use Rattle.arc_parts.specs.Window.{PartsView}
@@ -38,7 +39,8 @@ invariant_of-self g c =
 
 pub returns-clause-made : goal.returns-clause-made
 returns-clause-made g c =
-    let made-of : (old made : PartsView g.row.S-Item.Denot g.row.M.Denot) → Type 0 = λ old made.
+    let made-of : (old made : PartsView g.row.S-Item.Denot (Given g.row.B.Denot g.row.M.Denot))
+    → Type 0 = λ old made.
     SplitsWriterOff g.row.H.Denot g.H.Mark.real false g.H.Mark.whole c.args.at
     old c.try_split_as.new.self made
     c.args.pass.now c.try_split_as.new.pass in
@@ -52,20 +54,23 @@ returns-clause-made g c =
 
 pub returns-clause-apart : goal.returns-clause-apart
 returns-clause-apart g c =
-    let are-apart : PartsView g.row.S-Item.Denot g.row.M.Denot → Type 0 = λ made.
+    let are-apart : PartsView g.row.S-Item.Denot (Given g.row.B.Denot g.row.M.Denot)
+    → Type 0 = λ made.
     ends_at c.args.at c.try_split_as.new.self.place made.place ≡ true in
     elim c.match-try_split_as.branch [
       | in-Ok w ↦ subst (λ r. IfOk r are-apart) (sym w.result-is)
           (subst are-apart (sym w.from_parts.ensures)
           (back_apart g.H.Mark.real g.H.Mark.whole c.args.at _ _ _ _ _ w.in-Ok.ensures.made
-          (subst (λ (u : PartsView g.row.S-Item.Denot g.row.M.Denot). IsSharedPlace u.place)
+          (subst (λ (u : PartsView g.row.S-Item.Denot (Given g.row.B.Denot g.row.M.Denot)).
+          IsSharedPlace u.place)
           (sym c.self.view_is) c.known_place.ensures.place)))
       | in-Err w ↦ subst (λ r. IfOk r are-apart) (sym w.result-is) tt
     ]
 
 pub returns-clause-lists : goal.returns-clause-lists
 returns-clause-lists g c =
-    let lists : (old made : PartsView g.row.S-Item.Denot g.row.M.Denot) → Type 0 = λ old made.
+    let lists : (old made : PartsView g.row.S-Item.Denot (Given g.row.B.Denot g.row.M.Denot))
+    → Type 0 = λ old made.
     (c.try_split_as.new.self.items ≡ take c.args.at old.items)
     × (made.items ≡ drop c.args.at old.items) in
     elim c.match-try_split_as.branch [
@@ -78,7 +83,8 @@ returns-clause-lists g c =
 
 pub returns-clause-places : goal.returns-clause-places
 returns-clause-places g c =
-    let places : (old made : PartsView g.row.S-Item.Denot g.row.M.Denot) → Type 0 = λ old made.
+    let places : (old made : PartsView g.row.S-Item.Denot (Given g.row.B.Denot g.row.M.Denot))
+    → Type 0 = λ old made.
     (capacity_of c.try_split_as.new.self.role ≡ c.args.at)
     × (capacity_of made.role ≡ capacity_of old.role - c.args.at) in
     elim c.match-try_split_as.branch [
@@ -86,7 +92,8 @@ returns-clause-places g c =
           (subst (places c.args.self.now) (sym w.from_parts.ensures)
           (subst (λ old. places old w.in-Ok.back) c.self.view_is
           (back_places g.H.Mark.real g.H.Mark.whole c.args.at _ _ _ _ _ w.in-Ok.ensures.made
-          (subst (λ (u : PartsView g.row.S-Item.Denot g.row.M.Denot). HasWritersRole true u.role)
+          (subst (λ (u : PartsView g.row.S-Item.Denot (Given g.row.B.Denot g.row.M.Denot)).
+          HasWritersRole true u.role)
           (sym c.self.view_is) c.known_place.ensures.role))))
       | in-Err w ↦ subst (λ r. IfOk r (places c.args.self.now)) (sym w.result-is) tt
     ]

@@ -1,4 +1,5 @@
 use Rattle.std.proofs.Common.{sym, subst}
+use Rattle.arc_block.specs.Given.{Given}
 use Rattle.arc_block.specs.LayoutFacts.{layout_facts}
 use Rattle.arc_parts.specs.Window.{PartsView, IsBlockHeld}
 use Rattle.arc_write.proofs.Parts.{HoldsLegal}
@@ -11,7 +12,8 @@ invariant_of-self g c =
     let layout = layout_facts g.L.Layout in let legal = g.S.Slice.is_legal in
     elim c.match-try_unsplit_as.branch [
       | in-Ok w ↦ let joined = w.in-Ok.ensures.joined.1 in (
-        subst (λ (p : PartsView g.row.S-Item.Denot g.row.M.Denot). IsBlockHeld layout p.place)
+        subst (λ (p : PartsView g.row.S-Item.Denot (Given g.row.B.Denot g.row.M.Denot)).
+            IsBlockHeld layout p.place)
             (sym joined) c.self.invariant.0,
         joined_legal legal c.self.inside.parts c.into_parts.result _
             g.met.S.Concatenable.both_are_legal joined

@@ -1,8 +1,11 @@
-use Rattle.std.proofs.Common.{◌≡◌, sym, subst}
+use Rattle.std.proofs.Common.{◌≡◌, true, None, sym, subst}
 use Rattle.std.specs.Prelude.{is_ok, length, ℕ, List, false, OnErr}
 use Rattle.std.specs.Str.{IsUtf8}
 use Rattle.std.proofs.lemmas.Str.{IsUtf8-append}
+use Rattle.arc_block.specs.Given.{Given}
 use Rattle.arc_block.specs.LayoutFacts.{layout_facts}
+use Rattle.arc_block.specs.Place.{given_at}
+use Rattle.arc_block.specs.Table.{bare}
 use Rattle.arc_parts.specs.Window.{PartsView}
 use Rattle.arc_writer_parts.specs.Roles.{HasWritersRole}
 use Rattle.arc_write.specs.Within.{StaysWithin}
@@ -29,22 +32,26 @@ invariant_of-self g c =
 pub returns-clause-within : goal.returns-clause-within
 returns-clause-within g c =
     let of = g.R.Parts.WriterParts in let call = c.try_extend_from_slice_as in
+    let was = subst (λ (w : PartsView ℕ (Given g.row.B.Denot g.row.M.Denot)).
+    of.several ≡ true → given_at w.place ≡ None) (sym c.self.view_is) c.known_ungiven.ensures in
     let bytes = c.as_bytes.result.now in let new = of.seen call.new.self in
     subst (λ (text : List ℕ). StaysWithin of.several (length text) c.args.self.now new
     (is_ok call.result)) c.as_bytes.ensures.value
-    (subst (λ (w : PartsView ℕ g.row.M.Denot). StaysWithin of.several (length bytes) w new
+    (subst (λ (w : PartsView ℕ (Given g.row.B.Denot g.row.M.Denot)).
+    StaysWithin of.several (length bytes) w new
     (is_ok call.result)) c.self.view_is
     (extend_within of.several false g.H.Mark.whole 1 (length bytes) (of.seen c.self.inside.parts)
-    new c.args.pass.now call.new.pass bytes (λ e. e) call.result call.ensures.extended
+    new c.args.pass.now call.new.pass was c.known_ungiven-2.ensures bytes (λ e. e)
+    call.result call.ensures.extended
     call.ensures.refused))
 
 pub returns-clause-same : goal.returns-clause-same
 returns-clause-same g c =
     let of = g.R.Parts.WriterParts in let call = c.try_extend_from_slice_as in
-    let role = subst (λ (w : PartsView ℕ g.row.M.Denot).
+    let role = subst (λ (w : PartsView ℕ (Given g.row.B.Denot g.row.M.Denot)).
     HasWritersRole of.several w.role) (sym c.self.view_is) c.known_place.ensures.role in
-    subst (λ (w : PartsView ℕ g.row.M.Denot). OnErr call.result
-    (of.seen call.new.self ≡ w)) c.self.view_is
+    subst (λ (w : PartsView ℕ (Given g.row.B.Denot g.row.M.Denot)). OnErr call.result
+    (bare (of.seen call.new.self) ≡ bare w)) c.self.view_is
     (extend_same of.several false g.H.Mark.whole 1 (length c.as_bytes.result.now)
     (of.seen c.self.inside.parts) (of.seen call.new.self) c.args.pass.now call.new.pass
     role (λ e. e) call.result call.ensures.refused)

@@ -1,5 +1,6 @@
 -- What is said of an arm's parts is said of these.
 use Rattle.std.proofs.Common.{sym, ap, ◌∙◌}
+use Rattle.arc_block.specs.Given.{Given}
 use Rattle.arc_parts.specs.Window.{PartsView, window_of}
 use Rattle.arc_writer_parts.specs.PartsOn.{sole_on}
 use Rattle.arc_writer_parts.specs.declared.sole.SoleStorage.TheVariants.{Other}
@@ -9,20 +10,20 @@ use Rattle.arc_writer_parts.proofs.sole.role.SolePartsWriterParts.try_freeze_as.
 pub returns-in-Ok-clause-items : goal.returns-in-Ok-clause-items
 returns-in-Ok-clause-items g c =
     c.in-Ok.ensures.items
-    ∙ ap (λ (w : PartsView g.row.S-Item.Denot g.row.M.Denot). w.items)
+    ∙ ap (λ (w : PartsView g.row.S-Item.Denot (Given g.row.B.Denot g.row.M.Denot)). w.items)
     (sym (ap sole_on c.in-Native.is) ∙ c.self.view_is)
 
 pub returns-in-Ok-try_freeze_as-clause-items : goal.returns-in-Ok-try_freeze_as-clause-items
 returns-in-Ok-try_freeze_as-clause-items g c =
     c.in-Ok-try_freeze_as.ensures.items
-    ∙ ap (λ (w : PartsView g.row.S-Item.Denot g.row.M.Denot). w.items)
+    ∙ ap (λ (w : PartsView g.row.S-Item.Denot (Given g.row.B.Denot g.row.M.Denot)). w.items)
     (sym (ap sole_on (c.in-Other-Vector.is ∙ ap Other c.in-Other-Vector.field-0-is))
     ∙ c.self.view_is)
 
 pub returns-in-Ok-try_freeze_as-2-clause-items : goal.returns-in-Ok-try_freeze_as-2-clause-items
 returns-in-Ok-try_freeze_as-2-clause-items g c =
     c.in-Ok-try_freeze_as-2.ensures.items
-    ∙ ap (λ (w : PartsView g.row.S-Item.Denot g.row.M.Denot). w.items)
+    ∙ ap (λ (w : PartsView g.row.S-Item.Denot (Given g.row.B.Denot g.row.M.Denot)). w.items)
     (sym (ap sole_on (c.in-Other-Buffer.is ∙ ap Other c.in-Other-Buffer.field-0-is))
     ∙ c.self.view_is)
 

@@ -1,0 +1,6 @@
+//! Blocks whose word has no count when they begin.
+
+pub(crate) mod bank;
+mod calls;
+pub(crate) mod loose;
+pub mod owners;

@@ -1,0 +1,176 @@
+//! The calls on the count of a block that begins without one.
+ghost use Rattle.std.specs.Prelude.{◌≡◌, ◌≤◌, IfOk, IfErr, is_ok};
+ghost use Rattle.arc_owners.specs.history.Histories.{Lone};
+ghost use Rattle.arc_owners.specs.count.Calls.{owner_of, sole_owner, lease_of, seen, IsFirst};
+ghost use Rattle.arc_owners.specs.count.Calls.{IsOwnerOf, IsPassOf, IsFreshPass, IsTermOf};
+ghost use Rattle.arc_owners.specs.count.Calls.{HasCountIn, Looks, Asks, MakesAnother, FindsFull};
+ghost use Rattle.arc_owners.specs.count.Calls.{Leaves};
+ghost use Rattle.arc_owners.specs.count.Releases.{is_last, IfLast};
+
+use super::bank::Bank;
+use super::owners::{LoneOwners, Prepared};
+use crate::count::cell::Cell;
+use crate::count::lone::LoneCount;
+use crate::count::tokens::{LifetimeEnd, Pass, Release, Share, Sole};
+use crate::error::CountFull;
+use crate::mark::Mark;
+use std::alloc::Allocator;
+use std::marker::PhantomData;
+use std::sync::Wait;
+
+impl<const MAX: u64, A: Allocator, H: Mark> LoneOwners<MAX, A, H> {
+    /// The count of a new block, which has none yet. The one owner is number 0, and the pass has
+    /// seen nothing.
+    ///
+    /// `MAX`, at least 2, is how many owners may live at once. It takes no memory: that for a count
+    /// will come from `alloc`.
+    #[tactic(auto, using(crate::proofs::count::Calls::first_of))]
+    pub fn new(alloc: A) -> (LoneOwners<MAX, A, H>, Share<H>, Pass<H>)
+        requires { 2 ≤ MAX }
+        ensures share { IsOwnerOf result.0.count.cell result.1 }
+        ensures first { IsFirst MAX H.whole Lone (owner_of result.1) }
+        ensures pass { IsFreshPass (owner_of result.1) result.2 }
+    {
+        let bank = Bank::open(&alloc);
+        let (cell, right, trace) = Cell::open(MAX, true, &bank);
+        (
+            LoneOwners {
+                count: LoneCount {
+                    cell,
+                    mark: PhantomData,
+                },
+                bank,
+                alloc,
+            },
+            Share {
+                right,
+                mark: PhantomData,
+            },
+            Pass {
+                trace,
+                mark: PhantomData,
+            },
+        )
+    }
+
+    /// Whether the word is lone, at the point of the one load that this takes. The pass has then
+    /// seen the history up to there, and may try to promote a word that is lone. It takes no
+    /// memory.
+    ///
+    /// # History
+    ///
+    /// Nothing.
+    pub fn load_as(&self, by: &Share<H>, pass: &mut Pass<H>) -> bool
+        requires share { IsOwnerOf self.now.count.cell by.now }
+        requires pass { IsPassOf self.now.count.cell pass.old }
+        ensures found { Looks (owner_of by.now) pass.old pass.new result }
+    {
+        self.count.load_as(by, pass)
+    }
+
+    /// Whether the owner is alone, at the point of a load of the word, or of the count where that
+    /// is in place. It takes no memory.
+    ///
+    /// # History
+    ///
+    /// Alone with the answer. On a lone word, where the answer is yes, nothing.
+    pub fn alone_as(&self, by: &Share<H>, pass: &mut Pass<H>) -> bool
+        requires share { IsOwnerOf self.now.count.cell by.now }
+        requires pass { IsPassOf self.now.count.cell pass.old }
+        ensures entry { Asks (owner_of by.now) pass.old pass.new result }
+    {
+        self.count.alone_as(by, pass)
+    }
+
+    /// A new owner of the same block, where the pass has seen that the word has a count. It takes
+    /// no memory.
+    ///
+    /// It takes `rt` since a raise that another thread disturbs is tried again.
+    ///
+    /// # Errors
+    ///
+    /// `CountFull` exactly where `MAX` owners live.
+    ///
+    /// # History
+    ///
+    /// Up, or Full where it is refused.
+    pub fn up_as(
+        &self,
+        rt: &impl Wait,
+        by: &Share<H>,
+        pass: &mut Pass<H>,
+    ) -> Result<Share<H>, CountFull>
+        requires share { IsOwnerOf self.now.count.cell by.now }
+        requires pass { IsPassOf self.now.count.cell pass.old }
+        requires counted { HasCountIn self.now.count.cell (seen pass.old) }
+        ensures made { IfOk result (λ s.
+            MakesAnother (owner_of by.now) pass.old pass.new (owner_of s)) }
+        ensures lent { IfOk result (λ s. lease_of s ≡ lease_of by.now) }
+        ensures full { IfErr result (λ _. FindsFull (owner_of by.now) pass.old pass.new) }
+    {
+        self.count.up_as(rt, by, pass)
+    }
+
+    /// Ends an owner: without a step on the count where the word is lone, else by one subtraction
+    /// from the count. It takes no memory.
+    ///
+    /// The last one gets the right to end the lifetime for which the block was lent to the owners.
+    ///
+    /// # History
+    ///
+    /// Down.
+    pub fn down_as(&self, share: Share<H>, pass: &mut Pass<H>) -> Release
+        requires share { IsOwnerOf self.now.count.cell share }
+        requires pass { IsPassOf self.now.count.cell pass.old }
+        ensures entry { Leaves (owner_of share) pass.old pass.new (is_last result) }
+        ensures term { IfLast result (λ term. IsTermOf share term) }
+    {
+        self.count.down_as(share, pass)
+    }
+
+    /// Takes the block back where the owner is alone, at the point of a load of the word, or of the
+    /// count where that is in place. It takes no memory.
+    ///
+    /// # Errors
+    ///
+    /// The owner comes back as it was where another one lives.
+    ///
+    /// # History
+    ///
+    /// Alone with the answer. On a lone word, where the answer is yes, nothing.
+    pub fn claim_as(
+        &self,
+        share: Share<H>,
+        pass: &mut Pass<H>,
+    ) -> Result<(Sole<H>, LifetimeEnd), Share<H>>
+        requires share { IsOwnerOf self.now.count.cell share }
+        requires pass { IsPassOf self.now.count.cell pass.old }
+        ensures entry { Asks (owner_of share) pass.old pass.new (is_ok result) }
+        ensures alone { IfOk result (λ r. (sole_owner r.0 ≡ owner_of share) × IsTermOf share r.1) }
+        ensures others { IfErr result (λ s. (owner_of s ≡ owner_of share)
+            × (lease_of s ≡ lease_of share)) }
+    {
+        self.count.claim_as(share, pass)
+    }
+
+    /// Frees the memory of a count that was prepared and isn't used.
+    pub fn discard(&self, prepared: Prepared<A>)
+        requires { (prepared.count.receipts ≡ self.now.bank.receipts)
+            × (prepared.alloc ≡ self.now.alloc) }
+    {
+        let Prepared { at, count, alloc } = prepared;
+        if let Some(place) = count.take(at, &self.bank) {
+            drop(place.with(alloc).into_box());
+        }
+    }
+
+    /// Frees the memory of the count, if the word has one.
+    pub fn free(self) {
+        let LoneOwners { count, bank, alloc } = self;
+        let LoneCount { cell, mark: _ } = count;
+        let (at, pending) = cell.close();
+        if let Some(place) = pending.take(at, &bank) {
+            drop(place.with(alloc).into_box());
+        }
+    }
+}
