@@ -1,6 +1,7 @@
 //! Windows over callers' buffers, which stay as they are and are given back.
-ghost use Rattle.std.specs.Prelude.{◌≡◌, ◌<◌, length, slice_set, IfOk, IfErr, IfSome, Some};
+ghost use Rattle.std.specs.Prelude.{◌≡◌, ◌<◌, length, slice_set, IfOk, IfErr, IfSome, Some, None};
 ghost use Rattle.std.specs.Arc.{arc_value};
+ghost use Rattle.arc_block.specs.Metadata.{FitsGivenAt};
 ghost use Rattle.arc_block.specs.Place.{buffer_at};
 ghost use Rattle.arc_parts.specs.Window.{IsBufferWhole, IsRawWhole};
 ghost use Rattle.std.specs.Vec.{vec_items};
@@ -82,6 +83,31 @@ pub fn page_read(alloc: Global, page: Page) -> Option<AsRefBuffer<Page>>
         Ok(window) => page_again(window).ok(),
         Err(_) => None,
     }
+}
+
+/// The number of a page, read through a window over it: it is the page's own. There is none where
+/// memory for the count is refused.
+pub fn number_read(alloc: Global, page: Page) -> Option<u32>
+    ensures { IfSome result (λ number. number ≡ page.number) }
+{
+    match Pages::try_from_buffer(alloc, AsRefBuffer(page)) {
+        Ok(window) => window.borrowed_metadata().copied(),
+        Err(_) => None,
+    }
+}
+
+/// What a window over a buffer shows is a part of the buffer on which it stands.
+pub fn known_part<B: Buffer<u8>>(window: &ArcBytes<DefaultLayout, B, u64>)
+    ensures { FitsGivenAt B.list B.places window.now.place window.now.items }
+{
+    window.known_given();
+}
+
+/// One of several writers stands on no page.
+pub fn known_no_page(window: &PagesShared)
+    ensures { buffer_at window.now.place ≡ None }
+{
+    window.known_ungiven();
 }
 
 /// Ends a reader of a page. The last reader gets the page.
