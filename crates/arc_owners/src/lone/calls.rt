@@ -4,17 +4,21 @@ ghost use Rattle.arc_owners.specs.history.Histories.{Lone};
 ghost use Rattle.arc_owners.specs.count.Calls.{owner_of, sole_owner, lease_of, seen, IsFirst};
 ghost use Rattle.arc_owners.specs.count.Calls.{IsOwnerOf, IsPassOf, IsFreshPass, IsTermOf};
 ghost use Rattle.arc_owners.specs.count.Calls.{HasCountIn, Looks, Asks, MakesAnother, FindsFull};
-ghost use Rattle.arc_owners.specs.count.Calls.{Leaves};
+ghost use Rattle.arc_owners.specs.count.Calls.{Leaves, IsReady, Joins, Promotes};
 ghost use Rattle.arc_owners.specs.count.Releases.{is_last, IfLast};
 
 use super::bank::Bank;
+use super::loose::{lay, tested};
 use super::owners::{LoneOwners, Prepared};
 use crate::count::cell::Cell;
 use crate::count::lone::LoneCount;
 use crate::count::tokens::{LifetimeEnd, Pass, Release, Share, Sole};
-use crate::error::CountFull;
+use crate::count::word::OwnerToken;
+use crate::error::{AllocError, CountFull};
 use crate::mark::Mark;
-use std::alloc::Allocator;
+use crate::memory::box_parts::BoxParts;
+use crate::memory::box_place::BoxPlace;
+use std::alloc::{Allocator, Global};
 use std::marker::PhantomData;
 use std::sync::Wait;
 
@@ -66,6 +70,51 @@ impl<const MAX: u64, A: Allocator, H: Mark> LoneOwners<MAX, A, H> {
         ensures found { Looks (owner_of by.now) pass.old pass.new result }
     {
         self.count.load_as(by, pass)
+    }
+
+    /// Makes the prepared count the word's, by one exchange where the word is lone: its owners are
+    /// then this one and a new one. It takes no memory. The pass has found the word lone before.
+    ///
+    /// # Errors
+    ///
+    /// Where another thread has given the word its count. What was prepared comes back.
+    ///
+    /// # History
+    ///
+    /// Promote. Joined where it is refused.
+    pub fn promote_as(
+        &self,
+        by: &Share<H>,
+        prepared: Prepared<A>,
+        pass: &mut Pass<H>,
+    ) -> Result<Share<H>, Prepared<A>>
+        requires share { IsOwnerOf self.now.count.cell by.now }
+        requires pass { IsPassOf self.now.count.cell pass.old }
+        requires ready { IsReady pass.old }
+        requires prepared { prepared.count.receipts ≡ self.now.bank.receipts }
+        ensures made { IfOk result (λ s.
+            MakesAnother (owner_of by.now) pass.old pass.new (owner_of s)) }
+        ensures promoted { IfOk result (λ s.
+            Promotes (owner_of by.now) pass.old pass.new (owner_of s).number) }
+        ensures lent { IfOk result (λ s. lease_of s ≡ lease_of by.now) }
+        ensures lost { IfErr result (λ _. Joins (owner_of by.now) pass.old pass.new) }
+        ensures back { IfErr result (λ p. (p.at ≡ prepared.at) × (p.count ≡ prepared.count)
+            × (p.alloc ≡ prepared.alloc)) }
+    {
+        let Prepared { at, count, alloc } = prepared;
+        let mut count = count;
+        let mut new = OwnerToken::none();
+        let Ok(_) = self
+            .count
+            .cell
+            .promote(&by.right, &mut pass.trace, &mut new, &mut count, at)
+        else {
+            return Err(Prepared { at, count, alloc });
+        };
+        Ok(Share {
+            right: new,
+            mark: PhantomData,
+        })
     }
 
     /// Whether the owner is alone, at the point of a load of the word, or of the count where that
@@ -171,6 +220,31 @@ impl<const MAX: u64, A: Allocator, H: Mark> LoneOwners<MAX, A, H> {
         let (at, pending) = cell.close();
         if let Some(place) = pending.take(at, &bank) {
             drop(place.with(alloc).into_box());
+        }
+    }
+}
+
+impl<const MAX: u64, H: Mark> LoneOwners<MAX, Global, H> {
+    /// A count of two in memory of its own, which `promote_as` can put in place. It adds nothing.
+    ///
+    /// # Errors
+    ///
+    /// `AllocError` where the allocator refuses the memory.
+    ///
+    /// # Allocates
+    ///
+    /// The count's 8 bytes.
+    pub fn prepare(&self) -> Result<Prepared<Global>, AllocError>
+        ensures { IfOk result (λ p. (p.count.receipts ≡ self.now.bank.receipts)
+            × (p.alloc ≡ self.now.alloc)) }
+    {
+        match Box::new(self.alloc, 2u64) {
+            Ok(memory) => {
+                let (place, alloc) = BoxPlace::of(BoxParts::of(memory));
+                let (at, count) = lay(tested(place), &self.bank);
+                Ok(Prepared { at, count, alloc })
+            }
+            Err(_) => Err(AllocError),
         }
     }
 }
