@@ -1,5 +1,5 @@
 -- Parts of a read window that are borrowed.
-use Rattle.std.specs.Prelude.{ℕ, Bool, ◌&&◌, ◌==◌, if◌then◌else◌, Option, length}
+use Rattle.std.specs.Prelude.{Bool, ◌&&◌, ◌==◌, if◌then◌else◌, Option, length}
 use Rattle.arc_owners.specs.count.Calls.{Owner}
 use Rattle.arc_owners.specs.declared.mark.Mark as Mark
 use Rattle.arc_buffer.specs.declared.buffer.Buffer as Buffer

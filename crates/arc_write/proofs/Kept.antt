@@ -1,12 +1,11 @@
 -- What is kept of a window that writes tells where it stands, and how many places are spare.
-use Rattle.std.proofs.Common.{◌≡◌, ℕ, ◌≤◌, List, [], ◌∷◌, ◌++◌, length, take, drop, refl, sym, ap}
+use Rattle.std.proofs.Common.{◌≡◌, ℕ, ◌≤◌, List, [], ◌∷◌, ◌++◌, length, take, drop, sym, ap}
 use Rattle.std.proofs.Common.{◌∙◌, subst, Option, Some, None}
 use Rattle.arc_owners.specs.count.Calls.{Owner}
 use Rattle.arc_block.specs.Given.{Given}
 use Rattle.arc_block.specs.Place.{Place, at_owner, moved, nowhere, static_data, on_block}
 use Rattle.arc_block.specs.Place.{bare_place}
 use Rattle.arc_block.specs.Table.{bare}
-use Rattle.arc_parts.specs.Shared.{IsOneBlock}
 use Rattle.arc_parts.specs.Window.{PartsView}
 use Rattle.arc_parts.specs.Writers.{after_advance, with_full, with_more}
 use Rattle.arc_read.specs.Kept.{kept_read, without_metadata}

@@ -9,7 +9,7 @@ use Rattle.arc_block.specs.Given.{Given}
 use Rattle.arc_block.specs.Place.{given_at}
 use Rattle.arc_block.specs.Table.{bare}
 use Rattle.arc_parts.specs.declared.room.Room.TheVariants.{Spare}
-use Rattle.arc_parts.specs.Shared.{MakesSharedRoom, asks_alone, as_unique, is_on_block}
+use Rattle.arc_parts.specs.Shared.{MakesSharedRoom, asks_alone, is_on_block}
 use Rattle.arc_parts.specs.Window.{PartsView}
 use Rattle.arc_parts.specs.Writers.{MakesRoom, capacity_of, room_at, room_for}
 use Rattle.arc_writer_parts.specs.Roles.{AsksRoom, PushesItems}

@@ -11,7 +11,6 @@ use Rattle.arc_owners.specs.count.Calls.{Owner}
 use Rattle.arc_parts.specs.declared.room.Room.{Room}
 use Rattle.arc_parts.specs.declared.room.Room.TheVariants.{Spare, Fresh, Behind, Front}
 use Rattle.arc_parts.specs.declared.room.Room.TheVariants.{Growth, Own, Refused}
-use Rattle.arc_block.specs.Block.{BlockInfo}
 use Rattle.arc_block.specs.Given.{Given}
 use Rattle.arc_block.specs.Place.{Place, nowhere, static_data, on_block, at_front}
 use Rattle.arc_block.specs.Place.{bare_place, given_at, size_at, offset_at}

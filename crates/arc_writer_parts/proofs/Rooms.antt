@@ -1,6 +1,6 @@
 -- Room for one of several writers: that of the only one, who is one of several then.
 use Rattle.std.proofs.Common.{◌≡◌, ℕ, ◌+◌, ◌-◌, ◌*◌, ◌≤◌, ◌<◌, ◌==◌, nat_lt, Bool, true, false, not}
-use Rattle.std.proofs.Common.{◌&&◌, ◌||◌, if◌then◌else◌, List, ◌++◌, length, Option, Some, None}
+use Rattle.std.proofs.Common.{◌&&◌, ◌||◌, if◌then◌else◌, length, Option, Some, None}
 use Rattle.std.proofs.Common.{refl, sym, ap, ◌∙◌, subst}
 use Rattle.std.specs.Prelude.{Result, Ok, Err, ◌↔◌, IsTrue}
 use Rattle.std.proofs.lemmas.Bool.{lt-ltb, le-ltb, false≢true}
@@ -16,13 +16,13 @@ use Rattle.arc_block.specs.Given.{Given}
 use Rattle.arc_block.specs.Block.{Sort, native, vector, buffer, raw, IsMemory, IsBuffer}
 use Rattle.arc_block.specs.Place.{Place, nowhere, static_data, on_block, IsOnBlock}
 use Rattle.arc_parts.specs.Room.{ends_full, growth, is_too_large, larger_size}
-use Rattle.arc_parts.specs.Shared.{as_shared, as_unique, asks_alone, extended, is_on_block}
+use Rattle.arc_parts.specs.Shared.{as_shared, as_unique, asks_alone, is_on_block}
 use Rattle.arc_parts.specs.Shared.{AsksAlone}
 use Rattle.arc_parts.specs.Shared.{IsSharedPlace, MakesRoomBeside, MakesSharedRoom, ReclaimsShared}
 use Rattle.arc_block.specs.Table.{sole_writer, one_writer_of_several, bare}
 use Rattle.arc_parts.specs.Window.{PartsView, IsOfBuffer}
-use Rattle.arc_parts.specs.Writers.{capacity_of, room_at, room_for, MakesRoom, Reclaims, with_full}
-use Rattle.arc_parts.specs.Writers.{with_more, with_size}
+use Rattle.arc_parts.specs.Writers.{capacity_of, room_at, room_for, MakesRoom, Reclaims}
+use Rattle.arc_parts.specs.Writers.{with_size}
 use Rattle.arc_sort_writers.specs.Growth.{IfAsked}
 use Rattle.arc_block.specs.Place.{at_front}
 use Rattle.arc_writer_parts.proofs.Bare.{bare_asked, bare_on_block}

@@ -1,5 +1,4 @@
-use Rattle.std.proofs.Common.{◌≡◌, ◌≤◌, ◌+◌, ℕ, subst}
-use Rattle.arc_buffer.specs.Slice.{IsRange, sub}
+use Rattle.std.proofs.Common.{subst}
 use Rattle.arc_block.specs.Given.{Given}
 use Rattle.arc_parts.specs.Window.{Window}
 use Rattle.arc_read.proofs.Cuts.{part_legal, part_cuts}

@@ -3,7 +3,7 @@ use Rattle.std.specs.Prelude.{is_ok, length, OnErr}
 use Rattle.std.specs.Mem.{type_size}
 use Rattle.arc_block.specs.Given.{Given}
 use Rattle.arc_block.specs.LayoutFacts.{layout_facts}
-use Rattle.arc_block.specs.Place.{given_at, size_at}
+use Rattle.arc_block.specs.Place.{given_at}
 use Rattle.arc_block.specs.Table.{bare}
 use Rattle.arc_parts.specs.Window.{PartsView}
 use Rattle.arc_writer_parts.specs.Roles.{HasWritersRole}

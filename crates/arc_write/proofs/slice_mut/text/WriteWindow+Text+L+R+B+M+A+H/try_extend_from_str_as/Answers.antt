@@ -4,7 +4,7 @@ use Rattle.std.specs.Str.{IsUtf8}
 use Rattle.std.proofs.lemmas.Str.{IsUtf8-append}
 use Rattle.arc_block.specs.Given.{Given}
 use Rattle.arc_block.specs.LayoutFacts.{layout_facts}
-use Rattle.arc_block.specs.Place.{given_at, size_at}
+use Rattle.arc_block.specs.Place.{given_at}
 use Rattle.arc_block.specs.Table.{bare}
 use Rattle.arc_parts.specs.Window.{PartsView}
 use Rattle.arc_writer_parts.specs.Roles.{HasWritersRole}
