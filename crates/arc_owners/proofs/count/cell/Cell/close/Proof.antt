@@ -1,6 +1,5 @@
 -- `close` leaves the count to which the cell led, if the word had one.
-use Rattle.std.proofs.Common.{◌≡◌, ℕ, List, [], ◌∷◌, ◌++◌, refl, ap, ◌∙◌}
-use mathlib.Core.Option.{Option}
+use Rattle.std.proofs.Common.{ℕ, List, [], ◌∷◌, ◌++◌, refl, ap, ◌∙◌}
 use mir.Syntax.{ty_ptr}
 use mir.Val.{Val, vstruct, of_list}
 use base.Logic.{emp}
