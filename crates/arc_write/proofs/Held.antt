@@ -204,7 +204,7 @@ module _ {T M : Type 0} (layout : LayoutFacts) where
   buffer_held one_pass places full given items w p any made = same made.made any
 
 -- The same of rows with what a caller gave, of which room is said without it.
-module _ {T B M : Type 0} (layout : LayoutFacts) where
+module _ {B M : Type 0} (layout : LayoutFacts) where
   bare-held : (place : Place (Option Owner) (Given B M)) → IsBlockHeld layout place
       → IsBlockHeld layout (bare_place place)
   bare-held nowhere held = held
@@ -217,6 +217,7 @@ module _ {T B M : Type 0} (layout : LayoutFacts) where
   held-back static_data held = held
   held-back (on_block owner offset info) held = held
 
+module _ {T B M : Type 0} (layout : LayoutFacts) where
   -- other items in their places
   pub written_held : (with_part : B → ℕ → List T → B)
       (place : Place (Option Owner) (Given B M)) (items : List T) → IsBlockHeld layout place
@@ -229,8 +230,8 @@ module _ {T B M : Type 0} (layout : LayoutFacts) where
       → Reclaims room (bare old) (bare new) found
       → IsBlockHeld layout old.place → IsBlockHeld layout new.place
   sole_reclaimed_held room old new found r held =
-      held-back new.place (sole-reclaimed-held layout room (bare old) (bare new) found r
-      (bare-held old.place held))
+      held-back layout new.place (sole-reclaimed-held layout room (bare old) (bare new) found r
+      (bare-held layout old.place held))
 
   -- a writer of either role, whether room was made or refused
   pub room_held : {H : Type 0} (several drops one_pass : Bool) (item_size additional : ℕ)
@@ -239,13 +240,13 @@ module _ {T B M : Type 0} (layout : LayoutFacts) where
       → AsksRoom several drops one_pass item_size additional old new before after reply
       → IsBlockHeld layout old.place → IsBlockHeld layout new.place
   room_held false drops one_pass item_size additional old new before after reply made held =
-      held-back new.place (sole-room-held layout drops one_pass
+      held-back layout new.place (sole-room-held layout drops one_pass
       (room_for drops item_size (bare old) additional) (bare old) (bare new) before after reply
-      made (bare-held old.place held))
+      made (bare-held layout old.place held))
   room_held true drops one_pass item_size additional old new before after reply made held =
-      held-back new.place (shared-room-held layout (asks_alone (bare old) additional) one_pass
+      held-back layout new.place (shared-room-held layout (asks_alone (bare old) additional) one_pass
       (room_for false item_size (bare old) additional) (bare old) (bare new) before after reply
-      made (bare-held old.place held))
+      made (bare-held layout old.place held))
 
   -- and whether there was room without memory
   pub reclaimed_held : {H : Type 0} (several drops : Bool) (item_size additional : ℕ)
@@ -255,17 +256,17 @@ module _ {T B M : Type 0} (layout : LayoutFacts) where
   reclaimed_held false drops item_size additional old new before after found r held =
       sole_reclaimed_held (room_for drops item_size (bare old) additional) old new found r.0 held
   reclaimed_held true drops item_size additional old new before after found r held =
-      held-back new.place (shared-reclaimed-held layout (asks_alone (bare old) additional)
+      held-back layout new.place (shared-reclaimed-held layout (asks_alone (bare old) additional)
       (room_for false item_size (bare old) additional) (bare old) (bare new) before after found r
-      (bare-held old.place held))
+      (bare-held layout old.place held))
 
   -- items more
   pub more_held : (xs : List T) (old new : PartsView T (Given B M))
       → bare new ≡ with_more xs (bare old)
       → IsBlockHeld layout old.place → IsBlockHeld layout new.place
   more_held xs old new is held =
-      held-back new.place (more-held layout xs (bare old) (bare new) is
-      (bare-held old.place held))
+      held-back layout new.place (more-held layout xs (bare old) (bare new) is
+      (bare-held layout old.place held))
 
   -- whether a list was pushed or refused
   pub extend_held : {E H : Type 0} (several drops one_pass : Bool) (item_size additional : ℕ)
@@ -278,14 +279,14 @@ module _ {T B M : Type 0} (layout : LayoutFacts) where
       → IsBlockHeld layout old.place → IsBlockHeld layout new.place
   extend_held false drops one_pass item_size n xs old new before after why (Ok done) pushed
       refused held =
-      held-back new.place (more-held layout xs pushed.0 (bare new) pushed.2
+      held-back layout new.place (more-held layout xs pushed.0 (bare new) pushed.2
       (sole-room-held layout drops one_pass (room_for drops item_size (bare old) n) (bare old)
-      pushed.0 before after (Ok tt) pushed.1 (bare-held old.place held)))
+      pushed.0 before after (Ok tt) pushed.1 (bare-held layout old.place held)))
   extend_held true drops one_pass item_size n xs old new before after why (Ok done) pushed
       refused held =
-      held-back new.place (same layout pushed.pushed (shared-room-held layout
+      held-back layout new.place (same layout pushed.pushed (shared-room-held layout
       (asks_alone (bare old) n) one_pass (room_for false item_size (bare old) n) (bare old)
-      pushed.between before after (Ok tt) pushed.makes (bare-held old.place held)))
+      pushed.between before after (Ok tt) pushed.makes (bare-held layout old.place held)))
   extend_held several drops one_pass item_size n xs old new before after why (Err e) pushed
       refused held =
       room_held several drops one_pass item_size n old new before after (Err (why e)) refused held

@@ -3,7 +3,7 @@ use Rattle.std.specs.Prelude.{is_ok, OnErr}
 use Rattle.std.specs.Mem.{type_size}
 use Rattle.arc_block.specs.Given.{Given}
 use Rattle.arc_block.specs.LayoutFacts.{layout_facts}
-use Rattle.arc_block.specs.Place.{given_at}
+use Rattle.arc_block.specs.Place.{given_at, size_at}
 use Rattle.arc_block.specs.Table.{bare}
 use Rattle.arc_parts.specs.Window.{PartsView}
 use Rattle.arc_writer_parts.specs.Roles.{HasWritersRole}
@@ -16,7 +16,7 @@ use Rattle.arc_write.proofs.slice_mut.WriteWindow.try_push_as.Goals as goal
 
 pub invariant_of-self : goal.invariant_of-self
 invariant_of-self g c =
-    let of = g.R.Parts.WriterParts in let call = c.try_push_as in
+    let of = g.R.Parts.WriterParts in let call = c.try_push_as-pushed in
     let old = of.seen c.self.inside.parts in let new = of.seen call.new.self in (
       push_held (layout_facts g.L.Layout) of.several g.S.Slice.DROPS g.H.Mark.whole
           (type_size g.row.S-Item) 1 c.args.item old new c.args.pass.now call.new.pass
@@ -29,7 +29,7 @@ invariant_of-self g c =
 
 pub returns-clause-within : goal.returns-clause-within
 returns-clause-within g c =
-    let of = g.R.Parts.WriterParts in let call = c.try_push_as in
+    let of = g.R.Parts.WriterParts in let call = c.try_push_as-pushed in
     let was = subst (λ (w : PartsView g.row.S-Item.Denot (Given g.row.B.Denot g.row.M.Denot)).
     of.several ≡ true → given_at w.place ≡ None) (sym c.self.view_is) c.known_ungiven.ensures in
     subst (λ (w : PartsView g.row.S-Item.Denot (Given g.row.B.Denot g.row.M.Denot)).
@@ -41,7 +41,7 @@ returns-clause-within g c =
 
 pub returns-clause-same : goal.returns-clause-same
 returns-clause-same g c =
-    let of = g.R.Parts.WriterParts in let call = c.try_push_as in
+    let of = g.R.Parts.WriterParts in let call = c.try_push_as-pushed in
     let role = subst (λ (w : PartsView g.row.S-Item.Denot (Given g.row.B.Denot g.row.M.Denot)).
     HasWritersRole of.several w.role) (sym c.self.view_is) c.known_place.ensures.role in
     subst (λ (w : PartsView g.row.S-Item.Denot (Given g.row.B.Denot g.row.M.Denot)).

@@ -4,7 +4,7 @@ use Rattle.std.specs.Str.{IsUtf8}
 use Rattle.std.proofs.lemmas.Str.{IsUtf8-append}
 use Rattle.arc_block.specs.Given.{Given}
 use Rattle.arc_block.specs.LayoutFacts.{layout_facts}
-use Rattle.arc_block.specs.Place.{given_at}
+use Rattle.arc_block.specs.Place.{given_at, size_at}
 use Rattle.arc_block.specs.Table.{bare}
 use Rattle.arc_parts.specs.Window.{PartsView}
 use Rattle.arc_writer_parts.specs.Roles.{HasWritersRole}
@@ -17,7 +17,7 @@ use Rattle.arc_write.proofs.slice_mut.text.WriteWindow+Text+L+R+B+M+A+H.try_exte
 
 pub invariant_of-self : goal.invariant_of-self
 invariant_of-self g c =
-    let of = g.R.Parts.WriterParts in let call = c.try_extend_from_slice_as in
+    let of = g.R.Parts.WriterParts in let call = c.try_extend_from_slice_as-extended in
     let bytes = c.as_bytes.result.now in
     let old = of.seen c.self.inside.parts in let new = of.seen call.new.self in (
       extend_held (layout_facts g.L.Layout) of.several false g.H.Mark.whole 1 (length bytes)
@@ -31,7 +31,7 @@ invariant_of-self g c =
 
 pub returns-clause-within : goal.returns-clause-within
 returns-clause-within g c =
-    let of = g.R.Parts.WriterParts in let call = c.try_extend_from_slice_as in
+    let of = g.R.Parts.WriterParts in let call = c.try_extend_from_slice_as-extended in
     let was = subst (λ (w : PartsView ℕ (Given g.row.B.Denot g.row.M.Denot)).
     of.several ≡ true → given_at w.place ≡ None) (sym c.self.view_is) c.known_ungiven.ensures in
     let bytes = c.as_bytes.result.now in let new = of.seen call.new.self in
@@ -47,7 +47,7 @@ returns-clause-within g c =
 
 pub returns-clause-same : goal.returns-clause-same
 returns-clause-same g c =
-    let of = g.R.Parts.WriterParts in let call = c.try_extend_from_slice_as in
+    let of = g.R.Parts.WriterParts in let call = c.try_extend_from_slice_as-extended in
     let role = subst (λ (w : PartsView ℕ (Given g.row.B.Denot g.row.M.Denot)).
     HasWritersRole of.several w.role) (sym c.self.view_is) c.known_place.ensures.role in
     subst (λ (w : PartsView ℕ (Given g.row.B.Denot g.row.M.Denot)). OnErr call.result
