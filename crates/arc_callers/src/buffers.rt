@@ -97,7 +97,7 @@ pub fn number_read(alloc: Global, page: Page) -> Option<u32>
 }
 
 /// What a window over a buffer shows is a part of the buffer on which it stands.
-pub fn known_part<B: Buffer<u8>>(window: &ArcBytes<DefaultLayout, B, u64>)
+pub fn known_part<B: Drop + Buffer<u8>>(window: &ArcBytes<DefaultLayout, B, u64>)
     ensures { FitsGivenAt B.list B.places window.now.place window.now.items }
 {
     window.known_given();
