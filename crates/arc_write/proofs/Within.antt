@@ -1,6 +1,6 @@
 -- What fits in a window's places is done, and one of several writers stands where he stood.
 use Rattle.std.proofs.Common.{◌≡◌, ◌≤◌, ◌+◌, ◌-◌, ℕ, Bool, true, false, List, [], ◌∷◌, length, refl}
-use Rattle.std.proofs.Common.{ap, ◌∙◌, subst, arith, if◌then◌else◌, None}
+use Rattle.std.proofs.Common.{ap, sym, ◌∙◌, subst, arith, if◌then◌else◌, None}
 use Rattle.std.specs.Prelude.{nat_lt, not, ◌&&◌, ◌==◌, Result, Ok, Err, is_ok, OnOk, IfErr}
 use Rattle.std.proofs.lemmas.Bool.{le-ltb, false≢true}
 use Rattle.arc_owners.specs.declared.count.tokens.Pass.{Pass}
@@ -12,8 +12,9 @@ use Rattle.arc_parts.specs.declared.room.Room.TheVariants.{Spare}
 use Rattle.arc_parts.specs.Shared.{MakesSharedRoom, asks_alone, is_on_block}
 use Rattle.arc_parts.specs.Window.{PartsView}
 use Rattle.arc_parts.specs.Writers.{MakesRoom, capacity_of, room_at, room_for}
+use Rattle.arc_parts.specs.Writers.{with_items, with_written}
 use Rattle.arc_writer_parts.specs.Roles.{AsksRoom, PushesItems}
-use Rattle.arc_writer_parts.proofs.Bare.{place_back}
+use Rattle.arc_writer_parts.proofs.Bare.{place_back, ungiven_written}
 use Rattle.arc_write.specs.Within.{StandsIf, StaysWithin}
 
 module _ {T M : Type 0} (additional : ℕ) (old : PartsView T M)
@@ -117,3 +118,11 @@ module _ {T B M H : Type 0} (several drops one_pass : Bool) (item_size additiona
       extend_within (x ∷ []) (λ (r : TryReserveError × T). r.0) (Ok done) pushed tt
   push_within x (Err r) pushed refused =
       extend_within (x ∷ []) (λ (r : TryReserveError × T). r.0) (Err r) tt refused.1
+
+module _ {T B M : Type 0} where
+  -- items that are written leave one of several where he stands
+  pub written_in_place : (several : Bool) (with_part : B → ℕ → List T → B)
+      (w : PartsView T (Given B M)) → (several ≡ true → given_at w.place ≡ None)
+      → several ≡ true → (items : List T) → with_written with_part w items ≡ with_items w items
+  written_in_place several with_part w none shared items =
+      sym (ungiven_written with_part w items (none shared))

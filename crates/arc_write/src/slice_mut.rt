@@ -1,10 +1,10 @@
 //! `WriteWindow`, a window that is written, and `ArcSliceMut`, its name by the writer's role.
-ghost use Rattle.std.specs.Prelude.{◌≡◌, [], None, false, true};
+ghost use Rattle.std.specs.Prelude.{◌≡◌, [], List, None, false, true};
 ghost use Rattle.arc_block.specs.LayoutFacts.{layout_facts};
 ghost use Rattle.arc_block.specs.Place.{given_at, IsOnBlock};
 ghost use Rattle.arc_parts.specs.Steps.{EndsShownAt};
 ghost use Rattle.arc_parts.specs.Window.{IsBlockHeld};
-ghost use Rattle.arc_parts.specs.Writers.{capacity_of, idle_writer};
+ghost use Rattle.arc_parts.specs.Writers.{capacity_of, idle_writer, with_items, with_written};
 ghost use Rattle.arc_writer_parts.specs.Roles.{HasWritersRole, StandsAsWriter};
 
 use arc_block::layout::{DefaultLayoutMut, LayoutMut};
@@ -181,6 +181,16 @@ impl<
         ensures { R.Parts.several ≡ true → given_at self.now.place ≡ None }
     {
         self.parts.known_ungiven();
+    }
+
+    /// One of several writers stays where it stands when its items are written (`as_mut_slice`).
+    /// Does nothing: its contract is the law.
+    #[tactic(auto, using(crate::proofs::Within::written_in_place))]
+    pub fn known_written(&self)
+        ensures { R.Parts.several ≡ true → (items : List S.Item)
+            → with_written B.with_part self.now items ≡ with_items self.now items }
+    {
+        self.known_ungiven();
     }
 
     /// The window stands on nothing, on static data, or on a block that its layout holds, and its
