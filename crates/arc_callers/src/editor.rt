@@ -6,6 +6,7 @@
 ghost use Rattle.std.specs.Prelude.{◌≡◌, ◌++◌, ◌↔◌, take, slice_range, false, IfOk, IfErr, OnOk};
 ghost use Rattle.std.specs.Prelude.{OnErr, Err, IfSome};
 ghost use Rattle.std.specs.String.{string_bytes};
+ghost use Rattle.arc_block.specs.Table.{bare};
 ghost use Rattle.arc_parts.specs.Shared.{IsOneBlock};
 ghost use Rattle.arc_parts.specs.Window.{IsVecPart};
 ghost use Rattle.arc_buffer.specs.Slice.{edge_answer, range_answer};
@@ -40,10 +41,11 @@ impl Editor {
         }
     }
 
-    /// Appends a text. Where there is no room for it nothing is changed.
+    /// Appends a text. Where there is no room for it nothing is changed, but for what a caller's
+    /// buffer that was asked for room makes of that.
     pub fn write(&mut self, more: &str) -> Result<(), TryReserveError>
         ensures written { OnOk result (self.new.text.items ≡ self.old.text.items ++ more.now) }
-        ensures refused { OnErr result (self.new.text ≡ self.old.text) }
+        ensures refused { OnErr result (bare self.new.text ≡ bare self.old.text) }
     {
         self.text.try_extend_from_str(more)
     }
@@ -147,6 +149,8 @@ fn write_at_once(
     ensures front { front.new.place ≡ front.old.place }
     ensures back { back.new.place ≡ back.old.place }
 {
+    front.known_written();
+    back.known_written();
     let there = front.as_mut_slice();
     let behind = back.as_mut_slice();
     join(

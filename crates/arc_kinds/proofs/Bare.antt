@@ -25,13 +25,6 @@ module _ {B M : Type 0} (none : Type 0) (some : Owner → Type 0) where
   owner_bare (on_block None offset info) it = it
   owner_bare (on_block (Some owner) offset info) it = it
 
-  pub owner_back : (place : Place (Option Owner) (Given B M))
-      → at_owner (bare_place place) none some → at_owner place none some
-  owner_back nowhere it = it
-  owner_back static_data it = it
-  owner_back (on_block None offset info) it = it
-  owner_back (on_block (Some owner) offset info) it = it
-
 module _ {B M H : Type 0} where
   pub pass_back : (place : Place (Option Owner) (Given B M)) (pass : Pass H)
       → IsPassAt (bare_place place) pass → IsPassAt place pass

@@ -18,6 +18,8 @@ mod histories;
 #[cfg(test)]
 mod lent_values;
 #[cfg(test)]
+mod lone;
+#[cfg(test)]
 mod raises;
 #[cfg(test)]
 mod shown;
