@@ -1,6 +1,6 @@
 //! What a sole writer does to its items in a caller's buffer.
 ghost use Rattle.std.specs.Prelude.{◌≡◌, ◌≤◌, ◌<◌, ◌+◌, ◌++◌, ◌∷◌, [], length, take, drop};
-ghost use Rattle.std.specs.Prelude.{IfErr, OnOk, Err, false};
+ghost use Rattle.std.specs.Prelude.{IfErr, OnErr, OnOk, Err, false};
 ghost use Rattle.std.specs.Borrow.{sem};
 ghost use Rattle.std.specs.Mem.{type_size};
 ghost use Rattle.arc_sort_writers.specs.Growth.{IfAsked, IfStill, AsksForRoom, without_item};
@@ -165,6 +165,8 @@ impl<S: Slice, B: BufferMut<S::Item> + Drop, M: Drop, A: Allocator + Copy, H: Ma
         ensures own { IfAsked (room_for S.DROPS (type_size S.Item.row) self.old 1) (λ k.
             AsksForRoom B.list B.places B.grows B.refuses self.old k (size_at self.new.place)
             (without_item result)) }
+        ensures still { OnErr result (IfStill (room_for S.DROPS (type_size S.Item.row) self.old 1)
+            (self.new ≡ self.old)) }
     {
         match self.try_reserve_as(1, pass) {
             Ok(()) => {
@@ -246,6 +248,8 @@ where
         ensures own { IfAsked (room_for S.DROPS (type_size S.Item.row) self.old
             (length items.now)) (λ k. AsksForRoom B.list B.places B.grows B.refuses self.old k
             (size_at self.new.place) result) }
+        ensures still { OnErr result (IfStill (room_for S.DROPS (type_size S.Item.row) self.old
+            (length items.now)) (self.new ≡ self.old)) }
     {
         match self.try_reserve_as(items.len(), pass) {
             Ok(()) => {
