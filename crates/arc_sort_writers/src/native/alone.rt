@@ -3,6 +3,7 @@
 ghost use Rattle.std.specs.Prelude.{◌≡◌, ◌↔◌, true, false, IsTrue, None};
 ghost use Rattle.arc_sort_writers.specs.NativeWriters.{IsAlonePlace};
 ghost use Rattle.arc_block.specs.Block.{IsLimited};
+ghost use Rattle.arc_block.specs.Metadata.{IsOnCallers};
 ghost use Rattle.arc_block.specs.Place.{IsOnBlock, at_owner, given_at, nowhere};
 ghost use Rattle.arc_parts.specs.Shared.{AsksAlone};
 ghost use Rattle.arc_parts.specs.Steps.{IsPassAt};
@@ -31,6 +32,16 @@ impl<S: Slice, M: Drop, A: Allocator + Copy, H: Mark> SoleNative<S, M, A, H> {
     /// No caller gave what they stand on. Does nothing: its contract is the law.
     pub fn known_ungiven(&self)
         ensures { given_at self.now.place ≡ None }
+    {
+        match &self.count {
+            Some(_) => (),
+            None => (),
+        }
+    }
+
+    /// No caller's buffer is what they stand on. Does nothing: its contract is the law.
+    pub fn known_memory(&self)
+        ensures { ¬ IsOnCallers self.now.place }
     {
         match &self.count {
             Some(_) => (),

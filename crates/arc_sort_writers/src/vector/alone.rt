@@ -3,6 +3,7 @@
 ghost use Rattle.std.specs.Prelude.{◌≡◌, ℕ, ◌↔◌, true, false, IsTrue, None};
 ghost use Rattle.arc_sort_writers.specs.NativeWriters.{IsAlonePlace};
 ghost use Rattle.arc_block.specs.Block.{IsLimited};
+ghost use Rattle.arc_block.specs.Metadata.{IsOnCallers};
 ghost use Rattle.arc_block.specs.Place.{IsOnBlock, at_owner, given_at};
 ghost use Rattle.arc_parts.specs.Shared.{AsksAlone};
 ghost use Rattle.arc_parts.specs.Steps.{IsPassAt};
@@ -40,6 +41,13 @@ impl<S: Slice, B: Buffer<S::Item> + Drop, M: Drop, A: Allocator + Copy, H: Mark>
     /// The vector is no buffer that a caller gave. Does nothing: its contract is the law.
     pub fn known_ungiven(&self)
         ensures { given_at self.now.place ≡ None }
+    {
+        let _ = &self.count;
+    }
+
+    /// The vector is no caller's buffer. Does nothing: its contract is the law.
+    pub fn known_memory(&self)
+        ensures { ¬ IsOnCallers self.now.place }
     {
         let _ = &self.count;
     }
