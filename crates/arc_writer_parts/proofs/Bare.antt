@@ -2,7 +2,7 @@
 use Rattle.std.proofs.Common.{◌≡◌, ℕ, ◌+◌, ◌-◌, ◌≤◌, ◌==◌, nat_lt, Bool, true, false, not}
 use Rattle.std.proofs.Common.{if◌then◌else◌, List, ◌++◌, length, Option, Some, None}
 use Rattle.std.proofs.Common.{refl, sym, ap, ◌∙◌, subst}
-use Rattle.std.specs.Prelude.{Result, Ok, Err, OnOk, IfErr}
+use Rattle.std.specs.Prelude.{Result, Ok, Err, OnErr, OnOk, IfErr}
 use Rattle.std.specs.Option.{option_map}
 use Rattle.std.proofs.lemmas.Bool.{false≢true}
 use Rattle.arc_owners.specs.declared.error.TryReserveError.{TryReserveError}
@@ -14,12 +14,14 @@ use Rattle.arc_parts.specs.declared.room.Room.TheVariants.{Growth, Own, Refused}
 use Rattle.arc_block.specs.Given.{Given}
 use Rattle.arc_block.specs.Place.{Place, nowhere, static_data, on_block, at_front}
 use Rattle.arc_block.specs.Place.{bare_place, given_at, size_at, offset_at}
+use Rattle.arc_block.specs.Metadata.{FitsGivenAt, FitsPart, IsOnCallers}
 use Rattle.arc_block.specs.Table.{bare}
 use Rattle.arc_parts.specs.Shared.{AsksAlone, extended, is_on_block}
 use Rattle.arc_parts.specs.Window.{PartsView, IsOfBuffer}
 use Rattle.arc_parts.specs.Writers.{capacity_of, room_at, room_for, with_capacity, with_full}
 use Rattle.arc_parts.specs.Writers.{with_items, with_more, with_room, with_size, with_written}
 use Rattle.arc_parts.specs.Writers.{written_place, MakesRoom, Pushes, Reclaims}
+use Rattle.arc_sort_writers.specs.Growth.{IfStill}
 
 -- a place
 module _ {N B M : Type 0} where
@@ -101,6 +103,15 @@ module _ {N B M : Type 0} where
   place_back old new was is same =
       sym (filled_bare new is) ∙ ap filled same ∙ filled_bare old was
 
+-- and the row without the buffer's value the whole one
+pub row_back : {T B M : Type 0} (old new : PartsView T (Given B M)) → given_at old.place ≡ None
+    → given_at new.place ≡ None → bare new ≡ bare old → new ≡ old
+row_back {M = M} old new was is same = λ i. record {
+  items = ap (λ (w : PartsView _ M). w.items) same i;
+  place = place_back old.place new.place was is (ap (λ (w : PartsView _ M). w.place) same) i;
+  role = ap (λ (w : PartsView _ M). w.role) same i;
+}
+
 -- what an arm's parts, their pass and their reply say is said of all
 of_arm : {W P R : Type 0} (says : W → W → P → R → Type 0) (w v self new : W) (after left : P)
     (found reply : R) → w ≡ self → new ≡ v → left ≡ after → reply ≡ found → says w v after found
@@ -114,6 +125,36 @@ of_arm says w v self new after left found reply old now passed said made =
 -- a sole writer is none of several
 pub not_several : {P : Type 0} → false ≡ true → P
 not_several same = absurd (false≢true same)
+
+-- what holds anyway holds where a caller's buffer is neither asked nor changed,
+pub same_still : (room : Room) (P : Type 0) → P → IfStill room P
+same_still Spare P it = it
+same_still (Refused e) P it = it
+same_still (Fresh places) P it = tt
+same_still Behind P it = tt
+same_still Front P it = tt
+same_still (Growth places) P it = tt
+same_still (Own additional) P it = tt
+
+-- and so does what follows from what holds there
+pub map_still : (room : Room) (P Q : Type 0) → (P → Q) → IfStill room P → IfStill room Q
+map_still Spare P Q f it = f it
+map_still (Refused e) P Q f it = f it
+map_still (Fresh places) P Q f it = tt
+map_still Behind P Q f it = tt
+map_still Front P Q f it = tt
+map_still (Growth places) P Q f it = tt
+map_still (Own additional) P Q f it = tt
+
+-- where no caller's buffer is and nothing was given, nothing fits otherwise
+pub memory_fits : {N T B M : Type 0} (list : B → List T) (places : B → ℕ)
+    (place : Place N (Given B M)) (items : List T) → given_at place ≡ None → ¬ IsOnCallers place
+    → FitsGivenAt list places place items
+memory_fits list places nowhere items none off = tt
+memory_fits list places static_data items none off = tt
+memory_fits {B = B} {M = M} list places (on_block block offset info) items none off =
+    subst (λ (given : Option (Given B M)). FitsPart list places given info offset items)
+    (sym none) off
 
 -- the count is asked of the same owner
 pub bare_asked : {B M H : Type 0} (place : Place (Option Owner) (Given B M))
@@ -135,6 +176,28 @@ module _ {N T B M : Type 0} (with_part : B → ℕ → List T → B) (xs : List 
       (λ (held : Given B M). record held { buffer = with_part held.buffer offset xs }) in
       ap (λ given. on_block block offset (record info { given = given }))
       (ap write none ∙ sym none)
+
+-- Where there was room already, or none may be, nothing changed;
+pub reclaimed_still : {T M : Type 0} (room : Room) (w v : PartsView T M) (found : Bool)
+    → Reclaims room w v found → IfStill room (v ≡ w)
+reclaimed_still Spare w v found made = made.1
+reclaimed_still (Refused e) w v found made = made.1
+reclaimed_still (Fresh places) w v found made = tt
+reclaimed_still Behind w v found made = tt
+reclaimed_still Front w v found made = tt
+reclaimed_still (Growth places) w v found made = tt
+reclaimed_still (Own additional) w v found made = tt
+
+-- nor where none was found
+pub reclaimed_none : {T M : Type 0} (room : Room) (w v : PartsView T M) (found : Bool)
+    → Reclaims room w v found → found ≡ false → v ≡ w
+reclaimed_none Spare w v found made no = made.1
+reclaimed_none (Refused e) w v found made no = made.1
+reclaimed_none (Fresh places) w v found made no = made.1
+reclaimed_none Behind w v found made no = absurd (false≢true (sym no ∙ made.0))
+reclaimed_none Front w v found made no = absurd (false≢true (sym no ∙ made.0))
+reclaimed_none (Growth places) w v found made no = made.1
+reclaimed_none (Own additional) w v found made no = made.1
 
 module _ {T B M : Type 0} where
   pub ungiven_written : (with_part : B → ℕ → List T → B) (w : PartsView T (Given B M))
@@ -213,6 +276,22 @@ module _ {T B M : Type 0} where
       (sym (bare_room drops size w additional))
       (reclaimed-bare (room_for drops size w additional) w v found made)
 
+  -- of an arm's parts
+  pub reclaimed_still_arm : (drops : Bool) (size additional : ℕ)
+      (w v self new : PartsView T (Given B M)) → w ≡ self → new ≡ v
+      → IfStill (room_for drops size w additional) (v ≡ w)
+      → IfStill (room_for drops size self additional) (new ≡ self)
+  reclaimed_still_arm drops size additional w v self new old now made =
+      subst (λ (s : PartsView T (Given B M)).
+      IfStill (room_for drops size s additional) (new ≡ s)) old
+      (subst (λ (t : PartsView T (Given B M)).
+      IfStill (room_for drops size w additional) (t ≡ w)) (sym now) made)
+
+  pub reclaimed_none_arm : (w v self new : PartsView T (Given B M)) (found reply : Bool)
+      → w ≡ self → new ≡ v → reply ≡ found → (found ≡ false → v ≡ w) → reply ≡ false → new ≡ self
+  reclaimed_none_arm w v self new found reply old now said made no =
+      now ∙ made (sym said ∙ no) ∙ old
+
   -- as an arm's parts had it
   pub reclaimed_arm : (drops : Bool) (size additional : ℕ) (w v self new : PartsView T (Given B M))
       (found reply : Bool) → w ≡ self → new ≡ v → reply ≡ found
@@ -229,6 +308,18 @@ module _ {T B M : Type 0} where
   held_reclaimed drops size additional w v found made =
       subst (λ room. Reclaims room (bare w) (bare v) found)
       (sym (bare_room drops size w additional)) made
+
+-- where there was room already, or none may be, nothing changed
+pub made-still : {T M H : Type 0} (drops one_pass : Bool) (room : Room) (w v : PartsView T M)
+    (before after : Pass H) (reply : Result (Unit {0}) TryReserveError)
+    → MakesRoom drops one_pass room w v before after reply → IfStill room (v ≡ w)
+made-still drops one_pass Spare w v before after reply made = made.1
+made-still drops one_pass (Refused e) w v before after reply made = made.1
+made-still drops one_pass (Fresh places) w v before after reply made = tt
+made-still drops one_pass Behind w v before after reply made = tt
+made-still drops one_pass Front w v before after reply made = tt
+made-still drops one_pass (Growth places) w v before after reply made = tt
+made-still drops one_pass (Own additional) w v before after reply made = tt
 
 -- or with memory
 module _ {T B M H : Type 0} (drops one_pass : Bool) where
@@ -350,6 +441,29 @@ module _ {T B M H : Type 0} (drops one_pass : Bool) where
     back_held x (Ok done) refused = tt
     back_held x (Err r) refused = (refused.0, held_made (Err r.0) refused.1)
 
+    -- Where there was room already, or none may be, nothing changed:
+    pub made_still : (reply : Result (Unit {0}) TryReserveError)
+        → MakesRoom drops one_pass (room_for drops size w additional) w v before after reply
+        → IfStill (room_for drops size w additional) (v ≡ w)
+    made_still reply made =
+        made-still drops one_pass (room_for drops size w additional) w v before after reply made
+
+    -- by the reply, of a list
+    pub refuse_still : (reply : Result (Unit {0}) TryReserveError)
+        → IfErr reply (λ e. MakesRoom drops one_pass (room_for drops size w additional) w v
+        before after (Err e))
+        → OnErr reply (IfStill (room_for drops size w additional) (v ≡ w))
+    refuse_still (Ok done) refused = tt
+    refuse_still (Err e) refused = made_still (Err e) refused
+
+    -- and of an item
+    pub back_still : {X : Type 0} (x : X) (reply : Result (Unit {0}) (TryReserveError × X))
+        → IfErr reply (λ r. (r.1 ≡ x) × MakesRoom drops one_pass (room_for drops size w additional)
+        w v before after (Err r.0))
+        → OnErr reply (IfStill (room_for drops size w additional) (v ≡ w))
+    back_still x (Ok done) refused = tt
+    back_still x (Err r) refused = made_still (Err r.0) refused.1
+
 -- The same of an arm's parts.
 module _ {T B M H : Type 0} (drops one_pass : Bool) (size additional : ℕ)
     (w v self new : PartsView T (Given B M)) (before after left : Pass H) (old : w ≡ self)
@@ -387,3 +501,11 @@ module _ {T B M H : Type 0} (drops one_pass : Bool) (size additional : ℕ)
       × MakesRoom drops one_pass (room_for drops size (bare s) additional) (bare s) (bare t)
       before p (Err e.0)))
       w v self new after left found reply old now passed said refused
+
+  pub still_arm : {E : Type 0} (found reply : Result (Unit {0}) E) → reply ≡ found
+      → OnErr found (IfStill (room_for drops size w additional) (v ≡ w))
+      → OnErr reply (IfStill (room_for drops size self additional) (new ≡ self))
+  still_arm {E} found reply said still =
+      of_arm (λ (s t : PartsView T (Given B M)) (p : Pass H) (r : Result (Unit {0}) E).
+      OnErr r (IfStill (room_for drops size s additional) (t ≡ s)))
+      w v self new after left found reply old now passed said still

@@ -17,15 +17,17 @@ use Rattle.arc_block.specs.Block.{Sort, native, vector, buffer, raw, IsMemory, I
 use Rattle.arc_block.specs.Place.{Place, nowhere, static_data, on_block, IsOnBlock}
 use Rattle.arc_parts.specs.Room.{ends_full, growth, is_too_large, larger_size}
 use Rattle.arc_parts.specs.Shared.{as_shared, as_unique, asks_alone, is_on_block}
-use Rattle.arc_parts.specs.Shared.{AsksAlone}
+use Rattle.arc_parts.specs.Shared.{AsksAlone, MakesRoomIf, ReclaimsIf}
 use Rattle.arc_parts.specs.Shared.{IsSharedPlace, MakesRoomBeside, MakesSharedRoom, ReclaimsShared}
 use Rattle.arc_block.specs.Table.{sole_writer, one_writer_of_several, bare}
 use Rattle.arc_parts.specs.Window.{PartsView, IsOfBuffer}
 use Rattle.arc_parts.specs.Writers.{capacity_of, room_at, room_for, MakesRoom, Reclaims}
 use Rattle.arc_parts.specs.Writers.{with_size}
-use Rattle.arc_sort_writers.specs.Growth.{IfAsked}
-use Rattle.arc_block.specs.Place.{at_front}
-use Rattle.arc_writer_parts.proofs.Bare.{bare_asked, bare_on_block}
+use Rattle.arc_sort_writers.specs.Growth.{IfAsked, IfStill}
+use Rattle.arc_block.specs.Place.{at_front, given_at}
+use Rattle.arc_writer_parts.proofs.Bare.{bare_asked, bare_on_block, bare_room, made-still}
+use Rattle.arc_writer_parts.proofs.Bare.{map_still, reclaimed_none, reclaimed_still, row_back}
+use Rattle.arc_writer_parts.proofs.Bare.{same_still}
 
 -- which buffer is asked, by case of where there is room
 either-asked : (b : Bool) (P : ℕ → Type 0) (x y : Room) → IfAsked x P → IfAsked y P
@@ -420,3 +422,94 @@ module _ {T B M H : Type 0} where
         asked-reclaimed size additional drops (bare w) (bare unique) (bare sole) (bare new) before
         after found copied (ap bare several) short (bare_on_block w.place ∙ on)
         (bare_asked w.place before after true asked) (ap bare same) (ap bare is) made
+
+-- what an answer of the count leaves
+by-answer : {T M : Type 0} (found : Bool) (room : Room) (w new : PartsView T M) (answer : Bool)
+    → ReclaimsIf found room w new answer → IfStill room (new ≡ w)
+by-answer true room w new answer made = reclaimed_still room w new answer made
+by-answer false room w new answer made = same_still room (new ≡ w) made.1
+
+none-by-answer : {T M : Type 0} (found : Bool) (room : Room) (w new : PartsView T M)
+    (answer : Bool) → ReclaimsIf found room w new answer → answer ≡ false → new ≡ w
+none-by-answer true room w new answer made no = reclaimed_none room w new answer made no
+none-by-answer false room w new answer made no = made.1
+
+-- Where there was room already, or none may be, one of several is as he was.
+module _ {T M H : Type 0} where
+  beside-still : (one_pass : Bool) (room : Room) (w new : PartsView T M) (before after : Pass H)
+      (reply : Result (Unit {0}) TryReserveError) → as_shared w ≡ w
+      → MakesRoomBeside one_pass room (as_unique w) new before after reply
+      → IfStill room (new ≡ w)
+  beside-still one_pass room w new before after reply several made =
+      map_still room (made.sole ≡ as_unique w) (new ≡ w)
+      (λ same. made.shared ∙ ap as_shared same ∙ several)
+      (made-still false one_pass room (as_unique w) made.sole before after reply made.makes)
+
+  if-still : (found one_pass : Bool) (room : Room) (w new : PartsView T M)
+      (before after : Pass H) (reply : Result (Unit {0}) TryReserveError) → as_shared w ≡ w
+      → MakesRoomIf found one_pass room w new before after reply → IfStill room (new ≡ w)
+  if-still true one_pass room w new before after reply several made =
+      beside-still one_pass room w new before after reply several made
+  if-still false one_pass room w new before after reply several made =
+      same_still room (new ≡ w) made.1
+
+  shared-still : (asks one_pass : Bool) (room : Room) (w new : PartsView T M)
+      (before after : Pass H) (reply : Result (Unit {0}) TryReserveError) → as_shared w ≡ w
+      → MakesSharedRoom asks one_pass room w new before after reply → IfStill room (new ≡ w)
+  shared-still true one_pass room w new before after reply several made =
+      if-still made.0 one_pass room w new made.1 after reply several made.3
+  shared-still false one_pass room w new before after reply several made =
+      beside-still one_pass room w new before after reply several made
+
+  reclaims-still : (asks : Bool) (room : Room) (w new : PartsView T M) (before after : Pass H)
+      (answer : Bool) → ReclaimsShared asks room w new before after answer
+      → IfStill room (new ≡ w)
+  reclaims-still true room w new before after answer made =
+      by-answer made.0 room w new answer made.2
+  reclaims-still false room w new before after answer made =
+      reclaimed_still room w new answer made.1
+
+  reclaims-none : (asks : Bool) (room : Room) (w new : PartsView T M) (before after : Pass H)
+      (answer : Bool) → ReclaimsShared asks room w new before after answer → answer ≡ false
+      → new ≡ w
+  reclaims-none true room w new before after answer made no =
+      none-by-answer made.0 room w new answer made.2 no
+  reclaims-none false room w new before after answer made no =
+      reclaimed_none room w new answer made.1 no
+
+-- of whole rows, where nothing was given
+module _ {T B M H : Type 0} (drops : Bool) (size additional : ℕ) (w new : PartsView T (Given B M))
+    (before after : Pass H) (was : true ≡ true → given_at w.place ≡ None)
+    (is : true ≡ true → given_at new.place ≡ None) (copied : drops ≡ false) where
+  whole-still : IfStill (room_for false size (bare w) additional) (bare new ≡ bare w)
+      → IfStill (room_for drops size w additional) (new ≡ w)
+  whole-still still =
+      subst (λ (d : Bool). IfStill (room_for d size w additional) (new ≡ w)) (sym copied)
+      (subst (λ (room : Room). IfStill room (new ≡ w)) (bare_room false size w additional)
+      (map_still (room_for false size (bare w) additional) (bare new ≡ bare w) (new ≡ w)
+      (row_back w new (was refl) (is refl)) still))
+
+  pub still_shared : (one_pass : Bool) (reply : Result (Unit {0}) TryReserveError)
+      → as_shared w ≡ w
+      → MakesSharedRoom (asks_alone (bare w) additional) one_pass
+      (room_for false size (bare w) additional) (bare w) (bare new) before after reply
+      → IfStill (room_for drops size w additional) (new ≡ w)
+  still_shared one_pass reply several made =
+      whole-still (shared-still (asks_alone (bare w) additional) one_pass
+      (room_for false size (bare w) additional) (bare w) (bare new) before after reply
+      (ap bare several) made)
+
+  pub still_reclaimed : (answer : Bool)
+      → ReclaimsShared (asks_alone (bare w) additional) (room_for false size (bare w) additional)
+      (bare w) (bare new) before after answer
+      → IfStill (room_for drops size w additional) (new ≡ w)
+  still_reclaimed answer made =
+      whole-still (reclaims-still (asks_alone (bare w) additional)
+      (room_for false size (bare w) additional) (bare w) (bare new) before after answer made)
+
+  pub none_reclaimed : (answer : Bool)
+      → ReclaimsShared (asks_alone (bare w) additional) (room_for false size (bare w) additional)
+      (bare w) (bare new) before after answer → answer ≡ false → new ≡ w
+  none_reclaimed answer made no =
+      row_back w new (was refl) (is refl) (reclaims-none (asks_alone (bare w) additional)
+      (room_for false size (bare w) additional) (bare w) (bare new) before after answer made no)

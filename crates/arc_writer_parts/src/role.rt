@@ -1,6 +1,6 @@
 //! The two roles of writers, and what their parts have in common.
 ghost use Rattle.std.specs.Prelude.{◌≡◌, ◌≤◌, ◌+◌, ◌++◌, ◌∷◌, [], length, Bool, List, true, false};
-ghost use Rattle.std.specs.Prelude.{IfOk, IfErr, OnOk, IfSome, IfNone, Some, None, Err};
+ghost use Rattle.std.specs.Prelude.{IfOk, IfErr, OnErr, OnOk, IfSome, IfNone, Some, None, Err};
 ghost use Rattle.std.specs.Borrow.{Array, Lends, sem};
 ghost use Rattle.std.specs.Mem.{type_size};
 ghost use Rattle.std.specs.Vec.{vec_capacity};
@@ -8,7 +8,7 @@ ghost use Rattle.arc_owners.specs.count.Calls.{IsNewPass, IsPassOfNone, Learns};
 ghost use Rattle.arc_block.specs.Block.{IsLimited};
 ghost use Rattle.arc_block.specs.Given.{Given};
 ghost use Rattle.arc_block.specs.LayoutFacts.{layout_facts};
-ghost use Rattle.arc_block.specs.Metadata.{IsMetadataAt, IsOnCallers};
+ghost use Rattle.arc_block.specs.Metadata.{FitsGivenAt, IsMetadataAt, IsOnCallers};
 ghost use Rattle.arc_block.specs.Moves.{IsRefused, layout_move};
 ghost use Rattle.arc_block.specs.Place.{at_owner, given_at, IsOnBlock, metadata_at, size_at};
 ghost use Rattle.arc_block.specs.Table.{bare, reader};
@@ -17,7 +17,7 @@ ghost use Rattle.arc_parts.specs.Window.{IsBlockHeld, IsBoxWhole, IsHeld, IsVecP
 ghost use Rattle.arc_parts.specs.Window.{window_of};
 ghost use Rattle.arc_parts.specs.Writers.{after_advance, after_truncate, as_reader, capacity_of};
 ghost use Rattle.arc_parts.specs.Writers.{Freezes, room_for, with_more, with_written};
-ghost use Rattle.arc_sort_writers.specs.Growth.{AsksForRoom, IfAsked, without_item};
+ghost use Rattle.arc_sort_writers.specs.Growth.{AsksForRoom, IfAsked, IfStill, without_item};
 ghost use Rattle.arc_writer_parts.specs.Roles.{AsksRoom, HasWritersRole, PushesItems, ReclaimsRoom};
 ghost use Rattle.arc_writer_parts.specs.Roles.{RefusesTakingOut, ReleasesAt, ReleasesHintedAt};
 ghost use Rattle.arc_writer_parts.specs.Roles.{StandsAsWriter, TakesOutAt};
@@ -104,6 +104,12 @@ pub trait WriterParts<
     fn known_ungiven(&self)
         ensures { several ≡ true → given_at (seen self.now).place ≡ None };
 
+    /// What is known of what a caller gave fits the parts: where they stand on no caller's buffer,
+    /// nothing was given; else the items are a part of the buffer's, and the block has its places.
+    /// Does nothing: its contract is the law.
+    fn known_given(&self)
+        ensures { FitsGivenAt B.list B.places (seen self.now).place (seen self.now).items };
+
     /// How many items there are.
     fn len(&self) -> usize
         ensures { result ≡ length (seen self.now).items };
@@ -173,7 +179,9 @@ pub trait WriterParts<
             ≤ capacity_of (seen self.new).role) }
         ensures own { IfAsked (room_for S.DROPS (type_size S.Item.row) (seen self.old) additional)
             (λ k. AsksForRoom B.list B.places B.grows B.refuses (seen self.old) k
-            (size_at (seen self.new).place) result) };
+            (size_at (seen self.new).place) result) }
+        ensures still { IfStill (room_for S.DROPS (type_size S.Item.row) (seen self.old) additional)
+            (seen self.new ≡ seen self.old) };
 
     /// Makes room for `additional` items more where that takes no memory, and answers whether there
     /// is room. A caller's buffer isn't asked for more. One of several writers gets no further
@@ -187,7 +195,10 @@ pub trait WriterParts<
         requires pass { IsPassAt (seen self.old).place pass.old }
         ensures room { ReclaimsRoom several S.DROPS (type_size S.Item.row) additional
             (seen self.old) (seen self.new) pass.old pass.new result }
-        ensures items { (seen self.new).items ≡ (seen self.old).items };
+        ensures items { (seen self.new).items ≡ (seen self.old).items }
+        ensures still { IfStill (room_for S.DROPS (type_size S.Item.row) (seen self.old) additional)
+            (seen self.new ≡ seen self.old) }
+        ensures none { result ≡ false → seen self.new ≡ seen self.old };
 
     /// Appends an item, once there is room.
     ///
@@ -218,7 +229,10 @@ pub trait WriterParts<
             (seen self.old) (seen self.new) pass.old pass.new (Err r.0)) }
         ensures own { IfAsked (room_for S.DROPS (type_size S.Item.row) (seen self.old) 1) (λ k.
             AsksForRoom B.list B.places B.grows B.refuses (seen self.old) k
-            (size_at (seen self.new).place) (without_item result)) };
+            (size_at (seen self.new).place) (without_item result)) }
+        ensures still { OnErr result (IfStill
+            (room_for S.DROPS (type_size S.Item.row) (seen self.old) 1)
+            (seen self.new ≡ seen self.old)) };
 
     /// The items as the block's vector, moved to its front, where the block is a vector and no
     /// other owner lives. Items that are dropped one by one have to be all of it.
@@ -427,7 +441,9 @@ where
             (Self.seen self.old) (Self.seen self.new) pass.old pass.new (Err e)) }
         ensures own { IfAsked (room_for S.DROPS (type_size S.Item.row) (Self.seen self.old)
             (length items.now)) (λ k. AsksForRoom B.list B.places B.grows B.refuses
-            (Self.seen self.old) k (size_at (Self.seen self.new).place) result) };
+            (Self.seen self.old) k (size_at (Self.seen self.new).place) result) }
+        ensures still { OnErr result (IfStill (room_for S.DROPS (type_size S.Item.row)
+            (Self.seen self.old) (length items.now)) (Self.seen self.new ≡ Self.seen self.old)) };
 
     /// Appends a copy of the items. There are places for them.
     fn extend_reserved(&mut self, items: &[S::Item])

@@ -57,6 +57,14 @@ impl<S: Slice, B: BufferMut<S::Item> + Drop, M: Drop, A: Allocator + Copy, H: Ma
         }
     }
 
+    #[tactic(auto, using(crate::proofs::Bare::memory_fits))]
+    fn known_given(&self) {
+        match &self.on {
+            SharedStorage::Several(_) => (),
+            SharedStorage::Alone(parts) => parts.known_given(),
+        }
+    }
+
     #[inline(always)]
     fn len(&self) -> usize {
         match &self.on {
@@ -116,14 +124,19 @@ impl<S: Slice, B: BufferMut<S::Item> + Drop, M: Drop, A: Allocator + Copy, H: Ma
         additional: usize,
         pass: &mut Pass<H>,
     ) -> Result<(), TryReserveError> {
+        self.known_kind();
+        self.known_ungiven();
         if additional <= self.spare() {
             return Ok(());
         }
-        self.try_make_room(additional, pass)
+        let made = self.try_make_room(additional, pass);
+        self.known_ungiven();
+        made
     }
 
-    #[tactic(auto, using(crate::proofs::Rooms::spare_reclaimed))]
+    #[tactic(auto, using(crate::proofs::Rooms::spare_reclaimed, crate::proofs::Rooms::still_reclaimed, crate::proofs::Rooms::none_reclaimed, crate::proofs::Bare::same_still))]
     fn try_reclaim_as(&mut self, additional: usize, pass: &mut Pass<H>) -> bool {
+        self.known_ungiven();
         if additional <= self.spare() {
             return true;
         }
@@ -131,6 +144,7 @@ impl<S: Slice, B: BufferMut<S::Item> + Drop, M: Drop, A: Allocator + Copy, H: Ma
         let nothing = Self::on_nothing(self.alloc);
         let (parts, found) = mem::replace(self, nothing).with_places_as(additional, pass);
         self.take_in(parts);
+        self.known_ungiven();
         found
     }
 

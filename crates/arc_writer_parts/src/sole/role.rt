@@ -53,6 +53,21 @@ impl<S: Slice, B: BufferMut<S::Item> + Drop, M: Drop, A: Allocator + Copy, H: Ma
         let _ = &self.on;
     }
 
+    #[tactic(auto, using(crate::proofs::Bare::memory_fits))]
+    fn known_given(&self) {
+        match &self.on {
+            SoleStorage::Native(parts) => {
+                parts.known_ungiven();
+                parts.known_memory();
+            }
+            SoleStorage::Other(SoleOther::Vector(parts)) => {
+                parts.known_ungiven();
+                parts.known_memory();
+            }
+            SoleStorage::Other(SoleOther::Buffer(parts)) => parts.known_given(),
+        }
+    }
+
     #[inline(always)]
     fn len(&self) -> usize {
         match &self.on {
@@ -117,7 +132,7 @@ impl<S: Slice, B: BufferMut<S::Item> + Drop, M: Drop, A: Allocator + Copy, H: Ma
     }
 
     #[inline(always)]
-    #[tactic(auto, using(arc_sort_writers::proofs::Growth::never_asked, crate::proofs::Bare::bare_made, crate::proofs::Bare::held_made))]
+    #[tactic(auto, using(arc_sort_writers::proofs::Growth::never_asked, crate::proofs::Bare::bare_made, crate::proofs::Bare::held_made, crate::proofs::Bare::made_still))]
     fn try_reserve_as(
         &mut self,
         additional: usize,

@@ -1,8 +1,9 @@
 //! What a sole writer does without a pass.
-ghost use Rattle.std.specs.Prelude.{◌≡◌, ◌≤◌, ◌+◌, ◌∷◌, [], length};
+ghost use Rattle.std.specs.Prelude.{◌≡◌, ◌≤◌, ◌+◌, ◌∷◌, [], false, length};
 ghost use Rattle.std.specs.Mem.{type_size};
 ghost use Rattle.arc_block.specs.Table.{bare};
 ghost use Rattle.arc_parts.specs.Writers.{capacity_of, room_for, Reclaims, with_more};
+ghost use Rattle.arc_sort_writers.specs.Growth.{IfStill};
 
 use super::{SoleOther, SoleParts, SoleStorage};
 use arc_buffer::buffer::BufferMut;
@@ -20,8 +21,11 @@ impl<S: Slice, B: BufferMut<S::Item> + Drop, M: Drop, A: Allocator + Copy, H: Ma
     /// Makes room for `additional` items more where that takes no memory, and answers whether there
     /// is room. A caller's buffer isn't asked for more.
     pub fn try_reclaim(&mut self, additional: usize) -> bool
-        ensures { Reclaims (room_for S.DROPS (type_size S.Item.row) (bare self.old) additional)
+        ensures room { Reclaims (room_for S.DROPS (type_size S.Item.row) (bare self.old) additional)
             (bare self.old) (bare self.new) result }
+        ensures still { IfStill (room_for S.DROPS (type_size S.Item.row) self.old additional)
+            (self.new ≡ self.old) }
+        ensures none { result ≡ false → self.new ≡ self.old }
     {
         match &mut self.on {
             SoleStorage::Other(SoleOther::Buffer(parts)) => parts.try_reclaim(additional),

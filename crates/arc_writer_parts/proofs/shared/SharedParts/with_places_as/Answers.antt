@@ -15,14 +15,14 @@ returns-in-Ok-clause-room g c =
     c.into_shared_memory.result c.args.pass.now c.try_into_unique_as.new.pass
     c.try_reclaim-found.result c.known_kind.ensures c.requires.several c.requires.short
     (sym c.is_on_block.ensures ∙ c.if-is_on_block.true) c.in-Ok.ensures.entry c.in-Ok.ensures.sole
-    c.into_shared_memory.ensures c.try_reclaim-found.ensures
+    c.into_shared_memory.ensures c.try_reclaim-found.ensures.room
 
 pub returns-in-Ok-clause-items : goal.returns-in-Ok-clause-items
 returns-in-Ok-clause-items g c =
     ap (λ w. w.items) c.into_shared_memory.ensures
     ∙ reclaimed_items _ (bare c.in-Ok.sole) (bare c.try_reclaim-found.new.self)
     c.try_reclaim-found.result
-    c.try_reclaim-found.ensures
+    c.try_reclaim-found.ensures.room
     ∙ ap (λ w. w.items) c.in-Ok.ensures.sole
 
 pub into_shared_memory-requires-clause-place : goal.into_shared_memory-requires-clause-place
@@ -32,5 +32,5 @@ into_shared_memory-requires-clause-place g c =
     ¬ IsOfBuffer w.place) (sym c.in-Ok.ensures.sole)
     (no_buffer_shared c.args.self.place c.known_place.ensures.place) in
     no_buffer_back new.place (no_buffer_reclaimed _ (bare c.in-Ok.sole) (bare new)
-    c.try_reclaim-found.result c.try_reclaim-found.ensures
+    c.try_reclaim-found.result c.try_reclaim-found.ensures.room
     (bare_no_buffer c.in-Ok.sole.place old))

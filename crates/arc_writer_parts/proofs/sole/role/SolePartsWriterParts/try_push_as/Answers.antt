@@ -4,6 +4,7 @@ use Rattle.arc_writer_parts.specs.PartsOn.{sole_on}
 use Rattle.arc_writer_parts.specs.declared.sole.SoleStorage.TheVariants.{Other}
 use Rattle.arc_writer_parts.proofs.Bare.{extend_bare, extend_held, back_bare}
 use Rattle.arc_writer_parts.proofs.Bare.{back_held, pushed_arm, back_arm}
+use Rattle.arc_writer_parts.proofs.Bare.{back_still, still_arm}
 use Rattle.arc_writer_parts.proofs.sole.role.SolePartsWriterParts.try_push_as.Goals.{in-Other-Buffer, in-Other-Vector}
 use Rattle.arc_writer_parts.proofs.sole.role.SolePartsWriterParts.try_push_as.Goals.{in-Native}
 use Rattle.arc_writer_parts.proofs.sole.role.SolePartsWriterParts.try_push_as.Goals as goal
@@ -70,5 +71,33 @@ returns-clause-refused g c =
           (ap (λ s. sole_on s.on) w.self-inside-is) w.pass-is c.args.item call.result _ w.result-is
           (back_bare drops whole _ 1 its.parts call.new.self before call.new.pass c.args.item
           call.result
+          call.ensures.refused)
+    ]
+
+pub returns-clause-still : goal.returns-clause-still
+returns-clause-still g c =
+    let drops = g.S.Slice.DROPS in let whole = g.H.Mark.whole in
+    let self = c.args.self.now in
+    let before = c.args.pass.now in
+    elim c.match-self.branch [
+      | in-Other-Buffer w ↦ let its = w.in-Other-Buffer in
+          let call = w.try_push_as in
+          still_arm drops whole _ 1 its.parts call.new.self self _ before call.new.pass _
+          (sym (ap sole_on (its.is ∙ ap Other its.field-0-is)) ∙ c.self.view_is)
+          (ap (λ s. sole_on s.on) w.self-inside-is) w.pass-is call.result _ w.result-is
+          call.ensures.still
+      | in-Other-Vector w ↦ let its = w.in-Other-Vector in
+          let call = w.try_push_as-in-Other-Vector in
+          still_arm drops whole _ 1 its.parts call.new.self self _ before call.new.pass _
+          (sym (ap sole_on (its.is ∙ ap Other its.field-0-is)) ∙ c.self.view_is)
+          (ap (λ s. sole_on s.on) w.self-inside-is) w.pass-is call.result _ w.result-is
+          (back_still drops whole _ 1 its.parts call.new.self before call.new.pass c.args.item call.result
+          call.ensures.refused)
+      | in-Native w ↦ let its = w.in-Native in
+          let call = w.try_push_as-in-Native in
+          still_arm drops whole _ 1 its.parts call.new.self self _ before call.new.pass _
+          (sym (ap sole_on its.is) ∙ c.self.view_is)
+          (ap (λ s. sole_on s.on) w.self-inside-is) w.pass-is call.result _ w.result-is
+          (back_still drops whole _ 1 its.parts call.new.self before call.new.pass c.args.item call.result
           call.ensures.refused)
     ]
