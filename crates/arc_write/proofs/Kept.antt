@@ -7,7 +7,8 @@ use Rattle.arc_block.specs.Place.{Place, at_owner, moved, nowhere, static_data, 
 use Rattle.arc_block.specs.Place.{bare_place}
 use Rattle.arc_block.specs.Table.{bare}
 use Rattle.arc_parts.specs.Window.{PartsView}
-use Rattle.arc_parts.specs.Writers.{after_advance, with_full, with_more}
+use Rattle.arc_parts.specs.Writers.{after_advance, with_full, with_more, with_written}
+use Rattle.arc_parts.specs.Writers.{written_place}
 use Rattle.arc_read.specs.Kept.{kept_read, without_metadata}
 use Rattle.arc_read.proofs.Kept.{kept_advanced, owner_after_read, owner_before_read}
 use Rattle.arc_read.proofs.Kept.{place_after_read}
@@ -58,7 +59,7 @@ module _ {T M : Type 0} where
 
 -- Items that are written behind others leave the owner.
 module _ {M : Type 0} (none : Type 0) (some : Owner → Type 0) where
-  owner_with : (len more : ℕ) (place : Place (Option Owner) M)
+  pub owner_with : (len more : ℕ) (place : Place (Option Owner) M)
       → (at_owner place none some → at_owner (with_full len more place) none some)
       × (at_owner (with_full len more place) none some → at_owner place none some)
   owner_with len more nowhere = (λ it. it, λ it. it)
@@ -67,7 +68,7 @@ module _ {M : Type 0} (none : Type 0) (some : Owner → Type 0) where
   owner_with len more (on_block (Some owner) offset info) = (λ it. it, λ it. it)
 
 module _ {B M : Type 0} (none : Type 0) (some : Owner → Type 0) where
-  owner_bare : (place : Place (Option Owner) (Given B M))
+  pub owner_bare : (place : Place (Option Owner) (Given B M))
       → (at_owner place none some → at_owner (bare_place place) none some)
       × (at_owner (bare_place place) none some → at_owner place none some)
   owner_bare nowhere = (λ it. it, λ it. it)
@@ -90,3 +91,37 @@ module _ {B M : Type 0} (none : Type 0) (some : Owner → Type 0) where
         ((owner_with none some (length old.items) (length items) (bare_place old.place)).1
         (subst (λ (w : PartsView T M). at_owner w.place none some) more
         ((owner_bare new.place).0 it)))
+
+  -- a refusal leaves it too,
+  module _ {T : Type 0} (old new : PartsView T (Given B M)) (same : bare new ≡ bare old) where
+    pub owner_after_refusal : at_owner old.place none some → at_owner new.place none some
+    owner_after_refusal it =
+        (owner_bare new.place).1 (subst (λ (w : PartsView T M). at_owner w.place none some)
+        (sym same) ((owner_bare old.place).0 it))
+
+    pub owner_before_refusal : at_owner new.place none some → at_owner old.place none some
+    owner_before_refusal it =
+        (owner_bare old.place).1 (subst (λ (w : PartsView T M). at_owner w.place none some) same
+        ((owner_bare new.place).0 it))
+
+  -- and so do items that are changed in their places
+  module _ {T : Type 0} (with_part : B → ℕ → List T → B) (items : List T) where
+    owner_over : (place : Place (Option Owner) (Given B M))
+        → (at_owner place none some → at_owner (written_place with_part place items) none some)
+        × (at_owner (written_place with_part place items) none some → at_owner place none some)
+    owner_over nowhere = (λ it. it, λ it. it)
+    owner_over static_data = (λ it. it, λ it. it)
+    owner_over (on_block None offset info) = (λ it. it, λ it. it)
+    owner_over (on_block (Some owner) offset info) = (λ it. it, λ it. it)
+
+    module _ (old new : PartsView T (Given B M)) (over : new ≡ with_written with_part old items)
+        where
+      pub owner_after_change : at_owner old.place none some → at_owner new.place none some
+      owner_after_change it =
+          subst (λ (w : PartsView T (Given B M)). at_owner w.place none some) (sym over)
+          ((owner_over old.place).0 it)
+
+      pub owner_before_change : at_owner new.place none some → at_owner old.place none some
+      owner_before_change it =
+          (owner_over old.place).1
+          (subst (λ (w : PartsView T (Given B M)). at_owner w.place none some) over it)

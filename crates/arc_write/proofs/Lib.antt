@@ -5,6 +5,7 @@ pub mod Held
 pub mod Kept
 mod More
 pub mod Parts
+mod Passes
 pub mod ReadParts
 pub mod Refused
 mod Zeros

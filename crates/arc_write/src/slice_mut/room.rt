@@ -74,6 +74,7 @@ impl<
         ensures within { StaysWithin R.Parts.several additional
             self.old self.new (is_ok result) }
         ensures same { OnErr result (bare self.new ≡ bare self.old) }
+        ensures pass { IsPassAt self.new.place pass.new }
     {
         self.known_place();
         self.known_ungiven();
@@ -143,6 +144,7 @@ impl<
         ensures room { ReclaimsRoom R.Parts.several S.DROPS (type_size S.Item.row) additional
             self.old self.new pass.old pass.new result }
         ensures items { self.new.items ≡ self.old.items }
+        ensures pass { IsPassAt self.new.place pass.new }
     {
         self.parts.try_reclaim_as(additional, pass)
     }

@@ -72,6 +72,7 @@ impl<
         ensures within { StaysWithin R.Parts.several (length text.now)
             self.old self.new (is_ok result) }
         ensures same { OnErr result (bare self.new ≡ bare self.old) }
+        ensures pass { IsPassAt self.new.place pass.new }
     {
         self.known_place();
         self.known_ungiven();

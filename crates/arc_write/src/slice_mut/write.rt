@@ -11,7 +11,7 @@ ghost use Rattle.arc_block.specs.Table.{bare};
 ghost use Rattle.arc_parts.specs.Shared.{IsOneBlock, LeavesAt};
 ghost use Rattle.arc_parts.specs.Steps.{IsPassAt};
 ghost use Rattle.arc_parts.specs.Window.{PartsView};
-ghost use Rattle.arc_parts.specs.Writers.{room_for, with_more};
+ghost use Rattle.arc_parts.specs.Writers.{room_for, with_more, with_written};
 ghost use Rattle.arc_sort_writers.specs.Growth.{AsksForRoom, IfAsked, without_item};
 ghost use Rattle.arc_writer_parts.specs.Roles.{AsksRoom, PushesItems};
 ghost use Rattle.arc_read.specs.Steps.{WithNewPass};
@@ -88,6 +88,7 @@ impl<
             (without_item result)) }
         ensures within { StaysWithin R.Parts.several 1 self.old self.new (is_ok result) }
         ensures same { OnErr result (bare self.new ≡ bare self.old) }
+        ensures pass { IsPassAt self.new.place pass.new }
     {
         self.known_place();
         self.known_ungiven();
@@ -175,6 +176,7 @@ impl<
         ensures within { StaysWithin R.Parts.several (length items.now)
             self.old self.new (is_ok result) }
         ensures same { OnErr result (bare self.new ≡ bare self.old) }
+        ensures pass { IsPassAt self.new.place pass.new }
     {
         self.known_place();
         self.known_ungiven();
@@ -259,6 +261,34 @@ impl<
             → LeavesAt self.now.place before after → LeavesAt old.place before after }
         ensures block { (old : PartsView S.Item (Given B M)) (items : List S.Item)
             (other : Place (Option Owner) (Given B M)) → bare self.now ≡ with_more items (bare old)
+            → IsOneBlock old.place other → IsOneBlock self.now.place other }
+    {}
+
+    /// Once room or items were refused (`same`), the window stands on the same block, as the same
+    /// owner. Does nothing: its contract is the law.
+    pub fn known_after_refusal(&self)
+        ensures pass { (old : PartsView S.Item (Given B M)) (pass : Pass H)
+            → bare self.now ≡ bare old → IsPassAt old.place pass → IsPassAt self.now.place pass }
+        ensures left { (old : PartsView S.Item (Given B M)) (before after : Pass H)
+            → bare self.now ≡ bare old
+            → LeavesAt self.now.place before after → LeavesAt old.place before after }
+        ensures block { (old : PartsView S.Item (Given B M))
+            (other : Place (Option Owner) (Given B M)) → bare self.now ≡ bare old
+            → IsOneBlock old.place other → IsOneBlock self.now.place other }
+    {}
+
+    /// Once its items were changed in their places (`as_mut_slice`), the window stands on the same
+    /// block, as the same owner. Does nothing: its contract is the law.
+    pub fn known_after_changes(&self)
+        ensures pass { (old : PartsView S.Item (Given B M)) (items : List S.Item) (pass : Pass H)
+            → self.now ≡ with_written B.with_part old items → IsPassAt old.place pass
+            → IsPassAt self.now.place pass }
+        ensures left { (old : PartsView S.Item (Given B M)) (items : List S.Item)
+            (before after : Pass H) → self.now ≡ with_written B.with_part old items
+            → LeavesAt self.now.place before after → LeavesAt old.place before after }
+        ensures block { (old : PartsView S.Item (Given B M)) (items : List S.Item)
+            (other : Place (Option Owner) (Given B M))
+            → self.now ≡ with_written B.with_part old items
             → IsOneBlock old.place other → IsOneBlock self.now.place other }
     {}
 }

@@ -5,11 +5,13 @@ use Rattle.arc_block.specs.Given.{Given}
 use Rattle.arc_block.specs.LayoutFacts.{layout_facts}
 use Rattle.arc_block.specs.Place.{given_at}
 use Rattle.arc_block.specs.Table.{bare}
+use Rattle.arc_parts.specs.Steps.{IsPassAt}
 use Rattle.arc_parts.specs.Window.{PartsView}
 use Rattle.arc_writer_parts.specs.Roles.{HasWritersRole}
 use Rattle.arc_write.specs.Within.{StaysWithin}
 use Rattle.arc_write.proofs.Held.{push_held}
 use Rattle.arc_write.proofs.Legal.{push_legal}
+use Rattle.arc_write.proofs.Passes.{push_pass}
 use Rattle.arc_write.proofs.Refused.{push_same}
 use Rattle.arc_write.proofs.Within.{push_within}
 use Rattle.arc_write.proofs.slice_mut.WriteWindow.try_push_as.Goals as goal
@@ -50,3 +52,13 @@ returns-clause-same g c =
     (push_same of.several g.S.Slice.DROPS g.H.Mark.whole (type_size g.row.S-Item) 1
     (of.seen c.self.inside.parts) (of.seen call.new.self) c.args.pass.now call.new.pass
     role c.args.item call.result call.ensures.refused)
+
+pub returns-clause-pass : goal.returns-clause-pass
+returns-clause-pass g c =
+    let of = g.R.Parts.WriterParts in let call = c.try_push_as-pushed in
+    let has = subst (λ (w : PartsView g.row.S-Item.Denot (Given g.row.B.Denot g.row.M.Denot)).
+    IsPassAt w.place c.args.pass.now)
+    (sym c.self.view_is) c.requires.pass in
+    push_pass of.several g.S.Slice.DROPS g.H.Mark.whole (type_size g.row.S-Item) 1 c.args.item
+    (of.seen c.self.inside.parts) (of.seen call.new.self) c.args.pass.now call.new.pass call.result
+    call.ensures.pushed call.ensures.refused has

@@ -5,12 +5,14 @@ use Rattle.arc_block.specs.Given.{Given}
 use Rattle.arc_block.specs.LayoutFacts.{layout_facts}
 use Rattle.arc_block.specs.Place.{given_at, size_at}
 use Rattle.arc_block.specs.Table.{bare}
+use Rattle.arc_parts.specs.Steps.{IsPassAt}
 use Rattle.arc_parts.specs.Window.{PartsView}
 use Rattle.arc_parts.specs.Writers.{room_for}
 use Rattle.arc_sort_writers.specs.Growth.{AsksForRoom, IfAsked}
 use Rattle.arc_writer_parts.specs.Roles.{HasWritersRole}
 use Rattle.arc_write.specs.Within.{StaysWithin}
 use Rattle.arc_write.proofs.Held.{room_held}
+use Rattle.arc_write.proofs.Passes.{room_pass}
 use Rattle.arc_write.proofs.Refused.{room_same}
 use Rattle.arc_write.proofs.Within.{room_within}
 use Rattle.arc_write.proofs.slice_mut.WriteWindow.try_reserve_as.Goals as goal
@@ -56,3 +58,13 @@ returns-clause-own g c =
     IfAsked (room_for g.S.Slice.DROPS (type_size g.row.S-Item) w c.args.additional) (λ k.
     AsksForRoom g.B.Buffer.list g.B.Buffer.places g.B.BufferMut.grows g.B.BufferMut.refuses w k
     (size_at (of.seen call.new.self).place) call.result)) c.self.view_is call.ensures.own
+
+pub returns-clause-pass : goal.returns-clause-pass
+returns-clause-pass g c =
+    let of = g.R.Parts.WriterParts in let call = c.try_reserve_as-made in
+    let has = subst (λ (w : PartsView g.row.S-Item.Denot (Given g.row.B.Denot g.row.M.Denot)).
+    IsPassAt w.place c.args.pass.now)
+    (sym c.self.view_is) c.requires.pass in
+    room_pass of.several g.S.Slice.DROPS g.H.Mark.whole (type_size g.row.S-Item) c.args.additional
+    (of.seen c.self.inside.parts) (of.seen call.new.self) c.args.pass.now call.new.pass call.result
+    call.ensures.room has

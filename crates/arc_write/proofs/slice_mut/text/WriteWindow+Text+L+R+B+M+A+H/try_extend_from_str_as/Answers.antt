@@ -6,11 +6,13 @@ use Rattle.arc_block.specs.Given.{Given}
 use Rattle.arc_block.specs.LayoutFacts.{layout_facts}
 use Rattle.arc_block.specs.Place.{given_at}
 use Rattle.arc_block.specs.Table.{bare}
+use Rattle.arc_parts.specs.Steps.{IsPassAt}
 use Rattle.arc_parts.specs.Window.{PartsView}
 use Rattle.arc_writer_parts.specs.Roles.{HasWritersRole}
 use Rattle.arc_write.specs.Within.{StaysWithin}
 use Rattle.arc_write.proofs.Held.{extend_held}
 use Rattle.arc_write.proofs.Legal.{extend_legal}
+use Rattle.arc_write.proofs.Passes.{extend_pass}
 use Rattle.arc_write.proofs.Refused.{extend_same}
 use Rattle.arc_write.proofs.Within.{extend_within}
 use Rattle.arc_write.proofs.slice_mut.text.WriteWindow+Text+L+R+B+M+A+H.try_extend_from_str_as.Goals as goal
@@ -55,3 +57,14 @@ returns-clause-same g c =
     (extend_same of.several false g.H.Mark.whole 1 (length c.as_bytes.result.now)
     (of.seen c.self.inside.parts) (of.seen call.new.self) c.args.pass.now call.new.pass
     role (λ e. e) call.result call.ensures.refused)
+
+pub returns-clause-pass : goal.returns-clause-pass
+returns-clause-pass g c =
+    let of = g.R.Parts.WriterParts in let call = c.try_extend_from_slice_as-extended in
+    let has = subst (λ (w : PartsView ℕ (Given g.row.B.Denot g.row.M.Denot)).
+    IsPassAt w.place c.args.pass.now)
+    (sym c.self.view_is) c.requires.pass in
+    let bytes = c.as_bytes.result.now in
+    extend_pass of.several false g.H.Mark.whole 1 (length bytes) bytes
+    (of.seen c.self.inside.parts) (of.seen call.new.self) c.args.pass.now call.new.pass (λ e. e)
+    call.result call.ensures.extended call.ensures.refused has
