@@ -4,17 +4,21 @@ ghost use Rattle.arc_owners.specs.history.Histories.{Lone};
 ghost use Rattle.arc_owners.specs.count.Calls.{owner_of, sole_owner, lease_of, seen, IsFirst};
 ghost use Rattle.arc_owners.specs.count.Calls.{IsOwnerOf, IsPassOf, IsFreshPass, IsTermOf};
 ghost use Rattle.arc_owners.specs.count.Calls.{HasCountIn, Looks, Asks, MakesAnother, FindsFull};
-ghost use Rattle.arc_owners.specs.count.Calls.{Leaves};
+ghost use Rattle.arc_owners.specs.count.Calls.{Leaves, IsReady, Joins, Promotes};
 ghost use Rattle.arc_owners.specs.count.Releases.{is_last, IfLast};
 
 use super::bank::Bank;
+use super::loose::{lay, tested};
 use super::owners::{LoneOwners, Prepared};
 use crate::count::cell::Cell;
 use crate::count::lone::LoneCount;
 use crate::count::tokens::{LifetimeEnd, Pass, Release, Share, Sole};
-use crate::error::CountFull;
+use crate::count::word::OwnerToken;
+use crate::error::{AllocError, CountFull};
 use crate::mark::Mark;
-use std::alloc::Allocator;
+use crate::memory::box_parts::BoxParts;
+use crate::memory::box_place::BoxPlace;
+use std::alloc::{Allocator, Global};
 use std::marker::PhantomData;
 use std::sync::Wait;
 
@@ -171,6 +175,71 @@ impl<const MAX: u64, A: Allocator, H: Mark> LoneOwners<MAX, A, H> {
         let (at, pending) = cell.close();
         if let Some(place) = pending.take(at, &bank) {
             drop(place.with(alloc).into_box());
+        }
+    }
+
+    /// Makes the prepared count the word's, where the word is lone: its owners are this one and a
+    /// new one. Where the word has a count already, what was prepared comes back. The pass has found
+    /// the word lone before. It takes no memory.
+    ///
+    /// # Errors
+    ///
+    /// Where the word has a count already.
+    ///
+    /// # History
+    ///
+    /// Promote, or Joined where the word had a count.
+    pub fn promote_as(
+        &self,
+        by: &Share<H>,
+        prepared: Prepared<A>,
+        pass: &mut Pass<H>,
+    ) -> Result<Share<H>, Prepared<A>>
+        requires share { IsOwnerOf self.now.count.cell by.now }
+        requires pass { IsPassOf self.now.count.cell pass.old }
+        requires ready { IsReady pass.old }
+        requires prepared { prepared.count.receipts ≡ self.now.bank.receipts }
+        ensures made { IfOk result (λ s.
+            MakesAnother (owner_of by.now) pass.old pass.new (owner_of s)) }
+        ensures promoted { IfOk result (λ s. Promotes (owner_of by.now) pass.old pass.new) }
+        ensures lent { IfOk result (λ s. lease_of s ≡ lease_of by.now) }
+        ensures lost { IfErr result (λ p. (p.count.receipts ≡ prepared.count.receipts)
+            × (p.alloc ≡ prepared.alloc) × Joins (owner_of by.now) pass.old pass.new) }
+    {
+        let Prepared { at, count, alloc } = prepared;
+        let mut count = count;
+        let mut new = OwnerToken::none();
+        let Ok(_) = self
+            .count
+            .cell
+            .promote(&by.right, &mut pass.trace, &mut new, &mut count, at)
+        else {
+            return Err(Prepared { at, count, alloc });
+        };
+        Ok(Share {
+            right: new,
+            mark: PhantomData,
+        })
+    }
+}
+
+impl<const MAX: u64, H: Mark> LoneOwners<MAX, Global, H> {
+    /// A count of two, for a promotion.
+    ///
+    /// # Errors
+    ///
+    /// Where memory is refused.
+    pub fn prepare(&self) -> Result<Prepared<Global>, AllocError>
+        ensures { IfOk result (λ p. (p.count.receipts ≡ self.now.bank.receipts)
+            × (p.alloc ≡ self.now.alloc)) }
+    {
+        match Box::new(self.alloc, 2u64) {
+            Ok(memory) => {
+                let (place, alloc) = BoxPlace::of(BoxParts::of(memory));
+                let (at, count) = lay(tested(place), &self.bank);
+                Ok(Prepared { at, count, alloc })
+            }
+            Err(_) => Err(AllocError),
         }
     }
 }
