@@ -6,6 +6,7 @@ pub mod Blocks
 pub mod Calls
 pub mod CellBorrows
 pub mod CellPartings
+pub mod CellPlaces
 pub mod CellPromotions
 pub mod CellReadings
 pub mod CellWalks

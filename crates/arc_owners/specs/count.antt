@@ -1,4 +1,5 @@
 pub mod Calls
+pub mod CellPlaces
 pub mod Invariant
 pub mod Leads
 pub mod LentNotes

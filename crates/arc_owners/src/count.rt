@@ -2,6 +2,7 @@
 //! of it.
 
 pub(crate) mod cell;
+pub(crate) mod cell_borrow;
 mod counted;
 pub(crate) mod lone;
 pub(crate) mod owner_without_lifetime;

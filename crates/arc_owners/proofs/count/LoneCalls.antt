@@ -17,8 +17,7 @@ use Rattle.arc_owners.specs.declared.history.entry.Entry.{Entry}
 use Rattle.arc_owners.specs.count.Invariant.{BlockId, Line, entries_of, made_by, next_owner, Adds}
 use Rattle.arc_owners.specs.count.Leads.{is_null, target}
 use Rattle.arc_owners.specs.count.Steps.{SamePass, Wrote, Looked, Promoted, IsRightOf, IsOf}
-use Rattle.arc_owners.specs.count.Calls.{Owner, Appends, Asks, Looks, Joins, MakesAnother}
-use Rattle.arc_owners.specs.count.Calls.{Promotes}
+use Rattle.arc_owners.specs.count.Calls.{Owner, Appends, Asks, Looks, Joins, MakesAnother, Promotes}
 use Rattle.arc_owners.proofs.history.LoneWords.{lone-one}
 use Rattle.arc_owners.proofs.count.Calls.{appends, others, none_own}
 use Rattle.arc_owners.proofs.count.Walks.{a_pass}
@@ -69,11 +68,12 @@ module _ {H : Type 0} (by : OwnerToken H) (p r : Pass H) where
 
   -- the exchange won, which is a Promote
   pub promoted_of : (new : OwnerToken H) → SamePass by.block p.trace r.trace
-      → Promoted by p.trace r.trace new → Promotes o p r
+      → Promoted by p.trace r.trace new → Promotes o p r new.owner
   promoted_of new same so = record {
     before = so.before;
-    other = next_owner so.before;
-    added = appends by.block p r (λ h. Promote by.owner (next_owner h)) so.before same so.added;
+    added = subst (λ (n : ℕ). Appends by.block p r so.before (Promote by.owner n ∷ []))
+        (sym so.owner)
+        (appends by.block p r (λ h. Promote by.owner (next_owner h)) so.before same so.added);
   }
 
   -- and makes another owner

@@ -141,10 +141,9 @@ module _ {H : Type 0} where
     pub before : List Line
     pub added : Appends o.block old new before (Joined o.number ∷ [])
 
-  -- the exchange that promotes a lone word won
-  pub record Promotes (o : Owner) (old new : Pass H) : Type 0 where
+  -- the exchange that promotes a lone word won, and made the owner of this number
+  pub record Promotes (o : Owner) (old new : Pass H) (other : ℕ) : Type 0 where
     pub before : List Line
-    pub other : ℕ
     pub added : Appends o.block old new before (Promote o.number other ∷ [])
 
   -- No entry was added; or the exchange that promotes a lone word lost, where the pass didn't know

@@ -6,7 +6,8 @@ ghost use Rattle.arc_owners.specs.count.Invariant.{BlockId, block_id_coded, poin
 ghost use Rattle.arc_owners.specs.count.Invariant.{cell_shares};
 ghost use Rattle.arc_owners.specs.count.Leads.{target, known_at};
 
-use super::word::{EndTokens, OwnerToken, PassState, Word};
+use super::cell_borrow::CellBorrow;
+use super::word::{EndTokens, OwnerToken, PassState, Word, WordBorrow};
 use crate::lone::bank::Bank;
 use crate::lone::loose::PendingCount;
 use std::alloc::Allocator;
@@ -186,6 +187,23 @@ impl Lead {
             return None;
         }
         Some(unsafe { &*(at as *const Word) })
+    }
+
+    /// That the count lies where the load found it for as long as the block is lent, by the place
+    /// of the cell: `None` where the word was lone.
+    pub(crate) fn lodging(self, cell: &CellBorrow) -> Option<WordBorrow>
+        requires { (self.block ≡ cell.now.block) × Testable self.at }
+        ensures { MatchOption result (is_null self.at ≡ true)
+            (λ word. (is_null self.at ≡ false) × (word.block ≡ cell.now.block)
+            × (word.at ≡ self.at) × (word.lifetime ≡ cell.now.lifetime)) }
+    {
+        let Self { at } = self;
+        if at.is_null() {
+            return None;
+        }
+        Some(WordBorrow {
+            marker: PhantomData,
+        })
     }
 }
 

@@ -201,10 +201,12 @@ impl<const MAX: u64, A: Allocator, H: Mark> LoneOwners<MAX, A, H> {
         requires prepared { prepared.count.receipts ≡ self.now.bank.receipts }
         ensures made { IfOk result (λ s.
             MakesAnother (owner_of by.now) pass.old pass.new (owner_of s)) }
-        ensures promoted { IfOk result (λ s. Promotes (owner_of by.now) pass.old pass.new) }
+        ensures promoted { IfOk result (λ s.
+            Promotes (owner_of by.now) pass.old pass.new (owner_of s).number) }
         ensures lent { IfOk result (λ s. lease_of s ≡ lease_of by.now) }
-        ensures lost { IfErr result (λ p. (p.count.receipts ≡ prepared.count.receipts)
-            × (p.alloc ≡ prepared.alloc) × Joins (owner_of by.now) pass.old pass.new) }
+        ensures lost { IfErr result (λ _. Joins (owner_of by.now) pass.old pass.new) }
+        ensures back { IfErr result (λ p. (p.at ≡ prepared.at) × (p.count ≡ prepared.count)
+            × (p.alloc ≡ prepared.alloc)) }
     {
         let Prepared { at, count, alloc } = prepared;
         let mut count = count;
