@@ -7,6 +7,7 @@ pub mod Inheritances
 pub mod HeaderRooms
 pub mod Inners
 pub mod LentSlices
+pub mod LoneInners
 pub mod OwnerShares
 pub mod References
 pub mod ShownSlices

@@ -1,4 +1,5 @@
 pub mod Calls
+pub mod CellLodgings
 pub mod CellPlaces
 pub mod Invariant
 pub mod Leads

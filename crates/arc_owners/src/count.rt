@@ -5,6 +5,7 @@ pub(crate) mod cell;
 pub(crate) mod cell_borrow;
 mod counted;
 pub(crate) mod lone;
+mod lone_raw;
 pub(crate) mod owner_without_lifetime;
 mod passes;
 mod raw;

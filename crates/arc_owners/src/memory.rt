@@ -11,6 +11,7 @@ mod inner;
 mod laid_box;
 mod lent_box;
 mod lent_value;
+pub(crate) mod lone_inner;
 mod shared_borrow;
 mod shown;
 mod shows;

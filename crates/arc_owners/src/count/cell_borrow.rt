@@ -63,6 +63,7 @@ impl Cell {
     ghost use denote.RawPtr.{Testable};
     ghost use Rattle.arc_owners.specs.count.Leads.{is_null};
     ghost use Rattle.arc_owners.specs.count.Steps.{IsHeld, IsOf, Looked, Claimed};
+    ghost use Rattle.arc_owners.specs.count.CellLodgings.{IsCellLodged};
 
     /// As `claim`, by the address of a cell that lies there for as long as the block is lent. It
     /// may be gone after the step.
@@ -74,7 +75,7 @@ impl Cell {
         last: &mut EndTokens,
     ) -> Lead
         requires { IsHeld lodging.now.block own.old × IsOf lodging.now.block pass.old
-            × (lodging.now.at ≡ place) × (lodging.now.lifetime ≡ own.old.lease.lifetime) }
+            × IsCellLodged lodging.now place own.old.lease }
         ensures { (is_null result.at ≡ true → Looked own.old pass.old pass.new true)
             × (is_null result.at ≡ false → pass.new ≡ pass.old)
             × Claimed lodging.now.block own.old own.new (is_null result.at)

@@ -33,6 +33,7 @@ use Rattle.std.proofs.raw_atomic.PtrCalls.{loads, picked, seq_cst_good}
 use Rattle.core.proofs.raw_atomic.ptr.load.Symbol as load_is
 use Rattle.std.proofs.raw_atomic.Walks.{proved}
 use Rattle.logbook.proofs.Fields.{ends}
+use Rattle.arc_owners.specs.count.CellLodgings.{IsCellLodged}
 use Rattle.arc_owners.specs.count.CellPlaces.{cell_borrow}
 use Rattle.arc_owners.specs.count.Invariant.{BlockId, Line, Lease, claim_gain, right, stake}
 use Rattle.arc_owners.specs.count.Invariant.{trace_owns}
@@ -137,8 +138,7 @@ claim_raw_spec 𝓤 𝓛 𝓜 𝓡 wired T L =
     let toks : Fml = fsep (flft κs.0 qs.0) (fsep (flft κs.1.0 qs.1.0)
     (fsep (flft κs.1.1.0 qs.1.1.0) (fsep (flft κs.1.1.1.0 qs.1.1.1.0)
     (fsep (flft κs.1.1.1.1.0 qs.1.1.1.1.0) ftrue)))) in
-    let Asked : Type 0 = IsHeld t own × IsOf t p × (g.at ≡ place)
-    × (g.lifetime ≡ own.lease.lifetime) in
+    let Asked : Type 0 = IsHeld t own × IsOf t p × IsCellLodged g place own.lease in
     via 𝓤 (𝓛.H.⇛ (Ends_at 𝓛 𝓜 𝓡 Ptr ptr_val k ws wrap P))
     (qed 𝓛 ((‵ toks ⊛ ‵ (owns (types_at At.signature.params κs) a y.0.4))
     ∷ raw ((c κs a).requires gh) ∷ []) ∵ updating ! $ move ! (1 ∷ []) $
@@ -153,7 +153,7 @@ claim_raw_spec 𝓤 𝓛 𝓜 𝓡 wired T L =
     brings 𝓛 R (claiming 𝓛 R) t own p ! tt b₁ o₁ b₂ o₂ asked.0 asked.1 $ move ! (13 ∷ []) $
     cell_place_shown ! b o g $
     rewrite ! 0 (λ (k : Ptr × ℕ). ‵ (cell_borrow t k.0 k.1))
-    (λ i. (asked.2 i, asked.3 i)) refl $
+    (λ i. (asked.2.0 i, asked.2.1 i)) refl $
     move ! (0 ∷ 1 ∷ 2 ∷ 3 ∷ []) $ group ! 4 $
     use1 𝓛 (raw (Answers 𝓛 𝓜 𝓡 Ptr ptr_val k ws out))
     (via 𝓤 _ (claims_place 𝓛 t p.number p.ready p.lines own.owner own.lease asked.0.2 place)

@@ -126,4 +126,4 @@ lodging_spec 𝓤 𝓛 𝓜 𝓡 wired =
     nothing ! $ nothing ! $ fjoin ! $ nothing ! $ fjoin ! $
     returns ! (look_at ! 0 refl) $ free_all ! refl $ keep ! (2 ∷ 0 ∷ 1 ∷ []) $
     by ! (ends 𝓛 En hs c y (live 1 (of_list (token ∷ []))) (Some now)
-    (tt, (tt, tt)) (tt, (tt, tt)) (fact_i 𝓤 _ (emp 𝓤) (ap is_null e, refl, sym e, refl)))))))))))))
+    (tt, (tt, tt)) (tt, (tt, tt)) (fact_i 𝓤 _ (emp 𝓤) (ap is_null e, refl, sym e, refl))))))))))))
