@@ -19,6 +19,14 @@ use crate::leave::RaiseLeave;
 use crate::mark::Mark;
 use std::marker::PhantomData;
 
+/// The place of a count, as the steps by a place take it.
+#[inline(always)]
+fn count_place(at: *mut u64) -> *const u64
+    ensures { result ≡ at }
+{
+    at as *const u64
+}
+
 impl<const MAX: u64, H: Mark> LoneCount<MAX, H> {
     /// Whether the word is lone, as `load_as` answers, by the cell's address. It takes no memory.
     ///
@@ -150,13 +158,13 @@ impl<const MAX: u64, H: Mark> LoneCount<MAX, H> {
         let lead = unsafe {
             Cell::claim_raw(place, lodging, &mut right, &mut pass.trace, &mut last)
         };
-        let at = lead.at;
+        let place = count_place(lead.at);
         let Some(word) = lead.lodging(lodging) else {
             right.finish(&mut pass.trace);
             return Release::Last(LifetimeEnd { spoils: last });
         };
         let found = unsafe {
-            Word::subtract_raw(at as *const u64, &word, &mut right, &mut pass.trace, &mut last)
+            Word::subtract_raw(place, &word, &mut right, &mut pass.trace, &mut last)
         };
         released(found, last)
     }
@@ -195,7 +203,7 @@ impl<const MAX: u64, H: Mark> LoneCount<MAX, H> {
         let lead = unsafe {
             Cell::claim_raw(place, lodging, &mut right, &mut pass.trace, &mut last)
         };
-        let at = lead.at;
+        let place = count_place(lead.at);
         let Some(word) = lead.lodging(lodging) else {
             return Ok((
                 Sole {
@@ -206,7 +214,7 @@ impl<const MAX: u64, H: Mark> LoneCount<MAX, H> {
             ));
         };
         let found = unsafe {
-            Word::claim_raw(at as *const u64, &word, &mut right, &mut pass.trace, &mut last)
+            Word::claim_raw(place, &word, &mut right, &mut pass.trace, &mut last)
         };
         claimed(found, right, last)
     }
