@@ -46,10 +46,11 @@ impl Model for Lead {
 }
 
 impl Cell {
-    ghost use Rattle.std.specs.Prelude.{◌≤◌, not, IfOk, IfErr};
+    ghost use Rattle.std.specs.Prelude.{◌≤◌, not, IfOk, IfErr, []};
     ghost use denote.RawPtr.{Testable};
     ghost use Rattle.arc_owners.specs.declared.history.entry.Entry.TheVariants.{Joined};
-    ghost use Rattle.arc_owners.specs.history.Histories.{Lone};
+    ghost use Rattle.arc_owners.specs.history.Histories.{Lone, live_owners, is_counted};
+    ghost use Rattle.arc_owners.specs.count.Invariant.{entries_of};
     ghost use Rattle.arc_owners.specs.count.Leads.{is_null};
     ghost use Rattle.arc_owners.specs.count.Steps.{IsHeld, IsOf, IsRightOf, IsOpened, Looked};
     ghost use Rattle.arc_owners.specs.count.Steps.{Claimed, SamePass, Wrote, Promoted};
@@ -119,13 +120,17 @@ impl Cell {
         Lead { at }
     }
 
-    /// The cell is gone: where it led, and the count there, if the word had one.
-    pub(crate) fn close(self) -> (*mut u64, PendingCount)
+    /// The cell is gone: where it led, and the count there, if the word had one. No owner lives
+    /// after what the pass has seen, and so it tells whether there is a count.
+    pub(crate) fn close(self, pass: &PassState) -> (*mut u64, PendingCount)
+        requires { IsOf self pass.now × (live_owners (entries_of pass.now.lines) ≡ []) }
         ensures { (result.1.held ≡ not (is_null result.0))
             × (result.1.receipts ≡ self.receipts) × (result.1.at ≡ result.0)
-            × Testable result.0 }
+            × Testable result.0
+            × (result.1.held ≡ is_counted self.began (entries_of pass.now.lines)) }
     {
         let Self { at } = self;
+        let _ = pass;
         (
             at,
             PendingCount {
@@ -189,21 +194,24 @@ impl Lead {
         Some(unsafe { &*(at as *const Word) })
     }
 
-    /// That the count lies where the load found it for as long as the block is lent, by the place
+    /// Where the count lies, and that it lies there for as long as the block is lent, by the place
     /// of the cell: `None` where the word was lone.
-    pub(crate) fn lodging(self, cell: &CellBorrow) -> Option<WordBorrow>
+    pub(crate) fn lodging(self, cell: &CellBorrow) -> Option<(*const u64, WordBorrow)>
         requires { (self.block ≡ cell.now.block) × Testable self.at }
         ensures { MatchOption result (is_null self.at ≡ true)
-            (λ word. (is_null self.at ≡ false) × (word.block ≡ cell.now.block)
-            × (word.at ≡ self.at) × (word.lifetime ≡ cell.now.lifetime)) }
+            (λ r. (is_null self.at ≡ false) × (r.1.block ≡ cell.now.block) × (r.1.at ≡ r.0)
+            × (r.1.lifetime ≡ cell.now.lifetime)) }
     {
         let Self { at } = self;
         if at.is_null() {
             return None;
         }
-        Some(WordBorrow {
-            marker: PhantomData,
-        })
+        Some((
+            at as *const u64,
+            WordBorrow {
+                marker: PhantomData,
+            },
+        ))
     }
 }
 

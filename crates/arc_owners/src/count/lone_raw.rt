@@ -19,14 +19,6 @@ use crate::leave::RaiseLeave;
 use crate::mark::Mark;
 use std::marker::PhantomData;
 
-/// The place of a count, as the steps by a place take it.
-#[inline(always)]
-fn count_place(at: *mut u64) -> *const u64
-    ensures { result ≡ at }
-{
-    at as *const u64
-}
-
 impl<const MAX: u64, H: Mark> LoneCount<MAX, H> {
     /// Whether the word is lone, as `load_as` answers, by the cell's address. It takes no memory.
     ///
@@ -158,8 +150,7 @@ impl<const MAX: u64, H: Mark> LoneCount<MAX, H> {
         let lead = unsafe {
             Cell::claim_raw(place, lodging, &mut right, &mut pass.trace, &mut last)
         };
-        let place = count_place(lead.at);
-        let Some(word) = lead.lodging(lodging) else {
+        let Some((place, word)) = lead.lodging(lodging) else {
             right.finish(&mut pass.trace);
             return Release::Last(LifetimeEnd { spoils: last });
         };
@@ -203,8 +194,7 @@ impl<const MAX: u64, H: Mark> LoneCount<MAX, H> {
         let lead = unsafe {
             Cell::claim_raw(place, lodging, &mut right, &mut pass.trace, &mut last)
         };
-        let place = count_place(lead.at);
-        let Some(word) = lead.lodging(lodging) else {
+        let Some((place, word)) = lead.lodging(lodging) else {
             return Ok((
                 Sole {
                     right,

@@ -31,6 +31,16 @@ impl<A: Allocator> Bank<A> {
             marker: PhantomData,
         }
     }
+
+    /// A copy of it, for the same bank.
+    pub(crate) fn again(&self) -> Bank<A>
+        ensures { (result.alloc ≡ self.now.alloc) × (result.number ≡ self.now.number)
+            × (result.receipts ≡ self.now.receipts) }
+    {
+        Bank {
+            marker: PhantomData,
+        }
+    }
 }
 
 impl<A: Allocator> Drop for Bank<A> {

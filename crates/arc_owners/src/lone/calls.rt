@@ -1,19 +1,23 @@
 //! The calls on the count of a block that begins without one.
-ghost use Rattle.std.specs.Prelude.{◌≡◌, ◌≤◌, IfOk, IfErr, is_ok};
-ghost use Rattle.arc_owners.specs.history.Histories.{Lone};
+ghost use Rattle.std.specs.Prelude.{◌≡◌, ◌≤◌, IfOk, IfErr, is_ok, is_some, []};
+ghost use Rattle.arc_owners.specs.history.Histories.{Lone, live_owners, is_counted};
 ghost use Rattle.arc_owners.specs.count.Calls.{owner_of, sole_owner, lease_of, seen, IsFirst};
 ghost use Rattle.arc_owners.specs.count.Calls.{IsOwnerOf, IsPassOf, IsFreshPass, IsTermOf};
 ghost use Rattle.arc_owners.specs.count.Calls.{HasCountIn, Looks, Asks, MakesAnother, FindsFull};
 ghost use Rattle.arc_owners.specs.count.Calls.{Leaves, IsReady, Joins, Promotes};
+ghost use Rattle.arc_owners.specs.count.CellLodgings.{IsCellLodged};
+ghost use Rattle.arc_owners.specs.count.Invariant.{entries_of};
 ghost use Rattle.arc_owners.specs.count.Releases.{is_last, IfLast};
+ghost use Rattle.arc_owners.specs.count.Steps.{IsOf};
 
 use super::bank::Bank;
 use super::loose::{lay, tested};
 use super::owners::{LoneOwners, Prepared};
 use crate::count::cell::Cell;
+use crate::count::cell_borrow::CellBorrow;
 use crate::count::lone::LoneCount;
 use crate::count::tokens::{LifetimeEnd, Pass, Release, Share, Sole};
-use crate::count::word::OwnerToken;
+use crate::count::word::{OwnerToken, PassState};
 use crate::error::{AllocError, CountFull};
 use crate::mark::Mark;
 use crate::memory::box_parts::BoxParts;
@@ -157,27 +161,6 @@ impl<const MAX: u64, A: Allocator, H: Mark> LoneOwners<MAX, A, H> {
         self.count.claim_as(share, pass)
     }
 
-    /// Frees the memory of a count that was prepared and isn't used.
-    pub fn discard(&self, prepared: Prepared<A>)
-        requires { (prepared.count.receipts ≡ self.now.bank.receipts)
-            × (prepared.alloc ≡ self.now.alloc) }
-    {
-        let Prepared { at, count, alloc } = prepared;
-        if let Some(place) = count.take(at, &self.bank) {
-            drop(place.with(alloc).into_box());
-        }
-    }
-
-    /// Frees the memory of the count, if the word has one.
-    pub fn free(self) {
-        let LoneOwners { count, bank, alloc } = self;
-        let LoneCount { cell, mark: _ } = count;
-        let (at, pending) = cell.close();
-        if let Some(place) = pending.take(at, &bank) {
-            drop(place.with(alloc).into_box());
-        }
-    }
-
     /// Makes the prepared count the word's, where the word is lone: its owners are this one and a
     /// new one. Where the word has a count already, what was prepared comes back. The pass has found
     /// the word lone before. It takes no memory.
@@ -208,20 +191,151 @@ impl<const MAX: u64, A: Allocator, H: Mark> LoneOwners<MAX, A, H> {
         ensures back { IfErr result (λ p. (p.at ≡ prepared.at) × (p.count ≡ prepared.count)
             × (p.alloc ≡ prepared.alloc)) }
     {
-        let Prepared { at, count, alloc } = prepared;
-        let mut count = count;
-        let mut new = OwnerToken::none();
-        let Ok(_) = self
-            .count
-            .cell
-            .promote(&by.right, &mut pass.trace, &mut new, &mut count, at)
-        else {
-            return Err(Prepared { at, count, alloc });
-        };
-        Ok(Share {
-            right: new,
-            mark: PhantomData,
-        })
+        promote(&self.count.cell, by, prepared, pass)
+    }
+
+    /// As `promote_as`, by the cell's address.
+    ///
+    /// # Errors
+    ///
+    /// Where the word has a count already.
+    ///
+    /// # History
+    ///
+    /// Promote, or Joined where the word had a count.
+    ///
+    /// # Safety
+    ///
+    /// The cell lies at this place for as long as the block is lent: the borrow says so.
+    #[inline(always)]
+    pub(crate) unsafe fn promote_raw(
+        place: *const *mut u64,
+        lodging: &CellBorrow,
+        by: &Share<H>,
+        prepared: Prepared<A>,
+        pass: &mut Pass<H>,
+    ) -> Result<Share<H>, Prepared<A>>
+        requires share { IsOwnerOf lodging.now.block by.now }
+        requires pass { IsPassOf lodging.now.block pass.old }
+        requires place { IsCellLodged lodging.now place (lease_of by.now) }
+        requires lone { lodging.now.block.began ≡ Lone }
+        requires ready { IsReady pass.old }
+        requires prepared { prepared.count.receipts ≡ lodging.now.block.receipts }
+        ensures made { IfOk result (λ s.
+            MakesAnother (owner_of by.now) pass.old pass.new (owner_of s)) }
+        ensures promoted { IfOk result (λ s.
+            Promotes (owner_of by.now) pass.old pass.new (owner_of s).number) }
+        ensures lent { IfOk result (λ s. lease_of s ≡ lease_of by.now) }
+        ensures lost { IfErr result (λ _. Joins (owner_of by.now) pass.old pass.new) }
+        ensures back { IfErr result (λ p. (p.at ≡ prepared.at) × (p.count ≡ prepared.count)
+            × (p.alloc ≡ prepared.alloc)) }
+    {
+        let cell = unsafe { lodging.cell(place, &by.right) };
+        promote(cell, by, prepared, pass)
+    }
+
+    /// Frees the memory of a count that was prepared and isn't used.
+    pub fn discard(&self, prepared: Prepared<A>)
+        requires { (prepared.count.receipts ≡ self.now.bank.receipts)
+            × (prepared.alloc ≡ self.now.alloc) }
+    {
+        prepared.discard(&self.bank);
+    }
+
+    /// The memory of the count, once no owner lives: `None` where the word stayed lone. A box that
+    /// is dropped is freed.
+    pub fn into_count(self, pass: &Pass<H>) -> Option<Box<u64, A>>
+        requires pass { IsPassOf self.count.cell pass.now }
+        requires over { live_owners (seen pass.now) ≡ [] }
+        ensures { is_some result ≡ is_counted self.count.cell.began (seen pass.now) }
+    {
+        let LoneOwners { count, bank, alloc } = self;
+        let LoneCount { cell, mark: _ } = count;
+        count_of(cell, &bank, alloc, &pass.trace)
+    }
+}
+
+/// Puts a prepared count in place, where the word is lone. Else it comes back.
+fn promote<A: Allocator, H: Mark>(
+    cell: &Cell,
+    by: &Share<H>,
+    prepared: Prepared<A>,
+    pass: &mut Pass<H>,
+) -> Result<Share<H>, Prepared<A>>
+    requires share { IsOwnerOf cell.now by.now }
+    requires pass { IsPassOf cell.now pass.old }
+    requires lone { cell.now.began ≡ Lone }
+    requires ready { IsReady pass.old }
+    requires prepared { prepared.count.receipts ≡ cell.now.receipts }
+    ensures made { IfOk result (λ s.
+        MakesAnother (owner_of by.now) pass.old pass.new (owner_of s)) }
+    ensures promoted { IfOk result (λ s.
+        Promotes (owner_of by.now) pass.old pass.new (owner_of s).number) }
+    ensures lent { IfOk result (λ s. lease_of s ≡ lease_of by.now) }
+    ensures lost { IfErr result (λ _. Joins (owner_of by.now) pass.old pass.new) }
+    ensures back { IfErr result (λ p. (p.at ≡ prepared.at) × (p.count ≡ prepared.count)
+        × (p.alloc ≡ prepared.alloc)) }
+{
+    let Prepared { at, count, alloc } = prepared;
+    let mut count = count;
+    let mut new = OwnerToken::none();
+    let Ok(_) = cell.promote(&by.right, &mut pass.trace, &mut new, &mut count, at) else {
+        return Err(Prepared { at, count, alloc });
+    };
+    Ok(Share {
+        right: new,
+        mark: PhantomData,
+    })
+}
+
+/// The memory of the count to which a cell leads that is gone, once no owner lives.
+pub(crate) fn count_of<A: Allocator>(
+    cell: Cell,
+    bank: &Bank<A>,
+    alloc: A,
+    pass: &PassState,
+) -> Option<Box<u64, A>>
+    requires pass { IsOf cell pass.now × (live_owners (entries_of pass.now.lines) ≡ []) }
+    requires bank { (cell.receipts ≡ bank.now.receipts) × (alloc ≡ bank.now.alloc) }
+    ensures { is_some result ≡ is_counted cell.began (entries_of pass.now.lines) }
+{
+    let (at, pending) = cell.close(pass);
+    match pending.take(at, bank) {
+        Some(place) => Some(place.with(alloc).into_box()),
+        None => None,
+    }
+}
+
+impl<A: Allocator> Prepared<A> {
+    /// Frees the memory of a count that isn't used.
+    pub(crate) fn discard(self, bank: &Bank<A>)
+        requires { (self.count.receipts ≡ bank.now.receipts) × (self.alloc ≡ bank.now.alloc) }
+    {
+        let Prepared { at, count, alloc } = self;
+        if let Some(place) = count.take(at, bank) {
+            drop(place.with(alloc).into_box());
+        }
+    }
+}
+
+impl Prepared<Global> {
+    /// A count of two, for a promotion in a block of this bank.
+    ///
+    /// # Errors
+    ///
+    /// Where memory is refused.
+    pub(crate) fn new(alloc: Global, bank: &Bank<Global>) -> Result<Prepared<Global>, AllocError>
+        requires { bank.now.alloc ≡ alloc }
+        ensures { IfOk result (λ p. (p.count.receipts ≡ bank.now.receipts) × (p.alloc ≡ alloc)) }
+    {
+        match Box::new(alloc, 2u64) {
+            Ok(memory) => {
+                let (place, alloc) = BoxPlace::of(BoxParts::of(memory));
+                let (at, count) = lay(tested(place), bank);
+                Ok(Prepared { at, count, alloc })
+            }
+            Err(_) => Err(AllocError),
+        }
     }
 }
 
@@ -235,13 +349,6 @@ impl<const MAX: u64, H: Mark> LoneOwners<MAX, Global, H> {
         ensures { IfOk result (λ p. (p.count.receipts ≡ self.now.bank.receipts)
             × (p.alloc ≡ self.now.alloc)) }
     {
-        match Box::new(self.alloc, 2u64) {
-            Ok(memory) => {
-                let (place, alloc) = BoxPlace::of(BoxParts::of(memory));
-                let (at, count) = lay(tested(place), &self.bank);
-                Ok(Prepared { at, count, alloc })
-            }
-            Err(_) => Err(AllocError),
-        }
+        Prepared::new(self.alloc, &self.bank)
     }
 }

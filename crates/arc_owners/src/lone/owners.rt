@@ -12,7 +12,7 @@ use std::alloc::Allocator;
 
 /// The count of the owners of a block that begins without a count, on which threads make steps by
 /// reference. A second owner is made by a promotion, for which the count gets memory of its own.
-/// `MAX` is the greatest count. The memory comes back by `free`; dropped, it is never freed.
+/// `MAX` is the greatest count. The memory comes back by `into_count`; dropped, it is never freed.
 #[derive(Drop)]
 pub struct LoneOwners<const MAX: u64, A: Allocator, H: Mark = Open> {
     pub(crate) count: LoneCount<MAX, H>,

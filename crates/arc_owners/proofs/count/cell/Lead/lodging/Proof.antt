@@ -6,7 +6,7 @@ use mir.Val.{Val, vnull, vptr, of_list}
 use base.Logic.{SProp, emp, never, id⊢}
 use base.Fml.{Fml, Lft, ftrue, fsep, flft}
 use types.Kit.{‵, raw, ◌⊛◌, at_ret, ◌$◌, ◌∵◌, !, qed, by, move, keep, drop, split, fsplit, fjoin}
-use types.Kit.{fpick, fpack, rewrite, use0, use1}
+use types.Kit.{fpick, fpack, rewrite, use0, use1, feq_i}
 use types.Run.{stop, fld, of_opd, bin, lit, no_more, and_then, first, branches, skips, exec}
 use types.Run.{returns, returns_within}
 use types.ByLocal.{alloc_all, pass_all, free_all, look_at, get, get_in, sets, env}
@@ -18,8 +18,11 @@ use denote.Exit.{yes}
 use denote.RattleType.{RattleType, owns}
 use denote.Signature.{types_at, plain}
 use denote.Builtin.{RefOf, unit}
-use denote.RawPtr.{Ptr, block_ptr, null_ptr, ptr_val, in_a_block, Testable, tests_null}
+use denote.Param.{layout}
+use denote.RawPtr.{Ptr, RawPtr, block_ptr, null_ptr, ptr_val, in_a_block, Testable, tests_null}
 use denote.Steps.{nothing, heard}
+use denote.Struct.Struct.{as_fields}
+use denote.Struct.Tuple.{Tuple}
 use denote.Triple.Walked.{Stays, stay_dropped, walk_of, Goes-dropped}
 use Rattle.core.specs.declared.option.Option.TheVariants.{None, Some}
 use Rattle.core.specs.contracts.option.Option as OP
@@ -36,7 +39,7 @@ use Rattle.arc_owners.specs.count.Leads.{is_null, target, known_at}
 use Rattle.arc_owners.specs.contracts.count.cell.Lead as Lead
 use Rattle.arc_owners.specs.contracts.count.cell_borrow.CellBorrow as CellBorrow
 use Rattle.arc_owners.specs.contracts.count.word.WordBorrow as WordBorrow
-use Rattle.arc_owners.proofs.memory.Endings.{enters}
+use Rattle.arc_owners.proofs.memory.Endings.{enters, pair_val, paired}
 use Rattle.arc_owners.proofs.count.CellPlaces.{cell_place_shown}
 use Rattle.arc_owners.proofs.count.CellReadings.{wrap, lead_told}
 use Rattle.arc_owners.proofs.count.LooseCounts.{null_or_not}
@@ -66,6 +69,7 @@ lodging_spec 𝓤 𝓛 𝓜 𝓡 wired =
     let t : BlockId = k.block in let α : Lft = k.lifetime ∷ [] in
     let r : Ptr = me.at in let Asked : Type 0 = (me.block ≡ t) × Testable r in
     let Word : RattleType = WordBorrow.the_row in
+    let Two : RattleType = Tuple (RawPtr ∷ Word ∷ []) in
     let Post : Val → SProp 𝓤 = (walk_of 𝓛 En hs c).post y in
     qed 𝓛 ((‵ (fsep (flft κs.0 qs.0) ftrue) ⊛ ‵ (owns (types_at En.signature.params κs) y.0.3
     vss)) ∷ raw (fact 𝓤 Asked) ∷ []) ∵ move ! (1 ∷ []) $ heard ! Asked (λ asked.
@@ -85,7 +89,7 @@ lodging_spec 𝓤 𝓛 𝓜 𝓡 wired =
     (λ _. sets ! (agg ! (and_then ! (lit ! tt) (no_more !))) refl
     (tt, (record { fits = lit< tt }, tt)) $
     returns_within ! Post refl (look_at ! 0 refl) $ free_all ! refl $
-    use0 𝓛 (‵ ((OP.the_row Word).own_val None (live 0 (of_list []) ∷ []))) (none_of 𝓛 Word) $
+    use0 𝓛 (‵ ((OP.the_row Two).own_val None (live 0 (of_list []) ∷ []))) (none_of 𝓛 Two) $
     nothing ! $ nothing ! $ fjoin ! $ nothing ! $ fjoin ! $ keep ! (2 ∷ 0 ∷ 1 ∷ []) $
     by ! (ends 𝓛 En hs c y (live 0 (of_list [])) None (tt, (tt, tt)) (tt, (tt, tt))
     (fact_i 𝓤 _ (emp 𝓤) (ap is_null e))))
@@ -111,19 +115,26 @@ lodging_spec 𝓤 𝓛 𝓜 𝓡 wired =
     alloc_all ! (λ l. pass_all ! refl
     (Good-round [] ty_ptr (vptr pb po) (Ptr-Good (block_ptr pb po)), ((tt, tt), tt)) $
     let Ev = env fn.locals l in
-    tokened ! unit $
-    use1 𝓛 (‵ ((OP.the_row Word).own_val (Some now) (live 1 (of_list (token ∷ [])) ∷ [])))
-    (Some-of 𝓛 Word now token) $
+    let u : Val = pair_val (vptr pb po) token in
+    let made : Two.Denot = (block_ptr pb po, now) in
+    let good = as_fields (ty_ptr ∷ layout Word ∷ []) (vptr pb po ∷ token ∷ [])
+    ((tt, tt), ((tt, (tt, tt)), tt)) in
+    tokened ! unit $ feq_i ! (List Val) (vptr pb po ∷ []) (vptr pb po ∷ []) refl $
+    paired RawPtr Word (block_ptr pb po) now ! (vptr pb po) token $
+    use1 𝓛 (‵ ((OP.the_row Two).own_val (Some made) (live 1 (of_list (u ∷ [])) ∷ [])))
+    (Some-of 𝓛 Two made u) $
     sets ! (of_opd ! (get_in ! (fld ! refl (stop !)) (sub ! 0 refl (whole !)))) refl (tt, tt) $
     sets ! (of_opd ! (get ! refl)) refl (tt, tt) $
     sets ! (bin ! (get ! refl) (lit ! tt) (tests_null (block_ptr pb po) low)) refl (tt, tt) $
     first ! $ branches ! (get ! refl) (λ wrong. absurd wrong)
     (λ _. skips ! $ exec ! 𝓣.C 𝓣.Λ Ev (after 4 fn.body) (at_ret Ev Post) $
+    sets ! (of_opd ! (get ! refl)) refl (tt, tt) $ sets ! (of_opd ! (get ! refl)) refl (tt, tt) $
     sets ! (agg ! (no_more !)) refl (tt, tt) $
     sets ! (agg ! (and_then ! (get ! refl) (no_more !))) refl (tt, (tt, tt)) $
+    sets ! (agg ! (and_then ! (get ! refl) (and_then ! (get ! refl) (no_more !)))) refl good $
     sets ! (agg ! (and_then ! (lit ! tt) (and_then ! (get ! refl) (no_more !)))) refl
-    (tt, (record { fits = lit< tt }, ((tt, tt), tt))) $
+    (tt, (record { fits = lit< tt }, (good.1, tt))) $
     nothing ! $ nothing ! $ fjoin ! $ nothing ! $ fjoin ! $
     returns ! (look_at ! 0 refl) $ free_all ! refl $ keep ! (2 ∷ 0 ∷ 1 ∷ []) $
-    by ! (ends 𝓛 En hs c y (live 1 (of_list (token ∷ []))) (Some now)
-    (tt, (tt, tt)) (tt, (tt, tt)) (fact_i 𝓤 _ (emp 𝓤) (ap is_null e, refl, sym e, refl))))))))))))
+    by ! (ends 𝓛 En hs c y (live 1 (of_list (u ∷ []))) (Some made)
+    (tt, (tt, tt)) (tt, (tt, tt)) (fact_i 𝓤 _ (emp 𝓤) (ap is_null e, refl, refl, refl))))))))))))

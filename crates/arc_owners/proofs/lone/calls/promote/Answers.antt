@@ -3,7 +3,7 @@ use Rattle.arc_owners.specs.declared.history.entry.Entry.TheVariants.{Joined}
 use Rattle.arc_owners.specs.count.Steps.{SamePass, Wrote}
 use Rattle.arc_owners.proofs.count.LoneCalls.{promoted_of, promotes_of, joins_of}
 use Rattle.arc_owners.proofs.count.LoneAnswers.{with_trace}
-use Rattle.arc_owners.proofs.lone.owners.LoneOwners.promote_as.Goals as goal
+use Rattle.arc_owners.proofs.lone.calls.promote.Goals as goal
 
 pub returns-clause-made : goal.returns-clause-made
 returns-clause-made g c = promotes_of c.args.by.now.right c.args.pass.now
