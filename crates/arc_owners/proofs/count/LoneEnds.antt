@@ -1,6 +1,6 @@
 -- What a cell leads to once no owner lives: a count exactly where the history that a pass has seen
 -- tells one, since nothing stands after the end. Assumes `Logic`.
-use Rattle.std.proofs.Common.{◌≡◌, ℕ, List, [], ◌∷◌, ◌++◌, sym, ap, ◌∙◌}
+use Rattle.std.proofs.Common.{◌≡◌, ℕ, true, List, [], ◌∷◌, ◌++◌, sym, ap, ◌∙◌}
 use Rattle.std.proofs.lemmas.List.{append-nil}
 use mathlib.Core.List.{IsPrefix}
 use mathlib.Core.Option.{Option}

@@ -94,4 +94,4 @@ close_spec 𝓤 𝓛 𝓜 𝓡 wired = let Count : RattleType = PendingCount.the
     marked unit ! $ feq_i ! (List Val) (ptr_val p ∷ []) (ptr_val p ∷ []) refl $
     returns ! (look_at ! 0 refl) $ free_all ! refl $ keep ! (0 ∷ 1 ∷ 2 ∷ []) $
     by ! (both_spent 𝓛 En c y RawPtr Count p count (ptr_val p) token (p, count) (tt, (tt, tt)) refl
-    (fact_i 𝓤 _ (emp 𝓤) (there-null x, refl, refl, low, sym told))))))))))))))
+    (fact_i 𝓤 _ (emp 𝓤) (there-null x, refl, refl, low, sym told)))))))))))))
