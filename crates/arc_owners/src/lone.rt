@@ -1,5 +1,6 @@
 //! Blocks whose word has no count when they begin.
 
+pub mod allocator;
 pub(crate) mod bank;
 mod calls;
 pub(crate) mod loose;

@@ -10,8 +10,9 @@ ghost use Rattle.arc_owners.specs.count.Invariant.{entries_of};
 ghost use Rattle.arc_owners.specs.count.Releases.{is_last, IfLast};
 ghost use Rattle.arc_owners.specs.count.Steps.{IsOf};
 
+use super::allocator::LoneAllocator;
 use super::bank::Bank;
-use super::loose::{lay, tested};
+use super::loose::lay;
 use super::owners::{LoneOwners, Prepared};
 use crate::count::cell::Cell;
 use crate::count::cell_borrow::CellBorrow;
@@ -22,7 +23,7 @@ use crate::error::{AllocError, CountFull};
 use crate::mark::Mark;
 use crate::memory::box_parts::BoxParts;
 use crate::memory::box_place::BoxPlace;
-use std::alloc::{Allocator, Global};
+use std::alloc::Allocator;
 use std::marker::PhantomData;
 use std::sync::Wait;
 
@@ -318,20 +319,20 @@ impl<A: Allocator> Prepared<A> {
     }
 }
 
-impl Prepared<Global> {
+impl<A: LoneAllocator> Prepared<A> {
     /// A count of two, for a promotion in a block of this bank.
     ///
     /// # Errors
     ///
     /// Where memory is refused.
-    pub(crate) fn new(alloc: Global, bank: &Bank<Global>) -> Result<Prepared<Global>, AllocError>
+    pub(crate) fn new(alloc: A, bank: &Bank<A>) -> Result<Prepared<A>, AllocError>
         requires { bank.now.alloc ≡ alloc }
         ensures { IfOk result (λ p. (p.count.receipts ≡ bank.now.receipts) × (p.alloc ≡ alloc)) }
     {
         match Box::new(alloc, 2u64) {
             Ok(memory) => {
                 let (place, alloc) = BoxPlace::of(BoxParts::of(memory));
-                let (at, count) = lay(tested(place), bank);
+                let (at, count) = lay(A::tested(place), bank);
                 Ok(Prepared { at, count, alloc })
             }
             Err(_) => Err(AllocError),
@@ -339,13 +340,13 @@ impl Prepared<Global> {
     }
 }
 
-impl<const MAX: u64, H: Mark> LoneOwners<MAX, Global, H> {
+impl<const MAX: u64, A: LoneAllocator + Copy, H: Mark> LoneOwners<MAX, A, H> {
     /// A count of two, for a promotion.
     ///
     /// # Errors
     ///
     /// Where memory is refused.
-    pub fn prepare(&self) -> Result<Prepared<Global>, AllocError>
+    pub fn prepare(&self) -> Result<Prepared<A>, AllocError>
         ensures { IfOk result (λ p. (p.count.receipts ≡ self.now.bank.receipts)
             × (p.alloc ≡ self.now.alloc)) }
     {

@@ -5,7 +5,7 @@ ghost use Rattle.arc_owners.specs.count.Leads.{is_null, pending};
 
 use super::bank::Bank;
 use crate::memory::box_place::BoxPlace;
-use std::alloc::{Allocator, Global};
+use std::alloc::Allocator;
 use std::marker::{Model, PhantomData};
 
 /// That a count lies at a place to which no cell leads, where it is held: before a promotion, or
@@ -62,11 +62,4 @@ impl Drop for PendingCount {
     fn drop(self) {
         let Self { marker: _ } = self;
     }
-}
-
-/// The same, of which it says that its place can be compared with null.
-pub(crate) fn tested(count: BoxPlace<u64, Global>) -> BoxPlace<u64, Global>
-    ensures { (result ≡ count) × Testable result.at }
-{
-    count
 }

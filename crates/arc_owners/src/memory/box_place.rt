@@ -9,7 +9,7 @@ use std::alloc::Allocator;
 use std::marker::{Model, PhantomData};
 
 /// What a box owns, as its pointer: whoever has the allocator besides can have the box again.
-pub(crate) struct BoxPlace<T, A: Allocator> {
+pub struct BoxPlace<T, A: Allocator> {
     pub(crate) at: *mut T,
     pub(crate) marker: PhantomData<A>,
     pub(crate) ghost value: { T },

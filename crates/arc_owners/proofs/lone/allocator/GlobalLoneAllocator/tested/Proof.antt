@@ -27,9 +27,9 @@ use Rattle.std.specs.contracts.impls.GlobalAllocator.TheImpl.{ghosts}
 use Rattle.arc_owners.specs.contracts.memory.box_place.BoxPlace as BoxPlace
 use Rattle.arc_owners.proofs.count.LooseCounts.{place_val}
 use Rattle.arc_owners.proofs.memory.Endings.{spends, enters, spent}
-use Rattle.arc_owners.specs.contracts.lone.loose.tested as f
-use Rattle.arc_owners.proofs.lone.loose.tested.Statement.{statement}
-use Rattle.arc_owners.proofs.lone.loose.tested.Code as code
+use Rattle.arc_owners.specs.contracts.lone.allocator.GlobalLoneAllocator.tested as f
+use Rattle.arc_owners.proofs.lone.allocator.GlobalLoneAllocator.tested.Statement.{statement}
+use Rattle.arc_owners.proofs.lone.allocator.GlobalLoneAllocator.tested.Code as code
 
 abbrev Place : RattleType
 Place = BoxPlace.the_row u64 heap.the_row ghosts
