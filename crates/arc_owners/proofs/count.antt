@@ -16,6 +16,7 @@ pub mod Fields
 pub mod Lodgings
 pub mod LoneAnswers
 pub mod LoneCalls
+pub mod LoneClones
 pub mod LoneEnds
 pub mod LoneMoves
 pub mod LonePartings

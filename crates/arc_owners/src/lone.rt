@@ -3,5 +3,6 @@
 pub mod allocator;
 pub(crate) mod bank;
 mod calls;
+mod clones;
 pub(crate) mod loose;
 pub mod owners;

@@ -68,12 +68,15 @@ module _ {H : Type 0} (by : OwnerToken H) (p r : Pass H) where
 
   -- the exchange won, which is a Promote
   pub promoted_of : (new : OwnerToken H) → SamePass by.block p.trace r.trace
-      → Promoted by p.trace r.trace new → Promotes o p r new.owner
+      → Promoted by p.trace r.trace new
+      → Promotes o p r (record { block = new.block; number = new.owner; born = new.born })
   promoted_of new same so = record {
     before = so.before;
     added = subst (λ (n : ℕ). Appends by.block p r so.before (Promote by.owner n ∷ []))
         (sym so.owner)
         (appends by.block p r (λ h. Promote by.owner (next_owner h)) so.before same so.added);
+    lone = so.added.0.may.2;
+    made = λ i. record { block = so.block i; number = so.owner i; born = so.born i };
   }
 
   -- and makes another owner

@@ -141,10 +141,17 @@ module _ {H : Type 0} where
     pub before : List Line
     pub added : Appends o.block old new before (Joined o.number ∷ [])
 
-  -- the exchange that promotes a lone word won, and made the owner of this number
-  pub record Promotes (o : Owner) (old new : Pass H) (other : ℕ) : Type 0 where
+  -- the exchange that promotes a lone word won: through this owner another one of the same block
+  -- was made
+  pub record Promotes (o : Owner) (old new : Pass H) (other : Owner) : Type 0 where
     pub before : List Line
-    pub added : Appends o.block old new before (Promote o.number other ∷ [])
+    pub added : Appends o.block old new before (Promote o.number other.number ∷ [])
+    pub lone : is_counted o.block.began (entries_of before) ≡ false
+    pub made : other ≡ record {
+      block = o.block;
+      number = length (owners_ever (entries_of before));
+      born = new.trace.lines;
+    }
 
   -- No entry was added; or the exchange that promotes a lone word lost, where the pass didn't know
   -- that the word has a count.

@@ -1,18 +1,19 @@
 //! The count of a block that begins without one, and the calls on it. The memory of the count that
 //! a promotion puts in place is its caller's.
-ghost use Rattle.std.specs.Prelude.{◌≡◌, ◌≢◌, true, false, IfOk, IfErr, is_ok};
+ghost use Rattle.std.specs.Prelude.{◌≡◌, ◌≢◌, true, false, IfOk, IfErr, IfSome, IfNone, is_ok};
 ghost use Rattle.arc_owners.specs.history.Histories.{Lone};
 ghost use Rattle.arc_owners.specs.count.Calls.{owner_of, sole_owner, lease_of, seen, history_of};
 ghost use Rattle.arc_owners.specs.count.Calls.{IsOwnerOf, IsPassOf, IsTermOf, HasCountIn, Looks};
-ghost use Rattle.arc_owners.specs.count.Calls.{Asks, MakesAnother, FindsFull, Leaves, Joins, IsReady};
+ghost use Rattle.arc_owners.specs.count.Calls.{Asks, MakesAnother, FindsFull, Leaves, RefusesOwner};
 ghost use Rattle.arc_owners.specs.count.Releases.{is_last, IfLast};
 
 use super::cell::Cell;
-use super::counted::{released, up};
+use super::counted::{released, try_up, up};
 use super::sole::claimed;
 use super::tokens::{LifetimeEnd, Pass, Release, Share, Sole};
-use super::word::EndTokens;
-use crate::error::CountFull;
+use super::word::{EndTokens, Word};
+use crate::error::{CountFull, OwnerError};
+use crate::leave::RaiseLeave;
 use crate::mark::{Mark, Open};
 use std::marker::PhantomData;
 use std::sync::Wait;
@@ -26,6 +27,32 @@ pub struct LoneCount<const MAX: u64, H: Mark = Open> {
     ghost greatest: { cell.most ≡ MAX },
     ghost marked: { cell.whole ≡ H.whole },
     ghost lone: { cell.began ≡ Lone },
+}
+
+/// One attempt to raise a count, with the errors of all owners: `None` where another thread's step
+/// came between.
+#[inline(always)]
+pub(crate) fn raise<H: Mark>(
+    word: &Word,
+    leave: RaiseLeave,
+    most: u64,
+    by: &Share<H>,
+    pass: &mut Pass<H>,
+) -> Option<Result<Share<H>, OwnerError>>
+    requires most { word.now.most ≡ most }
+    requires share { IsOwnerOf word.now by.now }
+    requires pass { IsPassOf word.now pass.old }
+    ensures made { IfSome result (λ r.
+        IfOk r (λ s. MakesAnother (owner_of by.now) pass.old pass.new (owner_of s))) }
+    ensures lent { IfSome result (λ r. IfOk r (λ s. lease_of s ≡ lease_of by.now)) }
+    ensures refused { IfSome result (λ r.
+        IfErr r (λ e. RefusesOwner true (owner_of by.now) pass.old pass.new e)) }
+    ensures again { IfNone result (pass.new ≡ pass.old) }
+{
+    match try_up(word, leave, most, by, pass)? {
+        Ok(share) => Some(Ok(share)),
+        Err(CountFull) => Some(Err(OwnerError::CountFull)),
+    }
 }
 
 impl<const MAX: u64, H: Mark> LoneCount<MAX, H> {

@@ -186,7 +186,7 @@ impl<const MAX: u64, A: Allocator, H: Mark> LoneOwners<MAX, A, H> {
         ensures made { IfOk result (λ s.
             MakesAnother (owner_of by.now) pass.old pass.new (owner_of s)) }
         ensures promoted { IfOk result (λ s.
-            Promotes (owner_of by.now) pass.old pass.new (owner_of s).number) }
+            Promotes (owner_of by.now) pass.old pass.new (owner_of s)) }
         ensures lent { IfOk result (λ s. lease_of s ≡ lease_of by.now) }
         ensures lost { IfErr result (λ _. Joins (owner_of by.now) pass.old pass.new) }
         ensures back { IfErr result (λ p. (p.at ≡ prepared.at) × (p.count ≡ prepared.count)
@@ -225,7 +225,7 @@ impl<const MAX: u64, A: Allocator, H: Mark> LoneOwners<MAX, A, H> {
         ensures made { IfOk result (λ s.
             MakesAnother (owner_of by.now) pass.old pass.new (owner_of s)) }
         ensures promoted { IfOk result (λ s.
-            Promotes (owner_of by.now) pass.old pass.new (owner_of s).number) }
+            Promotes (owner_of by.now) pass.old pass.new (owner_of s)) }
         ensures lent { IfOk result (λ s. lease_of s ≡ lease_of by.now) }
         ensures lost { IfErr result (λ _. Joins (owner_of by.now) pass.old pass.new) }
         ensures back { IfErr result (λ p. (p.at ≡ prepared.at) × (p.count ≡ prepared.count)
@@ -257,7 +257,7 @@ impl<const MAX: u64, A: Allocator, H: Mark> LoneOwners<MAX, A, H> {
 }
 
 /// Puts a prepared count in place, where the word is lone. Else it comes back.
-fn promote<A: Allocator, H: Mark>(
+pub(super) fn promote<A: Allocator, H: Mark>(
     cell: &Cell,
     by: &Share<H>,
     prepared: Prepared<A>,
@@ -271,7 +271,7 @@ fn promote<A: Allocator, H: Mark>(
     ensures made { IfOk result (λ s.
         MakesAnother (owner_of by.now) pass.old pass.new (owner_of s)) }
     ensures promoted { IfOk result (λ s.
-        Promotes (owner_of by.now) pass.old pass.new (owner_of s).number) }
+        Promotes (owner_of by.now) pass.old pass.new (owner_of s)) }
     ensures lent { IfOk result (λ s. lease_of s ≡ lease_of by.now) }
     ensures lost { IfErr result (λ _. Joins (owner_of by.now) pass.old pass.new) }
     ensures back { IfErr result (λ p. (p.at ≡ prepared.at) × (p.count ≡ prepared.count)
