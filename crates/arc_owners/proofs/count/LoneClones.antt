@@ -37,8 +37,8 @@ module _ {H : Type 0} (o : Owner) (p m : Pass H) (look : Looks o p m true) where
 
   after_look : (r : Pass H) (before : List Line) (es : List Entry) → Appends t m r before es
       → Appends t p r before es
-  after_look r before es a = let n : ℕ = p.trace.number in let since : List Line = look.added.since in
-      let same = look.added.same in record {
+  after_look r before es a = let n : ℕ = p.trace.number in
+      let since : List Line = look.added.since in let same = look.added.same in record {
         same = (a.same.0, a.same.1 ∙ same.1, λ ready. a.same.2 (same.2 ready));
         since = since ++ a.since;
         after_seen = a.after_seen ∙ (ap (λ (ls : List Line). ls ++ a.since) look.added.after_seen

@@ -1,6 +1,6 @@
--- The memory of a block that began without a count, lent for the lifetime of a lease: its cell, which
--- lies at the beginning, is lodged, and all of the memory is there for the owners to read. Assumes
--- `Logic`.
+-- The memory of a block that began without a count, lent for the lifetime of a lease: its cell,
+-- which lies at the beginning, is lodged, and all of the memory is there for the owners to read.
+-- Assumes `Logic`.
 use Rattle.std.proofs.Common.{ℕ, zero, ◌+◌, List, [], ◌∷◌, subst, sym, refl, add-zero}
 use seplogic.Ra.Ura.{Ura}
 use mir.Syntax.{Ty, ty_struct}

@@ -163,8 +163,8 @@ impl<const MAX: u64, A: Allocator, H: Mark> LoneOwners<MAX, A, H> {
     }
 
     /// Makes the prepared count the word's, where the word is lone: its owners are this one and a
-    /// new one. Where the word has a count already, what was prepared comes back. The pass has found
-    /// the word lone before. It takes no memory.
+    /// new one. Where the word has a count already, what was prepared comes back, as it was. The
+    /// pass has found the word lone before. It takes no memory.
     ///
     /// # Errors
     ///

@@ -22,5 +22,5 @@ returns-in_default-clause-lost g c = joins_of c.args.by.now.right c.args.pass.no
     (with_trace c.args.pass.now c.promote.new.pass)
     (subst (λ b. SamePass b c.args.pass.now.trace c.promote.new.pass) (sym c.requires.share)
     c.in_default.ensures.0)
-    (subst (λ b. Wrote b c.args.pass.now.trace c.promote.new.pass (Joined c.args.by.now.right.owner))
-    (sym c.requires.share) c.in_default.ensures.2.0)
+    (subst (λ b. Wrote b c.args.pass.now.trace c.promote.new.pass
+    (Joined c.args.by.now.right.owner)) (sym c.requires.share) c.in_default.ensures.2.0)

@@ -13,7 +13,8 @@ returns-in_default g c = record {
 
 pub returns : goal.returns
 returns g c = record {
-  entry = asks_after (owner_of c.args.by.now) (c.requires.share ∙ sym (c.in-Some.ensures.1 ∙ c.cell-cell.ensures))
+  entry = asks_after (owner_of c.args.by.now)
+      (c.requires.share ∙ sym (c.in-Some.ensures.1 ∙ c.cell-cell.ensures))
       c.args.pass.now c.seek-lead.new.pass c.load.new.pass
       (c.seek-lead.ensures.1 c.in-Some.ensures.0) refl refl c.load.ensures;
 }
