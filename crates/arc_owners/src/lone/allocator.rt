@@ -11,15 +11,13 @@ use std::alloc::{Allocator, Global};
 /// That a law of the trait says so of each right to free memory isn't to be had: such a law speaks
 /// of all models of the logic. So a call says it, of one such right, and does nothing.
 pub trait LoneAllocator: Allocator {
-    /// The same count, whose place can be compared with null. It does nothing.
-    fn tested(count: BoxPlace<u64, Self>) -> BoxPlace<u64, Self>
-        ensures { (result ≡ count) × Testable result.at };
+    /// The place of this count can be compared with null. It does nothing: its contract is the law.
+    fn test(count: &mut BoxPlace<u64, Self>)
+        ensures { (count.new ≡ count.old) × Testable count.old.at };
 }
 
 impl LoneAllocator for Global {
-    fn tested(count: BoxPlace<u64, Global>) -> BoxPlace<u64, Global>
-        ensures { (result ≡ count) × Testable result.at }
-    {
-        count
-    }
+    fn test(count: &mut BoxPlace<u64, Global>)
+        ensures { (count.new ≡ count.old) × Testable count.old.at }
+    {}
 }

@@ -331,8 +331,9 @@ impl<A: LoneAllocator> Prepared<A> {
     {
         match Box::new(alloc, 2u64) {
             Ok(memory) => {
-                let (place, alloc) = BoxPlace::of(BoxParts::of(memory));
-                let (at, count) = lay(A::tested(place), bank);
+                let (mut place, alloc) = BoxPlace::of(BoxParts::of(memory));
+                A::test(&mut place);
+                let (at, count) = lay(place, bank);
                 Ok(Prepared { at, count, alloc })
             }
             Err(_) => Err(AllocError),
