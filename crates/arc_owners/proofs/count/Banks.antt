@@ -3,7 +3,7 @@
 use Rattle.std.proofs.Common.{ℕ, Bool, true, false, List, [], ◌∷◌}
 use seplogic.Ra.Ura.{Ura}
 use base.Logic.{ent, sep}
-use base.Fml.{Lft, Fml, fnamed}
+use base.Fml.{Lft, Fml}
 use base.Shift.{Keyless}
 use mir.Syntax.{Ty}
 use mir.Raw.{raw}

@@ -1,11 +1,9 @@
 -- A load of the cell by an owner that asks for its block back: what is had before the call and
 -- after it. Assumes `Logic`.
 use Rattle.std.proofs.Common.{◌≡◌, ℕ, Bool, true, List, [], ◌∷◌, refl}
-use mathlib.Core.Option.{none, some}
 use seplogic.Ra.Ura.{Ura}
 use mir.Syntax.{Fn, Callee, named}
 use mir.Val.{Val, vptr}
-use base.Share.{quarter}
 use base.Logic.{emp, via}
 use base.Fml.{Fml, ftrue, fsep, flft}
 use prog.Model.{Model}
@@ -32,7 +30,7 @@ use denote.Triple.Walked.{Stays, stay_dropped, walk_of, Goes-dropped}
 use Rattle.core.specs.Sync.RawAtomic.Pointer.{asks_ptr}
 use Rattle.std.proofs.raw_atomic.Walks.{proved}
 use Rattle.logbook.proofs.Fields.{ends}
-use Rattle.arc_owners.specs.count.Invariant.{BlockId, Line, Lease, lease_after, claim_gain}
+use Rattle.arc_owners.specs.count.Invariant.{BlockId, Line, lease_after, claim_gain}
 use Rattle.arc_owners.specs.count.Leads.{is_null, target, known_at}
 use Rattle.arc_owners.specs.count.Steps.{IsHeld, IsOf}
 use Rattle.arc_owners.specs.contracts.count.cell.Cell as Cell
@@ -46,7 +44,7 @@ use Rattle.arc_owners.proofs.count.LoneSteps.{Seeks_at}
 use Rattle.arc_owners.proofs.count.LonePartings.{lone_at, claimed}
 use Rattle.arc_owners.proofs.count.CellWalks.{Answers, Ends_at, IsCall, after_call, claims_by_cell}
 use Rattle.arc_owners.proofs.count.CellReadings.{lead, wrap, lead_made, known_tested}
-use Rattle.arc_owners.proofs.count.Partings.{three, three_stay, three_go, three_vals, three_tell}
+use Rattle.arc_owners.proofs.count.Partings.{three_stay, three_go, three_vals, three_tell}
 use Rattle.arc_owners.proofs.count.Partings.{brings, claiming, gives_back_with}
 use Rattle.arc_owners.proofs.count.Walks.{a_pass, no_pass, no_owner, an_owner, an_end, pass_in}
 use Rattle.arc_owners.proofs.count.Walks.{owner_in, ends_in}

@@ -3,7 +3,7 @@
 use Rattle.std.proofs.Common.{ℕ, ◌<◌, List, [], ◌∷◌}
 use seplogic.Ra.Ura.{Ura}
 use base.Logic.{ent, sep, never_e, snd∗}
-use base.Fml.{Lft, Fml, ftrue, fsep, fbor, fhide, fnamed}
+use base.Fml.{Lft, Fml, ftrue, fbor, fhide, fnamed}
 use base.Before.{before}
 use base.Shift.{Keyless}
 use types.Logic.{Logic, sem}

@@ -1,23 +1,20 @@
 -- The exchange that promotes a lone word, through a borrowed owner: what is had before the call and
 -- after it. Assumes `Logic`.
-use Rattle.std.proofs.Common.{◌≡◌, ℕ, ◌<◌, Bool, true, List, [], ◌∷◌, refl, sym, subst}
-use mathlib.Core.Option.{Option, none, some}
+use Rattle.std.proofs.Common.{◌≡◌, ℕ, Bool, true, List, [], ◌∷◌, refl, sym, subst}
+use mathlib.Core.Option.{some}
 use seplogic.Ra.Ura.{Ura}
 use mir.Syntax.{Callee, Place}
-use mir.Val.{Val, vptr}
-use base.Share.{quarter}
+use mir.Val.{Val}
 use base.Logic.{via, apply∗}
-use base.Fml.{Lft, GName, Share, Fml, ftrue, fsep, fex, flft, fobs, fbor, fnamed}
+use base.Fml.{Lft, GName, Share, Fml, ftrue, fsep, fex, flft, fbor, fnamed}
 use prog.Model.{Model}
 use prog.Wp.{Env}
 use types.Logic.{Logic}
-use types.SemTy.{Body}
 use types.Kit.{Item, Goal, Seq, Step, Post, settles, step, ‵, raw, ◌⊛◌, some as any, later, ◌$◌, ◌∵◌}
 use types.Kit.{ !, qed, by, move, split, split3, group, fsplit, fsplit3, fjoin, fpick, fpack, pick}
 use types.Kit.{learn, await, updating, now, regoal, done, frame, use1, use2}
 use contract.Running.{Running}
 use denote.RattleType.{RattleType}
-use denote.Memory.{mem}
 use denote.RawPtr.{Ptr, block_ptr, null_ptr}
 use denote.Steps.{nothing}
 use Rattle.core.specs.declared.result.Result.TheVariants.{Ok, Err}

@@ -1,19 +1,18 @@
 -- A load of a cell through a borrowed owner, and one by an owner that asks for the block back: what
 -- is had before the call and after it, whatever it says of the pass. Assumes `Logic`.
 use Rattle.std.proofs.Common.{◌≡◌, ℕ, ◌^◌, ◌<◌, Bool, List, [], ◌∷◌, ◌++◌, refl, ap, ◌∙◌, lit<}
-use mathlib.Core.Option.{Option, none, some}
+use mathlib.Core.Option.{some}
 use seplogic.Ra.Ura.{Ura}
 use mir.Syntax.{Fn, Callee, named}
 use mir.Val.{Val, vptr, vstruct, vcons, vnil, of_list}
 use denote.Laws.{Is}
-use base.Share.{quarter}
-use base.Logic.{emp, via, guard, ent, id⊢}
+use base.Logic.{emp, via, guard, ent}
 use base.Fml.{Share, Fml, ftrue, fsep, flft}
 use prog.Model.{Model}
 use prog.Wp.{Closed}
 use types.Logic.{Logic, sem}
 use types.Kit.{‵, raw, ◌⊛◌, given, later, ◌$◌, ◌∵◌, !, qed, by, move, keep, drop, split, group, fsplit}
-use types.Kit.{fsplit3, fjoin, fjoin3, fpick, fpack, use0, use1, learn, check, updating, await, now}
+use types.Kit.{fsplit3, fjoin, fpick, fpack, use0, use1, learn, check, updating, await, now}
 use types.Kit.{done}
 use contract.Lifetimes.{Lfts}
 use contract.Monad.{fact}
@@ -40,7 +39,7 @@ use denote.Triple.Walked.{Stays, stay_dropped, stay_ref, walk_of, Goes-dropped, 
 use Rattle.core.specs.Sync.RawAtomic.Pointer.{asks_ptr}
 use Rattle.std.proofs.raw_atomic.Walks.{proved}
 use Rattle.logbook.proofs.Fields.{ends}
-use Rattle.arc_owners.specs.count.Invariant.{BlockId, Line, Lease, trace_owns, told}
+use Rattle.arc_owners.specs.count.Invariant.{BlockId, Line, Lease}
 use Rattle.arc_owners.specs.count.Leads.{target, known_at}
 use Rattle.arc_owners.specs.count.Steps.{IsRightOf, IsOf}
 use Rattle.arc_owners.specs.contracts.count.cell.Cell as Cell
@@ -49,8 +48,7 @@ use Rattle.arc_owners.specs.contracts.count.cell.Lead as Lead
 use Rattle.arc_owners.specs.contracts.count.word.OwnerToken as OwnerToken
 use Rattle.arc_owners.specs.contracts.count.word.PassState as PassState
 use Rattle.arc_owners.proofs.count.Signs.{signs}
-use Rattle.arc_owners.proofs.count.Fields.{cell_val}
-use Rattle.arc_owners.proofs.count.LoneSteps.{Glance, Glances, passed_as}
+use Rattle.arc_owners.proofs.count.LoneSteps.{Glance, Glances}
 use Rattle.arc_owners.proofs.count.CellWalks.{Answers, Ends_at, IsCall, after_call, glances_by}
 use Rattle.arc_owners.proofs.count.CellWalks.{glanced}
 use Rattle.arc_owners.proofs.count.Walks.{a_pass, no_pass, pass_out, pass_in, owner_shown}

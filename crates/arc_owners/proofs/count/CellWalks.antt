@@ -2,12 +2,11 @@
 -- it has afterwards, is said without its code. `W` is what the machine answers, `val` as which
 -- value. Assumes `Logic`.
 use Rattle.std.proofs.Common.{◌≡◌, ℕ, ◌<◌, Bool, true, List, [], ◌∷◌, refl, sym}
-use mathlib.Core.Option.{Option}
 use seplogic.Ra.Ura.{Ura}
 use mir.Syntax.{Fn, Callee, Place}
 use mir.Val.{Val}
 use base.Share.{quarter}
-use base.Logic.{SProp, via, guard, apply∗}
+use base.Logic.{SProp, via, apply∗}
 use base.Fml.{Lft, Share, Fml, fsep, flft, fbor, fnamed}
 use prog.Model.{Model}
 use prog.Wp.{Env, WpFn}
@@ -18,7 +17,6 @@ use types.Kit.{updating, await, now, pick, learn, show, check, regoal, done, use
 use contract.Running.{Running, MachineTables, tables}
 use contract.Shared.{Lends-one}
 use denote.RawPtr.{Ptr, block_ptr, ptr_val}
-use denote.Steps.{nothing}
 use Rattle.core.specs.Sync.RawAtomic.Pointer.{asks_ptr}
 use Rattle.std.proofs.raw_atomic.Calls.{fm}
 use Rattle.arc_owners.specs.count.Invariant.{BlockId, Line, Lease, right, right_shares, contents}

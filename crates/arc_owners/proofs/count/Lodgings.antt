@@ -1,15 +1,14 @@
 -- A borrow of a count has the word, whether it is the word's own or that of the cell whose pointer
 -- leads there. Assumes `Logic`.
-use Rattle.std.proofs.Common.{◌≡◌, ℕ, List, [], ◌∷◌, refl, sym, ap}
+use Rattle.std.proofs.Common.{◌≡◌, ℕ, [], ◌∷◌, refl, sym, ap}
 use mathlib.Core.Option.{Option, none, some}
 use seplogic.Ra.Ura.{Ura}
 use base.Share.{quarter}
-use base.Logic.{all, id⊢}
-use base.Fml.{Fml, fsep}
+use base.Logic.{all}
 use base.Growing.{at_least, once}
 use types.Logic.{Logic}
 use types.Growing.{latest_bounds}
-use types.Kit.{‵, raw, ◌⊛◌, given, ◌$◌, ◌∵◌, !, qed, move, keep, drop, split, fsplit3, fjoin, fpick}
+use types.Kit.{‵, ◌⊛◌, given, ◌$◌, ◌∵◌, !, qed, move, keep, drop, split, fsplit3, fjoin, fpick}
 use types.Kit.{fpack, learn, frame, each, assume, done, use2, rewrite}
 use Rattle.core.specs.Sync.RawAtomic.Pointer.{cell}
 use Rattle.arc_owners.specs.count.Invariant.{BlockId, places, lies, counting, placed, pointer}

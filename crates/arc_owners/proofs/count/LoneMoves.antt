@@ -1,7 +1,7 @@
 -- What the steps on the cell of a block that began lone do to the invariant: a pass sees the word
 -- lone or counted, the count gets its place, an exchange is lost, and an owner who is alone on a
 -- lone word takes the block back. Assumes `Logic`.
-use Rattle.std.proofs.Common.{◌≡◌, ℕ, ◌+◌, ◌^◌, ◌<◌, ◌≤◌, Bool, true, false, List, [], ◌∷◌, ◌++◌, length}
+use Rattle.std.proofs.Common.{◌≡◌, ℕ, ◌+◌, ◌<◌, ◌≤◌, Bool, true, false, List, [], ◌∷◌, ◌++◌, length}
 use Rattle.std.proofs.Common.{set, refl, sym, ap, ◌∙◌, subst, arith}
 use mathlib.Core.Option.{Option, none, some}
 use mathlib.Core.List.{IsPrefix}
@@ -27,11 +27,11 @@ use Rattle.arc_owners.specs.history.Histories.{Lone, is_counted, Lives, LivesAlo
 use Rattle.arc_owners.specs.history.Histories.{IsLegal}
 use Rattle.arc_owners.specs.count.Invariant.{BlockId, Line, entries_of, made_by, withheld, right}
 use Rattle.arc_owners.specs.count.Invariant.{history_at_least, lines_order, authority, places}
-use Rattle.arc_owners.specs.count.Invariant.{is_there, has_place, located, told, Lease, lease_coded}
+use Rattle.arc_owners.specs.count.Invariant.{is_there, located, told, Lease, lease_coded}
 use Rattle.arc_owners.specs.count.Invariant.{no_lease, seat_coded, fresh_seat, counted_as, tally}
 use Rattle.arc_owners.specs.count.Invariant.{pool, stake, how_many, State, Fits, contents, behind}
-use Rattle.arc_owners.specs.count.Invariant.{pass_holds, next_owner, end_tokens, taken, claim_gain}
-use Rattle.arc_owners.specs.count.Invariant.{placed, pointed, cell_holds}
+use Rattle.arc_owners.specs.count.Invariant.{pass_holds, next_owner, taken, claim_gain}
+use Rattle.arc_owners.specs.count.Invariant.{placed, cell_holds}
 use Rattle.arc_owners.proofs.history.LoneWords.{lone-one, counted-promoted}
 use Rattle.arc_owners.proofs.history.Steps.{counted-won}
 use Rattle.arc_owners.proofs.count.Signs.{signs}

@@ -11,7 +11,7 @@ use base.Share.{quarter}
 use base.Logic.{ex, guard, upd, upd_i, ex_i, apply∗}
 use base.Fml.{Lft, Share, Fml, ftrue, fsep, flft, fbor, fnamed}
 use types.Logic.{Logic}
-use types.Kit.{‵, raw, ◌⊛◌, some as any, ◌$◌, ◌∵◌, !, qed, by, move, drop, split, split3, join, group}
+use types.Kit.{‵, raw, ◌⊛◌, some as any, ◌$◌, ◌∵◌, !, qed, by, move, split, split3, join, group}
 use types.Kit.{fsplit, fjoin, fpick, fpack, pick, frame, assume, show, check, done, use1, use2, use3}
 use types.Kit.{rewrite, suffices, settle}
 use denote.RawPtr.{Ptr, block_ptr}
@@ -24,7 +24,7 @@ use Rattle.arc_owners.specs.count.Invariant.{BlockId, Line, Lease, right, conten
 use Rattle.arc_owners.specs.count.Invariant.{trace_owns, staked, stake, IsStake, claim_gain, pointer}
 use Rattle.arc_owners.specs.count.Invariant.{cell_holds, cell_lies, cell_at}
 use Rattle.arc_owners.proofs.count.Signs.{signs}
-use Rattle.arc_owners.proofs.count.Places.{pauses, resumes}
+use Rattle.arc_owners.proofs.count.Places.{pauses}
 use Rattle.arc_owners.proofs.count.Stakes.{as_stake}
 use Rattle.arc_owners.proofs.count.LoneMoves.{sees, holding, claims_lone}
 use Rattle.arc_owners.specs.count.Leads.{target, known_at}

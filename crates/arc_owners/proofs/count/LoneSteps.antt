@@ -17,15 +17,13 @@ use types.Kit.{fjoin, fpick, fpack, frame, assume, show, done, use0, use1, use2,
 use types.Kit.{settle, given, learn, check}
 use denote.RawPtr.{Ptr, block_ptr, null_ptr}
 use denote.Steps.{nothing}
-use Rattle.core.specs.Sync.RawAtomic.{word}
 use Rattle.core.specs.Sync.RawAtomic.Pointer.{cell, alike, asks_ptr, asks_by_cases, compares}
 use Rattle.core.proofs.raw_atomic.Asked.{PtrLiesWith, borrowed_ptr_with, alike_null}
 use Rattle.arc_owners.specs.declared.history.entry.Entry.TheVariants.{Joined}
 use Rattle.arc_owners.specs.history.Histories.{Lone}
 use Rattle.arc_owners.specs.count.Invariant.{BlockId, Line, Lease, right, contents, pass_holds}
 use Rattle.arc_owners.specs.count.Invariant.{trace_owns, places, told, behind, lies, placed, pointer}
-use Rattle.arc_owners.specs.count.Invariant.{receipt, pointed, cell_holds, cell_lies, cell_at}
-use Rattle.arc_owners.specs.count.Invariant.{counting}
+use Rattle.arc_owners.specs.count.Invariant.{cell_holds, cell_lies, cell_at}
 use Rattle.arc_owners.specs.count.Leads.{target, known_at, pending_at}
 use Rattle.arc_owners.proofs.count.Signs.{signs}
 use Rattle.arc_owners.proofs.count.Places.{resumes, outside}

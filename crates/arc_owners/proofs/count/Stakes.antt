@@ -1,13 +1,13 @@
 -- An operation of an owner who opens the word with its own part of the lifetime, and who may have
 -- given that up once the step is done: the word may then be gone. Assumes `Logic`.
-use Rattle.std.proofs.Common.{◌≡◌, ℕ, ◌<◌, Bool, true, List, [], ◌∷◌, refl, sym}
+use Rattle.std.proofs.Common.{◌≡◌, ℕ, Bool, true, List, [], ◌∷◌, refl, sym}
 use seplogic.Ra.Ura.{Ura}
 use base.Share.{quarter}
 use base.Logic.{upd, never, never_e, via, fst∗, upd_i, apply∗}
-use base.Fml.{Lft, Share, Fml, flft, fbor, fnamed}
+use base.Fml.{Lft, Share, Fml, flft, fnamed}
 use types.Logic.{Logic}
 use types.RcWeak.{part_in}
-use types.Kit.{‵, raw, ◌⊛◌, ◌$◌, ◌∵◌, !, qed, by, move, drop, split, split3, group, fsplit, fpick}
+use types.Kit.{‵, raw, ◌⊛◌, ◌$◌, ◌∵◌, !, qed, by, move, split, split3, group, fpick}
 use types.Kit.{frame, assume, done, use1, rewrite, suffices, settle}
 use denote.RawPtr.{Ptr, block_ptr, null_ptr}
 use Rattle.core.specs.Sync.RawAtomic.{asks, always}

@@ -2,8 +2,7 @@
 -- seen under `Whole`, where nothing comes between two calls of the one pass; and who lives then.
 use Rattle.std.proofs.Common.{inl, inr, ◌≡◌, ◌⊎◌, ℕ, ◌<◌, ◌≤◌, arith, Bool, true, false, List, []}
 use Rattle.std.proofs.Common.{◌∷◌, ◌++◌, length, Some, None, refl, sym, ap, ◌∙◌, subst, append-nil}
-use Rattle.std.proofs.Common.{append_assoc}
-use Rattle.std.specs.Prelude.{if◌then◌else◌, IsTrue, ◌↔◌, map, Err}
+use Rattle.std.specs.Prelude.{if◌then◌else◌, IsTrue, ◌↔◌, map}
 use Rattle.std.proofs.lemmas.Bool.{eq-eqb, ne_eqb, false≢true}
 use Rattle.std.specs.List.{All}
 use Rattle.std.proofs.lemmas.List.Elements.{All-head, All-tail}
@@ -16,7 +15,7 @@ use Rattle.arc_owners.specs.declared.count.tokens.Pass.{Pass}
 use Rattle.arc_owners.specs.count.Invariant.{BlockId, Line, entries_of, made_by, next_owner}
 use Rattle.arc_owners.specs.history.Histories.{Beginning, LivesAlone, NeverLived, owner_made}
 use Rattle.arc_owners.specs.history.Histories.{owner_ended, owners_ever, live_owners, is_counted}
-use Rattle.arc_owners.specs.history.Histories.{is_promoted, MayFollow, Lone, Counted}
+use Rattle.arc_owners.specs.history.Histories.{MayFollow, Counted}
 use Rattle.arc_owners.specs.history.Machine.{without_number}
 use Rattle.arc_owners.specs.count.Calls.{Owner, Appends, Asks, MayJoin, MakesAnother, FindsFull}
 use Rattle.arc_owners.specs.count.Calls.{RefusesOwner, Leaves, HasCountIn, IsFirst, IsFreshPass}

@@ -9,7 +9,7 @@ use Rattle.arc_owners.specs.declared.history.entry.Entry.TheVariants.{Promote, J
 use Rattle.arc_owners.specs.declared.history.event.Event.TheVariants.{ExchangeWon, ExchangeLost}
 use Rattle.arc_owners.specs.declared.history.event.Event.TheVariants.{CountUp, FullFound, CountDown}
 use Rattle.arc_owners.specs.declared.history.event.Event.TheVariants.{UniquenessLoad}
-use Rattle.arc_owners.specs.history.Histories.{Beginning, Lone, Counted, is_in, is_promoted}
+use Rattle.arc_owners.specs.history.Histories.{Beginning, is_in}
 use Rattle.arc_owners.specs.history.Histories.{owners_ended, live_owners, is_counted, MayFollow}
 use Rattle.arc_owners.specs.history.Histories.{IsLegal, NeverLived}
 use Rattle.arc_owners.specs.history.Machine.{Machine, is_fresh, changed, without_number}

@@ -6,7 +6,7 @@ use mir.Raw.{raw as bare}
 use mir.Val.{Val, vptr}
 use base.Fraction.{full_share}
 use base.Logic.{emp, never, id⊢, fst∗}
-use base.Fml.{Fml, ftrue, fsep, flft, fhide}
+use base.Fml.{ftrue, fsep, flft, fhide}
 use types.Logic.{sem}
 use types.Kit.{‵, raw, ◌⊛◌, some as any, later, ◌$◌, ◌∵◌, !, qed, by, move, keep, drop, split, fsplit}
 use types.Kit.{fjoin, fpack, pick, await, use1, use2, rewrite, feq_i}

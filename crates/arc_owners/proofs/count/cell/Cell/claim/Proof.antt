@@ -1,7 +1,7 @@
 -- `claim` is one load of the cell, after which an owner that found the word lone has the block
 -- back.
 use contract.BorrowLft.{◌⊑◌}
-use Rattle.std.proofs.Common.{[], ◌∷◌, refl, sym}
+use Rattle.std.proofs.Common.{[], ◌∷◌, refl}
 use mir.Syntax.{ty_ptr}
 use mir.Val.{vptr}
 use base.Logic.{emp, snd∗}

@@ -1,6 +1,5 @@
 -- `close` leaves the count to which the cell led, if the word had one, which the pass tells.
-use Rattle.std.proofs.Common.{◌≡◌, ℕ, Bool, true, List, [], ◌∷◌, ◌++◌, refl, sym, ap, ◌∙◌}
-use mathlib.Core.Option.{Option}
+use Rattle.std.proofs.Common.{◌≡◌, ℕ, Bool, List, [], ◌∷◌, ◌++◌, refl, sym, ap, ◌∙◌}
 use mir.Syntax.{ty_ptr}
 use mir.Val.{Val, vptr, vstruct, of_list}
 use base.Logic.{emp}

@@ -6,7 +6,6 @@ use Rattle.std.proofs.Common.{◌≡◌, ℕ, Bool, true, List, [], ◌∷◌, r
 use mir.Syntax.{named, Callee}
 use mir.Val.{Val, vptr, vnull}
 use base.Logic.{SProp, ent, emp, id⊢}
-use base.Share.{quarter}
 use base.Fml.{Fml, ftrue, fsep, flft}
 use types.Kit.{‵, raw, ◌⊛◌, later, at_ret, ◌$◌, ◌∵◌, !, qed, by, move, keep, drop, split}
 use types.Kit.{group, fsplit, fsplit3, fjoin, fpick, use1, await, suffices, rewrite, feq_i}

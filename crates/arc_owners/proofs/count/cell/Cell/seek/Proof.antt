@@ -1,7 +1,7 @@
 -- `seek` is one load of the cell, after which the pass has seen the history up to there, or is as
 -- it was.
 use contract.BorrowLft.{◌⊑◌}
-use Rattle.std.proofs.Common.{[], ◌∷◌, refl, sym}
+use Rattle.std.proofs.Common.{[], ◌∷◌, refl}
 use mir.Syntax.{ty_ptr}
 use mir.Val.{vptr}
 use base.Logic.{emp, snd∗}

@@ -1,14 +1,12 @@
 -- `count` shows the count to which a cell leads, for as long as the cell is borrowed.
-use Rattle.std.proofs.Common.{◌≡◌, ℕ, ◌^◌, ◌<◌, Bool, true, false, List, [], ◌∷◌, ◌++◌, refl, ap}
+use Rattle.std.proofs.Common.{◌≡◌, ◌<◌, List, [], ◌∷◌, ◌++◌, refl, ap}
 use Rattle.std.proofs.Common.{◌∙◌, lit<}
 use mathlib.Core.Option.{some}
-use seplogic.Ra.Ura.{Ura}
 use mir.Syntax.{ty_ptr, named}
 use mir.Val.{Val, vnull, vptr, of_list}
 use base.Logic.{SProp, emp}
-use base.Fml.{Lft, Fml, ftrue, fsep, flft}
-use types.Logic.{Logic}
-use types.Kit.{Item, Goal, Seq, ‵, raw, ◌⊛◌, at_ret, ◌$◌, ◌∵◌, !, qed, by, move, keep, drop, split}
+use base.Fml.{Lft, ftrue, fsep, flft}
+use types.Kit.{‵, raw, ◌⊛◌, at_ret, ◌$◌, ◌∵◌, !, qed, by, move, keep, drop, split}
 use types.Kit.{fsplit, fsplit3, fjoin, fpick, fpack, rewrite, feq_i, use0, use1}
 use types.Run.{stop, fld, addr, of_opd, bin, lit, no_more, and_then, first, blocks, branches, skips}
 use types.Run.{exec, returns, returns_within}

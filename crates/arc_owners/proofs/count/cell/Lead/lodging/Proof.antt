@@ -1,10 +1,10 @@
 -- `lodging` says where the count lies to which a cell leads, for as long as the block is lent.
-use Rattle.std.proofs.Common.{◌≡◌, ℕ, ◌^◌, ◌<◌, ◌++◌, List, [], ◌∷◌, refl, sym, ap, ◌∙◌, lit<}
+use Rattle.std.proofs.Common.{◌≡◌, ◌<◌, ◌++◌, List, [], ◌∷◌, refl, ap, ◌∙◌, lit<}
 use mathlib.Core.Option.{some}
 use mir.Syntax.{ty_ptr}
 use mir.Val.{Val, vnull, vptr, of_list}
 use base.Logic.{SProp, emp, never, id⊢}
-use base.Fml.{Fml, Lft, ftrue, fsep, flft}
+use base.Fml.{Lft, ftrue, fsep, flft}
 use types.Kit.{‵, raw, ◌⊛◌, at_ret, ◌$◌, ◌∵◌, !, qed, by, move, keep, drop, split, fsplit, fjoin}
 use types.Kit.{fpick, fpack, rewrite, use0, use1, feq_i}
 use types.Run.{stop, fld, of_opd, bin, lit, no_more, and_then, first, branches, skips, exec}
@@ -32,7 +32,7 @@ use Rattle.core.proofs.atomic.Steps.{Ptr-Good}
 use Rattle.core.proofs.cell.Inside.{Good-round}
 use Rattle.core.proofs.option.Made.{Some-of, none_of}
 use Rattle.std.proofs.raw_atomic.Walks.{proved_at}
-use Rattle.logbook.proofs.Fields.{token, Token, token_made, ends}
+use Rattle.logbook.proofs.Fields.{token, ends}
 use Rattle.arc_owners.specs.count.CellPlaces.{cell_borrow}
 use Rattle.arc_owners.specs.count.Invariant.{BlockId, Borrowing, word_borrow_as}
 use Rattle.arc_owners.specs.count.Leads.{is_null, target, known_at}

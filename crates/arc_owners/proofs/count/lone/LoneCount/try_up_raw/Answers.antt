@@ -1,5 +1,5 @@
 -- The load before left the pass as it was.
-use Rattle.std.proofs.Common.{◌≡◌, subst, ◌∙◌, sym, IfOk, IfErr, IfSome, IfNone}
+use Rattle.std.proofs.Common.{◌≡◌, subst, IfOk, IfErr, IfSome, IfNone}
 use Rattle.arc_owners.specs.count.Calls.{owner_of, MakesAnother, FindsFull}
 use Rattle.arc_owners.proofs.count.LoneAnswers.{has_count, with_trace}
 use Rattle.arc_owners.proofs.count.lone.LoneCount.try_up_raw.Goals as goal

@@ -18,7 +18,6 @@ use denote.Builtin.{RefOf, unit}
 use denote.Ref.{shr_vals, shr_Tells}
 use denote.Steps.{nothing}
 use denote.Triple.Walked.{Stays, stay_dropped, walk_of, Goes-dropped}
-use Rattle.core.specs.contracts.marker.PhantomData as marker
 use Rattle.std.proofs.raw_atomic.Walks.{proved}
 use Rattle.logbook.proofs.Fields.{token, ends}
 use Rattle.arc_owners.specs.count.Invariant.{Line, trace_owns}

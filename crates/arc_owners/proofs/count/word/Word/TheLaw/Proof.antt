@@ -1,16 +1,15 @@
 -- A `&` to the word of a count is an invariant over a borrow of it, whose number is past the
 -- invariant's. Assumes `Logic`.
-use Rattle.std.proofs.Common.{ℕ, ◌<◌, [], ◌∷◌}
+use Rattle.std.proofs.Common.{ℕ, [], ◌∷◌}
 use seplogic.Ra.Ura.{Ura}
 use base.Fraction.{full_share}
-use base.Fml.{Lft, Share, Fml, ftrue, fex, fbor, flft, fnamed, Incl-refl}
+use base.Fml.{Lft, Share, Fml, fex, fbor, flft, Incl-refl}
 use base.Before.{before}
 use types.Logic.{Logic, sem}
-use types.Kit.{‵, ◌⊛◌, later, ◌$◌, ◌∵◌, !, qed, move, drop, use0, use1, use2, split, fsplit}
-use types.Kit.{fsplit3, fjoin, fjoin3, fpick, fpack, await, updating, now, done}
+use types.Kit.{‵, ◌⊛◌, later, ◌$◌, ◌∵◌, !, qed, move, use0, use1, use2, split, fsplit}
+use types.Kit.{fjoin, fpick, fpack, await, updating, now, done}
 use types.Na.{before-Incl, before_dup}
 use denote.Memory.{part_at}
-use denote.Steps.{nothing}
 use denote.SharingLaws.{ends_shr_laws}
 use Rattle.core.proofs.cell.Borrows.{by_one}
 use Rattle.arc_owners.specs.count.Invariant.{BlockId, lent, word_borrow_as, word_borrow_for}

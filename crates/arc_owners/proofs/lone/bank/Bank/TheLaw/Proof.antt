@@ -1,5 +1,4 @@
 -- A `&` to a bank says all that it does. Assumes `Logic`.
-use Rattle.std.proofs.Common.{[], ◌∷◌}
 use denote.RattleType.{RattleType}
 use denote.Param.Laws.{Laws}
 use denote.Param.Shared.{copy_shared}

@@ -1,14 +1,12 @@
 -- `open` makes a new bank.
 use Rattle.std.proofs.Common.{ℕ, [], ◌∷◌, refl}
 use base.Logic.{emp}
-use base.Fml.{fnamed}
 use types.Kit.{‵, later, some, ◌$◌, !, by, keep, drop, use0, await, pick}
 use types.ByLocal.{alloc_all, pass_all, free_all, look_at}
 use contract.Monad.{fact_i}
 use denote.RattleType.{RattleType}
 use denote.Param.{param}
 use Rattle.logbook.proofs.Fields.{token}
-use Rattle.arc_owners.specs.count.Invariant.{banked}
 use Rattle.arc_owners.specs.count.Leads.{frees_count, bank_of}
 use Rattle.arc_owners.proofs.count.Bank.{opens_bank}
 use Rattle.arc_owners.proofs.count.Markers.{marked}

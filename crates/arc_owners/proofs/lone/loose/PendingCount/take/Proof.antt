@@ -1,12 +1,12 @@
 -- `take` takes the right to free a count's memory out of the bank, for its receipt.
 use contract.BorrowLft.{◌⊑◌}
-use Rattle.std.proofs.Common.{◌≡◌, ℕ, ◌^◌, ◌<◌, Bool, true, List, [], ◌∷◌, ◌++◌, refl, sym, ap, ◌∙◌, w64}
+use Rattle.std.proofs.Common.{◌≡◌, ℕ, Bool, [], ◌∷◌, ◌++◌, refl, sym, ap, ◌∙◌, w64}
 use Rattle.std.proofs.Common.{lit<}
 use mir.Raw.{raw as bare}
 use mir.Val.{Val, vnull, vptr, of_list}
 use base.Fraction.{full_share}
 use base.Logic.{SProp, emp, id⊢}
-use base.Fml.{Fml, ftrue, fsep, flft, fhide}
+use base.Fml.{ftrue, fsep, flft, fhide}
 use types.Kit.{‵, raw, ◌⊛◌, later, at_ret, ◌$◌, ◌∵◌, !, qed, by, move, keep, drop, split, fsplit}
 use types.Kit.{fjoin, fpick, await, use0, use1, use2, rewrite, feq_l}
 use types.Match.{live}
@@ -19,12 +19,12 @@ use denote.Exit.{yes}
 use denote.Builtin.{RefOf, u64, unit}
 use denote.Memory.{lone, hidden_shr, part_at}
 use denote.Opens.{unhide}
-use denote.Param.{param, layouts, bounded}
+use denote.Param.{param, bounded}
 use denote.Plain.{uint_in}
 use denote.RattleType.{RattleType, owns}
 use denote.RawPtr.{Ptr, RawPtr, Testable, block_ptr, null_ptr, ptr_val, tests_null}
 use denote.Signature.{types_at, plain}
-use denote.Steps.{nothing, heard}
+use denote.Steps.{heard}
 use denote.Triple.Walked.{Goes-dropped}
 use mir.Syntax.{a_type, dcons, dnil}
 use mir.MapTy.{inst_fn}
@@ -36,7 +36,6 @@ use Rattle.core.proofs.alloc.Shapes.{after}
 use Rattle.core.proofs.atomic.Steps.{Ptr-Good}
 use Rattle.core.proofs.option.Made.{Some-of, none_of}
 use Rattle.std.proofs.raw_atomic.Walks.{proved_at}
-use Rattle.std_alloc.specs.Box.Ownership.{box_owns}
 use Rattle.logbook.proofs.Fields.{token, token_told, Token}
 use Rattle.arc_owners.specs.count.Leads.{is_null, pending, frees_count, bank_of}
 use Rattle.arc_owners.specs.contracts.lone.bank.Bank as Bank
