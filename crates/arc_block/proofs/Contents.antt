@@ -39,6 +39,7 @@ module _ {T B M A : Type 0} where
         let make : List T → ℕ → BlockView T (Given B M) = λ xs n. record {
           owner = o;
           items = xs;
+          first = 0;
           facts = memory_info vector drops n (length xs);
         } in
         ap (λ xs. make xs memory.allocation.count) items

@@ -64,11 +64,13 @@ native_facts drops size = memory_info native drops size size
 abbrev pub partly_full : {G : Type 0} → Bool → (size full : ℕ) → BlockInfo G
 partly_full drops size full = memory_info native drops size full
 
--- what contracts see of a block through one of its owners: who that is, the items, and what is
--- known of the block
+-- What contracts see of a block through one of its owners: who that is, the items that it reads,
+-- the number of the place where the first of them lies, and what is known of the block. Of a block
+-- of a caller's making places are items, and all are read.
 pub record BlockView (T G : Type 0) : Type 0 where
   pub owner : Owner
   pub items : List T
+  pub first : ℕ
   pub facts : BlockInfo G
 
 -- a block of this sort whose only owner has its items as this vector, whose places are the block's
@@ -76,6 +78,7 @@ abbrev pub held_as : {T G A : Type 0} → Sort → Bool → Owner → Vec T A �
 held_as sort drops owner items = record {
   owner = owner;
   items = items.items;
+  first = 0;
   facts = memory_info sort drops (vec_capacity items) (length items.items);
 }
 
@@ -104,6 +107,7 @@ abbrev pub buffer_block : {T G : Type 0} → List T → (places : ℕ) → G →
 buffer_block items places given owner = record {
   owner = owner;
   items = items;
+  first = 0;
   facts = buffer_info false places (length items) (Some given);
 }
 
@@ -112,6 +116,7 @@ abbrev pub raw_block : {T G : Type 0} → List T → G → Owner → BlockView T
 raw_block items given owner = record {
   owner = owner;
   items = items;
+  first = 0;
   facts = raw_info (length items) (Some given);
 }
 

@@ -1,8 +1,9 @@
 -- What a block keeps: its items, and what is known of it, by its sort.
-use Rattle.std.specs.Prelude.{◌≡◌, ℕ, Bool, false, List, length, Some, None}
+use Rattle.std.specs.Prelude.{◌≡◌, ℕ, Bool, false, List, [], ◌∷◌, length, Some, None}
 use Rattle.std.specs.Arc.{arc_value}
 use Rattle.std.specs.declared.vec.Vec.{Vec}
 use Rattle.arc_memory.specs.Memory.{extent_of}
+use Rattle.arc_memory.specs.SeenItems.{shown_alone}
 use Rattle.arc_owners.specs.count.Calls.{Owner}
 use Rattle.arc_block.specs.declared.block.content.Content.{Content}
 use Rattle.arc_block.specs.declared.block.content.Content.TheVariants.{Vector, Buffer, Raw}
@@ -47,5 +48,20 @@ module _ {T B M A : Type 0} (list : B → List T) (places : B → ℕ) where
   held_in drops owner content = record {
     owner = owner;
     items = content_items list content;
+    first = 0;
     facts = content_info drops content;
+  }
+
+  -- of what lies alone in a block's memory
+  abbrev pub alone_info : (drops : Bool) → List (Content T B M A) → BlockInfo (Given B M)
+  alone_info drops [] = raw_info 0 None
+  alone_info drops (content ∷ others) = content_info drops content
+
+  abbrev pub held_alone : (drops : Bool) → Owner → List (Content T B M A)
+      → BlockView T (Given B M)
+  held_alone drops owner contents = record {
+    owner = owner;
+    items = shown_alone (content_items list) contents;
+    first = 0;
+    facts = alone_info drops contents;
   }

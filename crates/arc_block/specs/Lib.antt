@@ -1,6 +1,7 @@
 pub mod Block
 pub mod Given
 pub mod Contents
+pub mod Kept
 pub mod Natives
 pub mod Place
 pub mod Table
@@ -12,3 +13,4 @@ pub mod Unique
 pub mod Moves
 pub mod LendsBuffers
 pub mod Metadata
+pub mod SoleCallers

@@ -1,3 +1,5 @@
+pub mod Alone
+pub mod Asked
 pub mod Borrowed
 pub mod Contents
 pub mod Cuts
@@ -15,4 +17,6 @@ pub mod Ranges
 pub mod Regained
 pub mod Runs
 pub mod SameVecs
+pub mod SeenItems
+pub mod SeenReads
 pub mod Spots

@@ -28,7 +28,8 @@ LendsPlacesFrom T start places r =
     Lends (the_row T) (Array T 0) places r (with_written_from start places.now)
 
 -- and of a writer's memory
-abbrev pub with_all_written : {T A : Type 0} → ℕ → WriterMemory T A → List T → WriterMemory T A
+abbrev pub with_all_written : {T V A : Type 0} → ℕ → WriterMemory T V A → List T
+    → WriterMemory T V A
 with_all_written start m ws = record {
   before = m.before;
   places = with_written_from start m.places ws;
@@ -39,7 +40,7 @@ with_all_written start m ws = record {
   from = m.from;
 }
 
-abbrev pub LendsMemory : (T A : RattleType) → Ghosts A.Denot → ℕ
-    → MutBor (WriterMemory T.Denot A.Denot) → MutBor (List T.Denot) → Fml
-LendsMemory T A a start memory r =
-    Lends (memory_row T A a) (Array T 0) memory r (with_all_written start memory.now)
+abbrev pub LendsMemory : (T V A : RattleType) → Ghosts A.Denot → ℕ
+    → MutBor (WriterMemory T.Denot V.Denot A.Denot) → MutBor (List T.Denot) → Fml
+LendsMemory T V A a start memory r =
+    Lends (memory_row T V A a) (Array T 0) memory r (with_all_written start memory.now)

@@ -12,5 +12,6 @@ pub mod SharedWriters
 pub mod KeptPlaces
 pub mod PieceParts
 pub mod Pieces
+pub mod SeenItems
 pub mod Sources
 pub mod LendsWriters

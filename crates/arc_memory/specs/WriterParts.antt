@@ -1,5 +1,5 @@
 -- Owners that keep a part or a range of lent memory, before and after a call.
-use Rattle.std.specs.Prelude.{◌≡◌, ℕ, Bool, if◌then◌else◌}
+use Rattle.std.specs.Prelude.{◌≡◌, ℕ, Bool, true, if◌then◌else◌}
 use Rattle.arc_owners.specs.declared.mark.Mark.{Ghosts}
 use Rattle.arc_owners.specs.count.Calls.{Owner, MakesAnother}
 use Rattle.arc_owners.specs.declared.count.tokens.Pass.{Pass}
@@ -8,6 +8,7 @@ use Rattle.arc_owners.specs.declared.memory.sole_box.SoleBox.{SoleBox}
 use Rattle.arc_owners.specs.memory.Boxes.{owner_in, value_of, place_in}
 use Rattle.arc_owners.specs.memory.SoleBoxes.{sole_in, sole_value, sole_place}
 use Rattle.arc_memory.specs.declared.frozen_places.FrozenPlaces.{FrozenPlaces}
+use Rattle.arc_memory.specs.declared.seen.Seen.{Seen}
 
 module _ {V A H : Type 0} {MAX : ℕ} {G : Ghosts H} where
   -- the same owner of the same value in the same place
@@ -27,6 +28,7 @@ pub record SplitsOwner {H : Type 0} (front_stays : Bool) (o : Owner) (old new : 
   pub stays : (if front_stays then front else back) ≡ o
   pub made : MakesAnother o old new (if front_stays then back else front)
 
--- the same items in the same memory
-abbrev pub IsSameRange : {T : Type 0} → FrozenPlaces T → FrozenPlaces T → Type 0
-IsSameRange r s = (s.memory ≡ r.memory) × (s.start ≡ r.start) × (s.items ≡ r.items)
+-- what is read are the items of these places
+abbrev pub IsRangeOf : {T C : Type 0} → FrozenPlaces T → Seen T C → Type 0
+IsRangeOf r s = (s.native ≡ true) × (s.memory ≡ r.memory) × (s.start ≡ r.start)
+    × (s.items ≡ r.items)

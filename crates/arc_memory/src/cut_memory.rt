@@ -17,13 +17,13 @@ use std::alloc::Allocator;
 /// before and behind them. So where the items begin, how many they are, and how many places the
 /// writer has are words of their own, and no call on the items reads anything else. It is neither
 /// copied nor dropped. To give its memory back it is made a `WriterMemory`.
-pub struct CutMemory<T: Drop, A: Allocator> {
+pub struct CutMemory<T: Drop, V: Drop, A: Allocator> {
     pub places: WriterPlaces<T>,
     pub before: Places<T>,
     pub behind: Places<T>,
     // How many items lie behind the writer's places.
     left: usize,
-    pub source: Source<T, A>,
+    pub source: Source<T, V, A>,
     ghost front: { (before.base ≡ places.under.base) × (before.whole ≡ places.under.whole)
         × (before.start ≡ 0) × (before.count ≡ places.under.start) },
     ghost back: { (behind.base ≡ places.under.base) × (behind.whole ≡ places.under.whole)
@@ -33,7 +33,7 @@ pub struct CutMemory<T: Drop, A: Allocator> {
     ghost from: { IsFrom source places.under.base places.under.whole } by { IsFrom-set source places.under.base places.under.whole },
 }
 
-impl<T: Drop, A: Allocator> CutMemory<T, A> {
+impl<T: Drop, V: Drop, A: Allocator> CutMemory<T, V, A> {
     ghost use Rattle.std.specs.Borrow.{sem};
     ghost use Rattle.arc_memory.specs.Sources.{IsPiece};
     ghost use Rattle.arc_memory.specs.CutMemories.{KeepsAll, KeepsOwn, SameCut, IsCutAt, IsCutOf};
@@ -51,7 +51,7 @@ impl<T: Drop, A: Allocator> CutMemory<T, A> {
 
     /// A writer's memory, of which the writer keeps the first `capacity` places.
     #[inline(always)]
-    pub fn of(memory: WriterMemory<T, A>, capacity: usize) -> Self
+    pub fn of(memory: WriterMemory<T, V, A>, capacity: usize) -> Self
         requires { (length memory.places.vec.items ≤ capacity)
             × (capacity ≤ memory.places.under.count) }
         ensures items { result.places.vec.items ≡ memory.places.vec.items }
@@ -74,7 +74,7 @@ impl<T: Drop, A: Allocator> CutMemory<T, A> {
     /// The memory with the writer's items; others are forgotten. The writer has all places behind
     /// its items.
     #[inline(always)]
-    pub fn into_own(self) -> WriterMemory<T, A>
+    pub fn into_own(self) -> WriterMemory<T, V, A>
         requires { KeepsOwn self }
         ensures items { result.places.vec.items ≡ self.places.vec.items }
         ensures memory { IsWholeOf self self.places.under.start result }
@@ -98,7 +98,7 @@ impl<T: Drop, A: Allocator> CutMemory<T, A> {
 
     /// The memory with all items, also those in places that aren't the writer's.
     #[inline(always)]
-    pub fn into_all(self) -> WriterMemory<T, A>
+    pub fn into_all(self) -> WriterMemory<T, V, A>
         requires { KeepsAll self }
         ensures items { result.places.vec.items
             ≡ self.before.items ++ (self.places.vec.items ++ self.behind.items) }
@@ -133,7 +133,7 @@ impl<T: Drop, A: Allocator> CutMemory<T, A> {
     /// The items, to be changed in their places: they are what is written there.
     #[inline(always)]
     pub fn as_mut_slice(&mut self) -> &mut [T]
-        ensures* writes_back { sem 𝓛 (LendsCut T.row A.row A.Allocator self.entry result) }
+        ensures* writes_back { sem 𝓛 (LendsCut T.row V.row A.row A.Allocator self.entry result) }
         ensures value { result.now ≡ self.old.places.vec.items }
     {
         self.places.as_mut_slice()
@@ -376,7 +376,7 @@ impl<T: Drop, A: Allocator> CutMemory<T, A> {
     }
 
     /// Other memory, which is empty, with the writer's items in the first of its places.
-    fn moved_over(self, larger: WriterMemory<T, A>) -> (Self, ())
+    fn moved_over(self, larger: WriterMemory<T, V, A>) -> (Self, ())
         requires own { KeepsOwn self }
         requires empty { larger.places.vec.items ≡ [] }
         requires room { length self.places.vec.items ≤ larger.places.under.count }
@@ -419,7 +419,7 @@ impl<T: Drop, A: Allocator> CutMemory<T, A> {
     }
 
     /// Other memory, which is empty and whole, with all items in the first of its places.
-    fn all_moved_over(self, larger: WriterMemory<T, A>) -> (Self, ())
+    fn all_moved_over(self, larger: WriterMemory<T, V, A>) -> (Self, ())
         requires all { KeepsAll self }
         requires last { length self.behind.items ≡ 0 }
         requires empty { larger.places.vec.items ≡ [] }
@@ -445,7 +445,7 @@ impl<T: Drop, A: Allocator> CutMemory<T, A> {
     }
 }
 
-impl<T: Copy + Drop, A: Allocator> CutMemory<T, A> {
+impl<T: Copy + Drop, V: Drop, A: Allocator> CutMemory<T, V, A> {
     ghost use Rattle.arc_memory.specs.CutMemories.{SameCut};
 
     /// Appends a copy of these items. There are places for them.

@@ -1,9 +1,10 @@
 //! Items in lent places that nobody changes again, for several readers.
 ghost use Rattle.std.specs.Prelude.{◌≡◌, ℕ, ◌+◌, ◌-◌, ◌^◌, ◌<◌, ◌≤◌, List};
-ghost use Rattle.std.specs.Prelude.{length, take, drop};
+ghost use Rattle.std.specs.Prelude.{length, take, drop, [], ◌∷◌};
 ghost use Rattle.arc_memory.specs.LentMemory.{LentMemory, lent_memory_code, frozen_owns};
 
 use arc_owners::lifetime::LifetimeToken;
+use arc_owners::owners::SharedBorrow;
 use std::marker::{Model, PhantomData};
 use std::slice;
 
@@ -31,6 +32,18 @@ impl<T> FrozenPlaces<T> {
             × (result.items ≡ self.now.items) }
     {
         FrozenPlaces {
+            marker: PhantomData,
+        }
+    }
+
+    /// The item that lies alone at the front, as what is lent for the lifetime.
+    pub fn alone(&self) -> SharedBorrow<T>
+        requires alone { (self.now.start ≡ 0) × (length self.now.items ≡ 1) }
+        ensures place { (result.at ≡ self.now.memory.base)
+            × (result.lifetime ≡ self.now.memory.lifetime) }
+        ensures value { self.now.items ≡ result.value ∷ [] }
+    {
+        SharedBorrow {
             marker: PhantomData,
         }
     }

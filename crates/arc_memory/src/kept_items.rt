@@ -6,10 +6,9 @@ ghost use Rattle.arc_memory.specs.LentMemory.{LentMemory-set};
 use crate::base::Base;
 use crate::frozen_places::FrozenPlaces;
 use crate::head_size::HeadSize;
-use crate::kept::Kept;
 use crate::kept_places::KeptPlaces;
 use crate::writer_memory::WriterMemory;
-use arc_owners::lifetime::EndedLifetime;
+use arc_owners::lifetime::{EndedLifetime, LifetimeToken};
 use arc_owners::owners::{Header, HeaderRoom};
 use std::alloc::Allocator;
 
@@ -56,15 +55,25 @@ impl<T: Drop, A: Allocator> KeptItems<T, A> {
         self.kept.piece.count()
     }
 
+    /// The items, for as long as a share of the lifetime is borrowed. It reads no memory beside
+    /// this.
+    #[inline(always)]
+    pub fn as_slice<'a>(&'a self, share: &'a LifetimeToken) -> &'a [T]
+        requires { share.now.lifetime ≡ self.now.full.memory.lifetime }
+        ensures { result.now ≡ self.now.full.items }
+    {
+        unsafe { self.full.as_slice(share, self.base.at, 0, self.len) }
+    }
+
     /// All items, once the lifetime has ended, with their memory, and the room for its header, for
     /// its only writer. No item is moved, and no memory read.
     #[inline(always)]
-    pub fn regain(
+    pub fn regain<V: Drop>(
         self,
         ended: EndedLifetime,
-        room: HeaderRoom<Header<Kept<T, A>>>,
-        head: HeadSize<Header<Kept<T, A>>>,
-    ) -> WriterMemory<T, A>
+        room: HeaderRoom<Header<V>>,
+        head: HeadSize<Header<V>>,
+    ) -> WriterMemory<T, V, A>
         requires ended { ended.lifetime ≡ self.kept.inheritance.memory.lifetime }
         requires room { IsRoomOf room head.size self.kept.piece }
         ensures items { result.places.vec.items ≡ self.full.items }

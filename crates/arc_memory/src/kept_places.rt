@@ -5,7 +5,6 @@ ghost use Rattle.arc_memory.specs.PieceParts.{IsInheritanceOfPiece};
 
 use crate::frozen_places::FrozenPlaces;
 use crate::head_size::HeadSize;
-use crate::kept::Kept;
 use crate::lent_places::{LentPlaces, PlacesInheritance};
 use crate::piece::Piece;
 use crate::places::Places;
@@ -114,16 +113,16 @@ impl<T: Drop, A: Allocator> KeptPlaces<T, A> {
     ///
     /// The places begin at `base`, the part at number `start`, and `len` items lie in it.
     #[inline(always)]
-    pub unsafe fn regain_writer(
+    pub unsafe fn regain_writer<V: Drop>(
         self,
         ended: EndedLifetime,
         part: LentPlaces<T>,
-        room: HeaderRoom<Header<Kept<T, A>>>,
-        head: HeadSize<Header<Kept<T, A>>>,
+        room: HeaderRoom<Header<V>>,
+        head: HeadSize<Header<V>>,
         base: *const T,
         start: usize,
         len: usize,
-    ) -> WriterMemory<T, A>
+    ) -> WriterMemory<T, V, A>
         requires ended { ended.lifetime ≡ self.inheritance.memory.lifetime }
         requires part { part.memory ≡ self.inheritance.memory }
         requires room { IsRoomOf room head.size self.piece }
@@ -148,16 +147,16 @@ impl<T: Drop, A: Allocator> KeptPlaces<T, A> {
     ///
     /// The places begin at `base`, the range at number `start`, and it has `len` items.
     #[inline(always)]
-    pub unsafe fn regain_frozen_writer(
+    pub unsafe fn regain_frozen_writer<V: Drop>(
         self,
         ended: EndedLifetime,
         range: &FrozenPlaces<T>,
-        room: HeaderRoom<Header<Kept<T, A>>>,
-        head: HeadSize<Header<Kept<T, A>>>,
+        room: HeaderRoom<Header<V>>,
+        head: HeadSize<Header<V>>,
         base: *const T,
         start: usize,
         len: usize,
-    ) -> WriterMemory<T, A>
+    ) -> WriterMemory<T, V, A>
         requires ended { ended.lifetime ≡ self.inheritance.memory.lifetime }
         requires range { range.now.memory ≡ self.inheritance.memory }
         requires room { IsRoomOf room head.size self.piece }

@@ -7,7 +7,8 @@
 //! (`FrozenPlaces`).
 //!
 //! Memory that is lent for the lease of a block's owners has several writers (`WriterPart`) and
-//! readers (`FrozenReader`). What is kept for the end of the lease is in the counted box (`Kept`).
+//! readers (`FrozenReader`, who read by `Seen`). What is kept for the end of the lease is in the
+//! counted box (`Kept`).
 //!
 //! The library's own memory is one piece (`Piece`): in front is the room for a header, in which
 //! that box lies, and behind it are the places. One writer has it (`WriterMemory`). The writer
@@ -32,6 +33,7 @@ pub use native::Native;
 pub use open_writer::OpenWriter;
 pub use piece::Piece;
 pub use places::Places;
+pub use seen::Seen;
 pub use shared_writer::SharedWriter;
 pub use source::{PieceWithRoom, Source};
 pub use writer_memory::WriterMemory;
@@ -58,6 +60,7 @@ mod piece_right;
 mod place_arrays;
 mod place_slots;
 mod places;
+mod seen;
 mod shared_writer;
 mod source;
 mod writer_memory;

@@ -270,13 +270,14 @@ impl<T, V: Drop, A: Allocator + Copy, const MAX: u64, H: Mark> SharedWriter<T, V
 
     /// A reader of the items for as long as the block is lent: nobody changes them again. Other
     /// writers go on. The places behind them are given up. It adds no entry and takes no memory.
-    pub fn freeze(self) -> FrozenReader<T, V, A, MAX, H>
+    pub fn freeze<C>(self) -> FrozenReader<T, C, V, A, MAX, H>
         ensures owner { (owner_in result.owner ≡ writer_owner self)
             × (value_of result.owner ≡ writer_value self)
             × (place_in result.owner ≡ writer_place self) }
-        ensures range { (result.range.memory ≡ (writer_range self).memory)
-            × (result.range.start ≡ (writer_range self).start)
-            × (result.range.items ≡ writer_items self) }
+        ensures range { (result.seen.native ≡ true)
+            × (result.seen.memory ≡ (writer_range self).memory)
+            × (result.seen.start ≡ (writer_range self).start)
+            × (result.seen.items ≡ writer_items self) }
     {
         let len = self.places.len();
         self.into_part().freeze(len)

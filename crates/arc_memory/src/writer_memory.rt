@@ -5,7 +5,6 @@ ghost use Rattle.arc_memory.specs.Sources.{IsFrom, IsFrom-set};
 
 use crate::allocation::take_apart;
 use crate::head_size::HeadSize;
-use crate::kept::Kept;
 use crate::kept_places::KeptPlaces;
 use crate::lent_places::LentPlaces;
 use crate::piece::Piece;
@@ -21,13 +20,13 @@ use std::mem;
 use std::mem::ManuallyDrop;
 use std_alloc::vec::Lodged;
 
-/// All places of one piece of memory, for one writer, the room for the piece's header, and the
-/// right to free it; or no places, and no memory. The first places may be empty: the writer's own
-/// begin behind them. Dropped, it drops each item and frees the memory.
-pub struct WriterMemory<T: Drop, A: Allocator> {
+/// All places of one piece of memory, for one writer, the room for the piece's header, which holds
+/// a V, and the right to free it; or no places, and no memory. The first places may be empty: the
+/// writer's own begin behind them. Dropped, it drops each item and frees the memory.
+pub struct WriterMemory<T: Drop, V: Drop, A: Allocator> {
     pub before: Places<T>,
     pub places: WriterPlaces<T>,
-    pub source: Source<T, A>,
+    pub source: Source<T, V, A>,
     ghost front: { (before.base ≡ places.under.base) × (before.whole ≡ places.under.whole)
         × (before.start ≡ 0) × (before.count ≡ places.under.start) },
     ghost unused: { length before.items ≡ 0 },
@@ -35,12 +34,12 @@ pub struct WriterMemory<T: Drop, A: Allocator> {
     ghost from: { IsFrom source places.under.base places.under.whole } by { IsFrom-set source places.under.base places.under.whole },
 }
 
-impl<T: Drop, A: Allocator> WriterMemory<T, A> {
+impl<T: Drop, V: Drop, A: Allocator> WriterMemory<T, V, A> {
     ghost use Rattle.std.specs.Borrow.{sem};
     ghost use Rattle.arc_memory.specs.PieceParts.{AreAllOfPiece, IsRoomOf};
     ghost use Rattle.arc_memory.specs.Sources.{IsPiece};
     ghost use Rattle.arc_memory.specs.LendsPlaces.{LendsMemory};
-    ghost use Rattle.arc_memory.specs.WriterMemories.{SameMemory};
+    ghost use Rattle.arc_memory.specs.WriterMemories.{SameMemory, IsOnePlace};
 
     /// No places, and no memory. Nothing is asked of an allocator.
     pub fn nothing() -> Self
@@ -103,7 +102,7 @@ impl<T: Drop, A: Allocator> WriterMemory<T, A> {
     pub(crate) unsafe fn of(
         before: Places<T>,
         places: Places<T>,
-        source: PieceWithRoom<T, A>,
+        source: PieceWithRoom<T, V, A>,
         base: *const T,
         start: usize,
         len: usize,
@@ -145,6 +144,49 @@ impl<T: Drop, A: Allocator> WriterMemory<T, A> {
             Ok(memory) => Ok(memory.with_array(items)),
             Err(_) => Err(items),
         }
+    }
+
+    /// One item, in new memory that has one place.
+    ///
+    /// # Errors
+    ///
+    /// The item, where `new` answers `AllocError`.
+    ///
+    /// # Allocates
+    ///
+    /// Once.
+    pub fn of_one(alloc: A, item: T) -> Result<Self, T>
+        ensures items { IfOk result (λ m. m.places.vec.items ≡ item ∷ []) }
+        ensures memory { IfOk result (λ m. IsOnePlace m) }
+        ensures refused { IfErr result (λ back. back ≡ item) }
+    {
+        match Self::new(alloc, 1) {
+            Ok(mut memory) => {
+                memory.push_reserved(item);
+                Ok(memory)
+            }
+            Err(_) => Err(item),
+        }
+    }
+
+    /// The item that lies alone. Its memory is freed.
+    #[tactic(auto, using(crate::proofs::Alone::alone))]
+    pub fn into_one(self) -> T
+        requires { length self.places.vec.items ≡ 1 }
+        ensures { self.places.vec.items ≡ result ∷ [] }
+    {
+        let mut memory = self;
+        memory.take_last()
+    }
+
+    /// The last item, whose place is empty from then on.
+    pub fn take_last(&mut self) -> T
+        requires { 0 < length self.old.places.vec.items }
+        ensures items { self.old.places.vec.items
+            ≡ self.new.places.vec.items ++ result ∷ [] }
+        ensures memory { SameMemory self.old self.new }
+    {
+        self.places.take_last()
     }
 
     /// This memory, which is empty and has as many places as the array items, with these.
@@ -254,7 +296,7 @@ impl<T: Drop, A: Allocator> WriterMemory<T, A> {
     #[inline(always)]
     pub fn as_mut_part(&mut self, start: usize, end: usize) -> &mut [T]
         requires { (start ≤ end) × (end ≤ length self.old.places.vec.items) }
-        ensures* writes_back { sem 𝓛 (LendsMemory T.row A.row A.Allocator start self.entry
+        ensures* writes_back { sem 𝓛 (LendsMemory T.row V.row A.row A.Allocator start self.entry
             result) }
         ensures value { result.now ≡ slice_range self.old.places.vec.items start end }
     {
@@ -341,7 +383,7 @@ impl<T: Drop, A: Allocator> WriterMemory<T, A> {
 
     /// The empty places before the writer's, his own, and where they come from.
     #[inline(always)]
-    pub(crate) fn into_parts(self) -> (Places<T>, WriterPlaces<T>, Source<T, A>)
+    pub(crate) fn into_parts(self) -> (Places<T>, WriterPlaces<T>, Source<T, V, A>)
         ensures before { result.0 ≡ self.before }
         ensures places { result.1 ≡ self.places }
         ensures source { result.2 ≡ self.source }
@@ -371,8 +413,8 @@ impl<T: Drop, A: Allocator> WriterMemory<T, A> {
     ) -> (
         LentPlaces<T>,
         KeptPlaces<T, A>,
-        HeaderRoom<Header<Kept<T, A>>>,
-        HeadSize<Header<Kept<T, A>>>,
+        HeaderRoom<Header<V>>,
+        HeadSize<Header<V>>,
     )
         requires piece { IsPiece self.source }
         ensures part { (result.0.start ≡ self.places.under.start)
@@ -399,7 +441,7 @@ impl<T: Drop, A: Allocator> WriterMemory<T, A> {
     }
 }
 
-impl<T: Copy + Drop, A: Allocator> WriterMemory<T, A> {
+impl<T: Copy + Drop, V: Drop, A: Allocator> WriterMemory<T, V, A> {
     ghost use Rattle.arc_memory.specs.Sources.{IsPiece};
     ghost use Rattle.arc_memory.specs.WriterMemories.{SameMemory};
 
@@ -471,7 +513,7 @@ impl<T: Copy + Drop, A: Allocator> WriterMemory<T, A> {
     }
 }
 
-impl<T: Drop, A: Allocator> Drop for WriterMemory<T, A> {
+impl<T: Drop, V: Drop, A: Allocator> Drop for WriterMemory<T, V, A> {
     fn drop(self) {
         let WriterMemory {
             before,

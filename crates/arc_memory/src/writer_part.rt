@@ -11,6 +11,7 @@ use crate::frozen_reader::FrozenReader;
 use crate::lent_places::LentPlaces;
 use crate::open_writer::OpenWriter;
 use crate::places::Places;
+use crate::seen::Seen;
 use arc_owners::error::CountFull;
 use arc_owners::lifetime::{EndedLifetime, LifetimeToken};
 use arc_owners::mark::Mark;
@@ -229,18 +230,22 @@ impl<T, V: Drop, A: Allocator + Copy, const MAX: u64, H: Mark> WriterPart<T, V, 
     /// A reader of the items, of which there are `len`, for as long as the block is lent: nobody
     /// changes them again. Other writers go on. The places behind them are given up. It adds no
     /// entry and takes no memory.
-    pub fn freeze(self, len: usize) -> FrozenReader<T, V, A, MAX, H>
+    pub fn freeze<C>(self, len: usize) -> FrozenReader<T, C, V, A, MAX, H>
         requires len { len ≡ length self.part.items }
         ensures owner { result.owner ≡ self.owner }
-        ensures range { (result.range.memory ≡ self.part.memory)
-            × (result.range.start ≡ self.part.start)
-            × (result.range.items ≡ self.part.items) }
+        ensures range { (result.seen.native ≡ true)
+            × (result.seen.memory ≡ self.part.memory)
+            × (result.seen.start ≡ self.part.start)
+            × (result.seen.items ≡ self.part.items) }
     {
         let WriterPart { owner, part } = self;
         let (front, back) = part.split(len);
         back.give_up();
         let range = front.freeze(owner.lifetime());
-        FrozenReader { owner, range }
+        FrozenReader {
+            owner,
+            seen: Seen::of_frozen(&range),
+        }
     }
 }
 

@@ -142,6 +142,15 @@ impl<T> WriterPlaces<T> {
         self.vec.push_reserved(item);
     }
 
+    /// The last item, whose place is empty from then on.
+    pub fn take_last(&mut self) -> T
+        requires { 0 < length self.old.vec.items }
+        ensures items { self.old.vec.items ≡ self.new.vec.items ++ result ∷ [] }
+        ensures places { SamePlaces self.old self.new }
+    {
+        self.vec.take_last()
+    }
+
     /// Moves all items of another writer's places behind those that are here, where there are
     /// places for them.
     pub fn take_items(&mut self, other: &mut WriterPlaces<T>)

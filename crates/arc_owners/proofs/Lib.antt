@@ -11,3 +11,4 @@ pub use Rattle.arc_owners.proofs.memory.Endings
 pub use Rattle.arc_owners.proofs.memory.LentSlices
 pub use Rattle.arc_owners.proofs.memory.OwnerShares
 pub use Rattle.arc_owners.proofs.memory.References
+pub use Rattle.arc_owners.proofs.memory.ShownSlices

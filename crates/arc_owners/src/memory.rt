@@ -22,6 +22,7 @@ pub use counted_box_without_lifetime::CountedBoxWithoutLifetime;
 pub use header_room::HeaderRoom;
 pub use laid_box::Header;
 pub use lent_value::LentValue;
+pub use shared_borrow::SharedBorrow;
 pub use shown::Shown;
 pub use shows::Shows;
 pub use sole_box::SoleBox;

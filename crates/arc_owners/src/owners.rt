@@ -5,5 +5,6 @@ pub use crate::count::{
 };
 pub use crate::history::{Entry, Event, World, is_run, keeps, replay, replay_lone};
 pub use crate::memory::{
-    CountedBox, CountedBoxWithoutLifetime, Header, HeaderRoom, Shown, Shows, SoleBox, SoleCount,
+    CountedBox, CountedBoxWithoutLifetime, Header, HeaderRoom, SharedBorrow, Shown, Shows, SoleBox,
+    SoleCount,
 };

@@ -1,6 +1,6 @@
 -- What is known of parts fits what was given.
-use Rattle.std.proofs.Common.{◌≡◌, ℕ, ◌+◌, ◌≤◌, Bool, List, length, Option, Some, None, sym, ap, ◌∙◌}
-use Rattle.std.proofs.Common.{subst, arith}
+use Rattle.std.proofs.Common.{◌≡◌, ℕ, ◌+◌, ◌-◌, ◌≤◌, Bool, true, false, List, length, Option, Some}
+use Rattle.std.proofs.Common.{None, sym, ap, ◌∙◌, subst, arith}
 use Rattle.arc_buffer.specs.Slice.{sub}
 use Rattle.arc_buffer.proofs.Sub.{length-sub}
 use Rattle.arc_owners.specs.count.Calls.{Owner}
@@ -9,19 +9,16 @@ use Rattle.arc_block.specs.Contents.{content_info, held_in}
 use Rattle.arc_block.specs.declared.block.content.Content.{Content}
 use Rattle.arc_block.specs.Given.{Given, buffer_of}
 use Rattle.arc_block.specs.Place.{buffer_at}
-use Rattle.arc_block.specs.Metadata.{FitsGiven, FitsPart, FitsGivenAt}
-use Rattle.arc_parts.specs.declared.storage.Storage.TheVariants.{Nothing, Static, Native, Block}
-use Rattle.arc_parts.specs.declared.storage.Storage.TheVariants.{Raw}
-use Rattle.arc_parts.specs.Window.{PartsView, StandsBy, parts_of, window_seen, IsWithin}
+use Rattle.arc_block.specs.Metadata.{FitsGiven, FitsPart, FitsGivenAt, IsCallers}
+use Rattle.arc_parts.specs.declared.storage.Storage.TheVariants.{Free, Block, Raw}
+use Rattle.arc_parts.specs.Window.{PartsView, StandsBy, parts_of, free_part, window_seen, IsWithin}
 use Rattle.arc_parts.specs.Window.{FitsStorage}
 
 module _ {T B M : Type 0} (list : B → List T) (places : B → ℕ) where
-  -- a part of what a block keeps
-  part-fits : (given : Option (Given B M)) (info : BlockInfo (Given B M)) (xs : List T)
-      (from to : ℕ) → from ≤ to → to ≤ length xs → FitsGiven list places given info xs
-      → FitsPart list places given info from (sub xs from to)
-  part-fits None info xs from to ordered inside fits = fits
-  part-fits (Some held) info xs from to ordered inside fits =
+  whole-fits : (held : Given B M) (info : BlockInfo (Given B M)) (xs : List T) (from to : ℕ)
+      → from ≤ to → to ≤ length xs → FitsGiven list places (Some held) info xs
+      → FitsPart list places (Some held) info from (sub xs from to)
+  whole-fits held info xs from to ordered inside fits =
       let last : from + length (sub xs from to) ≡ to =
       omega (arith, length-sub xs from to ordered inside, ordered) in (
         fits.0,
@@ -31,15 +28,35 @@ module _ {T B M : Type 0} (list : B → List T) (places : B → ℕ) where
         fits.3,
       )
 
+  -- a part of what a block keeps, whose places are counted from the first one on that is read
+  part-fits : (given : Option (Given B M)) (info : BlockInfo (Given B M)) (xs : List T)
+      (first from to : ℕ) → from ≤ to → to ≤ first + length xs
+      → FitsGiven list places given info xs → (IsCallers info.sort → first ≡ 0)
+      → FitsPart list places given info from (sub xs (from - first) (to - first))
+  part-fits None info xs first from to ordered inside fits front = fits
+  part-fits (Some held) info xs first from to ordered inside fits front =
+      let zero : first ≡ 0 = front fits.0 in
+      let starts : from - first ≡ from = omega (arith, zero) in
+      let ends : to - first ≡ to = omega (arith, zero) in
+      let P : ℕ → ℕ → Type 0 = λ a b. FitsPart list places (Some held) info from (sub xs a b) in
+      subst (λ a. P a (to - first)) (sym starts)
+      (subst (λ b. P from b) (sym ends)
+      (whole-fits held info xs from to ordered (omega (arith, inside, zero)) fits))
+
+  free-fits : (there : Bool) (items : List T) (from to : ℕ)
+      → (λ (p : PartsView T (Given B M)). FitsGivenAt list places p.place p.items)
+      (parts_of (free_part there items from to))
+  free-fits false items from to = tt
+  free-fits true items from to = tt
+
   stands-fits : (inner : StandsBy T (Given B M)) (from to : ℕ) → IsWithin inner from to
       → FitsStorage list places inner
       → (λ (p : PartsView T (Given B M)). FitsGivenAt list places p.place p.items)
       (parts_of (window_seen inner from to))
-  stands-fits (Nothing none) from to within fits = tt
-  stands-fits (Static items) from to within fits = tt
-  stands-fits (Native b) from to within fits = λ callers. callers
+  stands-fits (Free free) from to within fits = free-fits free.there free.items from to
   stands-fits (Block b) from to within fits =
-      part-fits b.facts.given b.facts b.items from to within.0 within.1 fits
+      part-fits b.facts.given b.facts b.items b.first from to within.0.ordered within.0.to fits.0
+      fits.1
   stands-fits (Raw shared) from to within fits =
       let last : from + length (sub shared.items from to) ≡ to =
       omega (arith, length-sub shared.items from to within.0 within.1, within.0) in (

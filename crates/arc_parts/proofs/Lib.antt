@@ -5,3 +5,5 @@ pub mod GivenParts
 pub mod Held
 pub mod Attempts
 pub mod More
+pub mod SoleSorts
+pub mod Taken

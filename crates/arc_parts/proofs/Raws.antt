@@ -10,6 +10,7 @@ use Rattle.arc_buffer.proofs.Sub.{sub-sub, sub-whole, length-sub}
 use Rattle.arc_block.specs.Block.{Sort, BlockView, raw, raw_info, raw_block}
 use Rattle.arc_block.specs.Layouts.{LayoutFacts}
 use Rattle.arc_block.specs.Place.{Place, nowhere, on_block, part_place, owned_by, given_at}
+use Rattle.arc_block.specs.Table.{reader}
 use Rattle.arc_parts.specs.declared.storage.Storage.TheVariants.{Block, Raw}
 use Rattle.arc_parts.specs.Window.{PartsView, StandsBy, parts_of, window_seen, IsWithin, IsHeld}
 use Rattle.arc_parts.specs.Window.{IsAllFull, IsRawWhole, RawView}
@@ -81,6 +82,13 @@ module _ {T M : Type 0} (inner : StandsBy T M) (from to : ℕ) (p : PartsView T 
         role = p.role;
       }
   counted_seen b shared same made =
+      let make : List T → PartsView T M = λ xs. record {
+        items = xs;
+        place = on_block (Some b.owner) from (raw_info (length all.items) (Some all.given));
+        role = reader;
+      } in
+      let front : from - 0 ≡ from = omega arith in
+      let back : to - 0 ≡ to = omega arith in
       let P : PartsView T M → Type 0 = λ v.
       parts_of (window_seen (Block b) from to) ≡ record {
         items = v.items;
@@ -89,4 +97,6 @@ module _ {T M : Type 0} (inner : StandsBy T M) (from to : ℕ) (p : PartsView T 
       } in
       subst P (sym on_raw_seen) (ap (λ x. parts_of (window_seen (Block x) from to)) made
       ∙ ap (λ (s : RawView T M).
-      parts_of (window_seen (Block (raw_block s.items s.given b.owner)) from to)) same)
+      parts_of (window_seen (Block (raw_block s.items s.given b.owner)) from to)) same
+      ∙ ap (λ n. make (sub all.items n (to - 0))) front
+      ∙ ap (λ n. make (sub all.items from n)) back)

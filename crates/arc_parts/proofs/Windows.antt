@@ -9,21 +9,20 @@ use Rattle.arc_owners.specs.history.Histories.{Counted}
 use Rattle.arc_owners.specs.declared.count.tokens.Pass.{Pass}
 use Rattle.arc_owners.specs.count.Calls.{Owner, IsFirst, MakesAnother, Asks}
 use Rattle.arc_buffer.specs.Slice.{sub}
-use Rattle.arc_buffer.proofs.Sub.{sub-sub, length-sub}
+use Rattle.arc_buffer.proofs.Sub.{sub-sub, sub-whole, length-sub}
 use Rattle.arc_block.specs.Block.{BlockInfo, BlockView, vector, memory_info, native_facts, raw_info}
 use Rattle.arc_block.specs.declared.block.TheConstants.{MAX_OWNERS}
 use Rattle.arc_block.specs.Place.{Place, nowhere, static_data, on_block, moved, part_place}
 use Rattle.arc_block.specs.Place.{at_owner}
-use Rattle.arc_block.specs.Natives.{NativeView, native_info}
 use Rattle.arc_block.specs.Table.{reader}
-use Rattle.arc_parts.specs.declared.storage.Storage.TheVariants.{Nothing, Static, Native, Block}
-use Rattle.arc_parts.specs.declared.storage.Storage.TheVariants.{Raw}
+use Rattle.arc_parts.specs.declared.storage.FreeItems.{FreeItems}
+use Rattle.arc_parts.specs.declared.storage.Storage.TheVariants.{Free, Block, Raw}
 use Rattle.arc_parts.specs.Window.{Window, PartsView, StandsBy, NeedsBlock, parts_of, window_of}
-use Rattle.arc_parts.specs.Window.{window_seen, IsWithin}
+use Rattle.arc_parts.specs.Window.{window_seen, free_part, IsWithin, IsFreePart}
 use Rattle.arc_parts.specs.Steps.{Shares, Makes, MakesOfVec, NeedsVecBlock, RefusesTaking}
 
--- the part of a part of a native block, by the numbers of its places
-pub part-of-part : {T : Type 0} (b : NativeView T) (from to start end : ℕ) → b.first ≤ from
+-- the part of a part of a block, by the numbers of its places
+pub part-of-part : {T M : Type 0} (b : BlockView T M) (from to start end : ℕ) → b.first ≤ from
     → from + end ≤ to → sub b.items ((from + start) - b.first) ((from + end) - b.first)
     ≡ sub (sub b.items (from - b.first) (to - b.first)) start end
 part-of-part b from to start end after inside =
@@ -34,13 +33,12 @@ part-of-part b from to start end after inside =
     ∙ ap (λ n. sub b.items ((from + start) - b.first) n) last)
 
 module _ {T M : Type 0} where
-  -- how many items there are
-  pub how_long : (inner : StandsBy T M) (from to : ℕ) (p : PartsView T M)
-      → parts_of (window_seen inner from to) ≡ p → IsWithin inner from to
+  free-long : (there : Bool) (items : List T) (from to : ℕ) (p : PartsView T M)
+      → parts_of (free_part there items from to) ≡ p → IsFreePart there items from to
       → from + length p.items ≡ to
-  how_long (Nothing none) from to p view within =
+  free-long false items from to p view within =
       omega (arith, ap (λ (v : PartsView T M). length v.items) view, within.0, within.1)
-  how_long (Static items) from to p view within =
+  free-long true items from to p view within =
       omega (
         arith,
         ap (λ (v : PartsView T M). length v.items) view,
@@ -48,7 +46,14 @@ module _ {T M : Type 0} where
             within.0 within.1,
         within.0,
       )
-  how_long (Native b) from to p view within =
+
+  -- how many items there are
+  pub how_long : (inner : StandsBy T M) (from to : ℕ) (p : PartsView T M)
+      → parts_of (window_seen inner from to) ≡ p → IsWithin inner from to
+      → from + length p.items ≡ to
+  how_long (Free free) from to p view within =
+      free-long free.there free.items from to p view within
+  how_long (Block b) from to p view within =
       let f = within.0.from in let o = within.0.ordered in let t = within.0.to in
       omega (
         arith,
@@ -56,14 +61,6 @@ module _ {T M : Type 0} where
         length-sub b.items (from - b.first) (to - b.first) (omega (arith, f, o)) (omega (arith, t)),
         f,
         o,
-      )
-  how_long (Block b) from to p view within =
-      omega (
-        arith,
-        ap (λ (v : PartsView T M). length v.items) view,
-        length-sub b.items from to
-            within.0 within.1,
-        within.0,
       )
   how_long (Raw shared) from to p view within =
       omega (
@@ -100,17 +97,11 @@ module _ {T M : Type 0} where
   kept_by inner from start end view = subst (λ (v : PartsView T M).
       parts_of (window_seen inner (from + start) (from + end)) ≡ between_ends start end v) view
 
-  -- and is seen as the items between them, that much further in
-  pub kept_seen : (inner : StandsBy T M) (from to start end : ℕ) (p : PartsView T M)
-      → parts_of (window_seen inner from to) ≡ p → IsWithin inner from to → start ≤ end
-      → from + end ≤ to
-      → parts_of (window_seen inner (from + start) (from + end)) ≡ record {
-        items =
-            sub p.items start end;
-        place = moved start p.place;
-        role = p.role;
-      }
-  kept_seen (Nothing none) from to start end p view within ordered inside =
+  free-kept : (there : Bool) (items : List T) (from to start end : ℕ)
+      → IsFreePart there items from to → start ≤ end → from + end ≤ to
+      → ◌≡◌ {A = PartsView T M} (parts_of (free_part there items (from + start) (from + end)))
+      (between_ends start end (parts_of (free_part there items from to)))
+  free-kept false items from to start end within ordered inside =
       let nil : List T = [] in
       let empty : sub nil start end ≡ [] = nil_from_length (sub nil start end)
       (omega (
@@ -121,22 +112,29 @@ module _ {T M : Type 0} where
         within.1,
         inside,
       )) in
-      kept_by (Nothing none) from start end view
-      (ap (λ xs. record { items = xs; place = nowhere; role = reader }) (sym empty))
-  kept_seen (Static items) from to start end p view within ordered inside =
-      kept_by (Static items) from start end view
-      (ap (λ xs. record { items = xs; place = static_data; role = reader })
-      (sym (sub-sub items from to start end inside)))
-  kept_seen (Native b) from to start end p view within ordered inside =
-      let there : Place (Option Owner) M = on_block (Some b.owner) (from + start) (native_info b) in
-      kept_by (Native b) from start end view
-      (ap (λ xs. record { items = xs; place = there; role = reader })
-      (part-of-part b from to start end within.0.from inside))
+      ap (λ xs. record { items = xs; place = nowhere; role = reader }) (sym empty)
+  free-kept true items from to start end within ordered inside =
+      ap (λ xs. record { items = xs; place = static_data; role = reader })
+      (sym (sub-sub items from to start end inside))
+
+  -- and is seen as the items between them, that much further in
+  pub kept_seen : (inner : StandsBy T M) (from to start end : ℕ) (p : PartsView T M)
+      → parts_of (window_seen inner from to) ≡ p → IsWithin inner from to → start ≤ end
+      → from + end ≤ to
+      → parts_of (window_seen inner (from + start) (from + end)) ≡ record {
+        items =
+            sub p.items start end;
+        place = moved start p.place;
+        role = p.role;
+      }
+  kept_seen (Free free) from to start end p view within ordered inside =
+      kept_by (Free free) from start end view
+      (free-kept free.there free.items from to start end within ordered inside)
   kept_seen (Block b) from to start end p view within ordered inside =
       let there : Place (Option Owner) M = on_block (Some b.owner) (from + start) b.facts in
       kept_by (Block b) from start end view
       (ap (λ xs. record { items = xs; place = there; role = reader })
-      (sym (sub-sub b.items from to start end inside)))
+      (part-of-part b from to start end within.0.from inside))
   kept_seen (Raw shared) from to start end p view within ordered inside =
       let there : Place (Option Owner) M = on_block None (from + start)
       (raw_info (length shared.items) (Some shared.given)) in
@@ -144,84 +142,41 @@ module _ {T M : Type 0} where
       (ap (λ xs. record { items = xs; place = there; role = reader })
       (sym (sub-sub shared.items from to start end inside)))
 
--- parts that stand on a block b
-module _ {T M : Type 0} (inner : StandsBy T M) (from to : ℕ) (p : PartsView T M) (b : BlockView T M)
-    (view : parts_of (window_seen inner from to) ≡ p) (is : inner ≡ Block b)
-    (within : IsWithin inner from to) where
-  here : IsWithin (Block b) from to
-  here = subst (λ x. IsWithin x from to) is within
-
-  on_block_seen : p ≡ parts_of (window_seen (Block b) from to)
-  on_block_seen = sym view ∙ ap (λ x. parts_of (window_seen x from to)) is
-
-  -- there are as many as lie between the ends
-  pub between : length p.items ≡ to - from
-  between = ap (λ (v : PartsView T M). length v.items) on_block_seen
-      ∙ length-sub b.items from to here.0 here.1
-
-  module _ (has_static : Bool) (start end : ℕ) (ordered : start ≤ end)
-      (inside : end ≤ length p.items) (kept : (has_static && ((end - start) == 0)) ≡ false) where
-    upto : from + end ≤ to
-    upto = omega (arith, inside, between, here.0)
-
-    -- a part of them is seen as a part
-    part_seen : parts_of (window_seen (Block b) (from + start) (from + end)) ≡ record {
-      items =
-          sub p.items start end;
-      place =
-          part_place has_static (sub p.items start end) start p.place;
+-- all of a block whose owner reads it from the front on
+pub whole_seen : {T M : Type 0} (b : BlockView T M) (end : ℕ) → b.first ≡ 0
+    → end ≡ length b.items → parts_of (window_seen (Block b) 0 end) ≡ record {
+      items = b.items;
+      place = on_block (Some b.owner) 0 b.facts;
       role = reader;
     }
-    part_seen =
-        let parts : sub b.items (from + start) (from + end) ≡ sub (sub b.items from to) start
-        end = sym (sub-sub b.items from to start end upto) in
-        let whole : length (sub b.items from to) ≡ to - from = length-sub b.items from to here.0
-        here.1 in
-        let long : length (sub (sub b.items from to) start end) ≡ end - start = length-sub
-        (sub b.items from to) start end ordered (omega (arith, inside, between, whole)) in
-        let there : Place (Option Owner) M = on_block (Some b.owner) (from + start) b.facts in
-        let P : PartsView T M
-        → Type 0 = λ v. parts_of (window_seen (Block b) (from + start) (from + end)) ≡ record {
-          items = sub v.items start end;
-          place =
-              part_place has_static (sub v.items start end) start v.place;
-          role = reader;
-        } in
-        subst P (sym on_block_seen)
-        (ap (λ xs. record { items = xs; place = there; role = reader }) parts
-        ∙ ap (λ t. record {
-          items = sub (sub b.items from to) start end;
-          place =
-              if t then nowhere else there;
-          role =
-              reader;
-        }) (sym (ap (λ n. has_static && (n == 0)) long ∙ kept)))
+whole_seen {T} {M} b end first all =
+    let make : List T → PartsView T M = λ xs. record {
+      items = xs;
+      place = on_block (Some b.owner) 0 b.facts;
+      role = reader;
+    } in
+    let from : 0 - b.first ≡ 0 = omega (arith, first) in
+    let to : end - b.first ≡ length b.items = omega (arith, first, all) in
+    ap (λ n. make (sub b.items n (end - b.first))) from
+    ∙ ap (λ n. make (sub b.items 0 n)) to ∙ ap make (sub-whole b.items)
 
-    -- also as parts of another owner
-    module _ (b' : BlockView T M) (items : b'.items ≡ b.items) (facts : b'.facts ≡ b.facts) where
-      pub part_items : (window_seen (Block b') (from + start) (from + end)).items ≡ sub p.items
-          start end
-      part_items = ap (λ xs. sub xs (from + start) (from + end)) items
-          ∙ ap (λ (v : PartsView T M). v.items) part_seen
+pub whole_within : {T M : Type 0} (b : BlockView T M) (end : ℕ) → b.first ≡ 0
+    → end ≡ length b.items → length b.items ≤ b.facts.size
+    → IsWithin {T = T} {M = M} (Block b) 0 end
+whole_within b end first all fit = (
+  record {
+    from = omega (arith, first);
+    ordered = omega arith;
+    to = omega (arith, all);
+  },
+  omega (arith, first, fit),
+)
 
-      pub part_within : IsWithin (Block b') (from + start) (from + end)
-      part_within =
-          let places = ap (λ (f : BlockInfo M). f.size) facts in
-          let many = ap length items in (
-            omega (arith, ordered),
-            omega (arith, upto, here.1, many),
-            omega
-                (arith, here.2, places, many),
-          )
-
-      pub part_shares : {H : Type 0} (old new : Pass H) → MakesAnother b.owner old new b'.owner
-          → Shares (part_place has_static (sub p.items start end) start p.place) old new
-          (window_seen (Block b') (from + start) (from + end)).place
-      part_shares old new makes =
-          let P : Place (Option Owner) M → Type 0 = λ place. Shares place old new
-          (on_block (Some b'.owner) (from + start) b'.facts) in
-          subst P (ap (λ (v : PartsView T M). v.place) part_seen)
-          (b'.owner, makes, ap (λ x. on_block (Some b'.owner) (from + start) x) facts)
+-- parts that stand on a block b
+module _ {T M : Type 0} (inner : StandsBy T M) (from to : ℕ) (p : PartsView T M) (b : BlockView T M)
+    (view : parts_of (window_seen inner from to) ≡ p) (is : inner ≡ Block b) where
+  on_block_seen : p ≡ parts_of (window_seen (Block b) from to)
+  on_block_seen = sym view ∙ ap (λ x. parts_of (window_seen x from to)) is
 
   -- they come back where all was as wanted but the count
   pub taking_refused : {H : Type 0} (b' : BlockView T M) → b' ≡ b → (wanted : Type 0) → wanted
@@ -236,48 +191,66 @@ module _ {T M : Type 0} (inner : StandsBy T M) (from to : ℕ) (p : PartsView T 
     },
   )
 
--- parts that stand on a static slice
-module _ {T M : Type 0} (inner : StandsBy T M) (from to : ℕ) (p : PartsView T M) (all : List T)
-    (view : parts_of (window_seen inner from to) ≡ p) (is : inner ≡ Static all)
-    (within : IsWithin inner from to) where
-  inside_slice : IsWithin {T = T} {M = M} (Static all) from to
-  inside_slice = subst (λ x. IsWithin x from to) is within
+free-within : {T : Type 0} (there : Bool) (items : List T) (from to start end : ℕ)
+    → IsFreePart there items from to → start ≤ end → from + end ≤ to
+    → IsFreePart there items (from + start) (from + end)
+free-within false items from to start end within ordered inside =
+    (omega (arith, within.0, within.1, inside, ordered), omega (arith, within.0, within.1, inside))
+free-within true items from to start end within ordered inside =
+    (omega (arith, ordered), omega (arith, inside, within.1))
 
-  on_slice_seen : p ≡ parts_of (window_seen (Static all) from to)
-  on_slice_seen = sym view ∙ ap (λ x. parts_of (window_seen x from to)) is
+-- of what no owner has another part is had without an entry
+free-shared : {T M H : Type 0} (there : Bool) (items : List T) (start end : ℕ) (old : Pass H)
+    → Shares (free_part {M = M} there items start end).place old old
+    (free_part {M = M} there items start end).place
+free-shared false items start end old = (refl, refl)
+free-shared true items start end old = (refl, refl)
 
-  in_slice : length p.items ≡ to - from
-  in_slice = ap (λ (v : PartsView T M). length v.items) on_slice_seen
-      ∙ length-sub all from to inside_slice.0 inside_slice.1
+-- parts that stand on no block
+module _ {T M : Type 0} (inner : StandsBy T M) (from to : ℕ) (p : PartsView T M)
+    (free : FreeItems (List T)) (view : parts_of (window_seen inner from to) ≡ p)
+    (is : inner ≡ Free free) (within : IsWithin inner from to) (start end : ℕ)
+    (ordered : start ≤ end) (inside : end ≤ length p.items) where
+  upto : from + end ≤ to
+  upto = let long = how_long inner from to p view within in omega (arith, long, inside)
 
-  -- a part of them
-  module _ (start end : ℕ) (ordered : start ≤ end) (inside : end ≤ length p.items) where
-    pub slice_items : (items : List T) → items ≡ all → sub items (from + start) (from + end) ≡ sub
-        p.items start end
-    slice_items items same =
-        ap (λ xs. sub xs (from + start) (from + end)) same
-        ∙ sym (sub-sub all from to start end (omega (arith, inside, in_slice, inside_slice.0)))
-        ∙ ap (λ (v : PartsView T M). sub v.items start end) (sym on_slice_seen)
+  -- a part of them is seen as such
+  free-seen : parts_of (window_seen {T = T} {M = M} (Free free) (from + start) (from + end))
+      ≡ between_ends start end p
+  free-seen = ap (λ x. parts_of (window_seen x (from + start) (from + end))) (sym is)
+      ∙ kept_seen inner from to start end p view within ordered upto
 
-    pub slice_within : (items : List T) → items ≡ all
-        → IsWithin {T = T} {M = M} (Static items) (from + start) (from + end)
-    slice_within items same =
-        let many = ap length same in (
-          omega (arith, ordered),
-          omega (arith, inside, in_slice, inside_slice.0, inside_slice.1, many),
-        )
+  module _ (again : FreeItems (List T)) (same : again ≡ free) where
+    pub free_items : (window_seen {M = M} (Free again) (from + start) (from + end)).items
+        ≡ sub p.items start end
+    free_items =
+        ap (λ f. (window_seen {M = M} (Free f) (from + start) (from + end)).items) same
+        ∙ ap (λ (v : PartsView T M). v.items) free-seen
 
-    pub slice_shares : {H : Type 0} (has_static : Bool) (old : Pass H)
+    pub free_within : IsWithin {T = T} {M = M} (Free again) (from + start) (from + end)
+    free_within =
+        subst (λ f. IsWithin {T = T} {M = M} (Free f) (from + start) (from + end)) (sym same)
+        (free-within free.there free.items from to start end
+        (subst (λ x. IsWithin x from to) is within) ordered upto)
+
+    pub free_shares : {H : Type 0} (has_static : Bool) (old : Pass H)
         → (has_static && ((end - start) == 0)) ≡ false
-        → Shares (part_place has_static (sub p.items start end) start p.place) old old static_data
-    slice_shares has_static old kept =
+        → Shares (part_place has_static (sub p.items start end) start p.place) old old
+        (window_seen {M = M} (Free again) (from + start) (from + end)).place
+    free_shares has_static old kept =
         let long : length (sub p.items start end) ≡ end - start = length-sub p.items start end
         ordered inside in
-        let P : Place (Option Owner) M → Type 0 = λ place. Shares place old old static_data in
-        subst P (ap (λ b. if b then nowhere else static_data)
-        (sym (ap (λ n. has_static && (n == 0)) long ∙ kept))
-        ∙ ap (λ (v : PartsView T M). part_place has_static (sub p.items start end) start
-        v.place) (sym on_slice_seen)) (refl, refl)
+        let stays : part_place has_static (sub p.items start end) start p.place
+        ≡ moved start p.place =
+        ap (λ b. if b then nowhere else moved start p.place)
+        (ap (λ n. has_static && (n == 0)) long ∙ kept) in
+        let there : (window_seen {M = M} (Free again) (from + start) (from + end)).place
+        ≡ moved start p.place =
+        ap (λ f. (window_seen {M = M} (Free f) (from + start) (from + end)).place) same
+        ∙ ap (λ (v : PartsView T M). v.place) free-seen in
+        subst (λ q. Shares q old old
+        (window_seen {M = M} (Free again) (from + start) (from + end)).place) (there ∙ sym stays)
+        (free-shared again.there again.items (from + start) (from + end) old)
 
 both_true : (b : Bool) (n : ℕ) → (b && (n == 0)) ≡ true → n ≡ 0
 both_true true n both = eqb-true n 0 both
@@ -289,19 +262,6 @@ pub none_there : {T : Type 0} (has_static : Bool) (xs : List T) (start end : ℕ
 none_there has_static xs start end ordered inside nothing =
     let none = both_true has_static (end - start) nothing in
     sym (nil_from_length (sub xs start end) (length-sub xs start end ordered inside ∙ none))
-
--- nor has a part of what stands on nothing
-pub none_on_nothing : {T M : Type 0} (inner : StandsBy T M) (from to : ℕ)
-    (p : PartsView T M) (none : List T) → parts_of (window_seen inner from to) ≡ p
-    → inner ≡ Nothing none → (start end : ℕ) → start ≤ end → end ≤ length p.items
-    → [] ≡ sub p.items start end
-none_on_nothing {T} {M} inner from to p none view is start end ordered inside =
-    let empty : p.items ≡ [] =
-    ap (λ (v : PartsView T M). v.items) (sym view ∙ ap (λ x. parts_of (window_seen x from to)) is)
-    in
-    let long = length-sub p.items start end ordered inside in
-    let few = ap length empty in
-    sym (nil_from_length (sub p.items start end) (omega (arith, long, inside, few)))
 
 module _ {T M : Type 0} (has_static drops one_pass : Bool) (items : List T) where
   -- no items, on nothing
@@ -347,6 +307,7 @@ module _ {T M : Type 0} (has_static drops one_pass : Bool) (lone : ℕ → ℕ �
       → b ≡ record {
         owner = b.owner;
         items = items;
+        first = 0;
         facts = memory_info vector drops places (length items);
       }
       → IsFirst MAX_OWNERS one_pass Counted b.owner → (places ≡ 0 → ⊥) → (w : PartsView T M)

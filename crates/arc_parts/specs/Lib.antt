@@ -4,3 +4,4 @@ pub mod Moves
 pub mod Room
 pub mod Writers
 pub mod Shared
+pub mod SoleParts

@@ -6,14 +6,13 @@ use Rattle.arc_buffer.specs.Slice.{sub}
 use Rattle.arc_block.specs.Block.{Sort, native, vector, raw}
 use Rattle.arc_block.specs.Block.{IsBuffer, BlockInfo, BlockView, native_facts, raw_info}
 use Rattle.arc_block.specs.Given.{Given, given_as}
-use Rattle.arc_block.specs.Metadata.{FitsGiven}
+use Rattle.arc_block.specs.Metadata.{FitsGiven, IsCallers}
 use Rattle.arc_block.specs.Layouts.{LayoutFacts, holds_block}
 use Rattle.arc_block.specs.Place.{Place, nowhere, static_data, on_block, IsOnBlock, made_place}
-use Rattle.arc_block.specs.Natives.{NativeView, native_info, IsAmong}
+use Rattle.arc_block.specs.Natives.{IsAmong}
 use Rattle.arc_block.specs.Table.{RowOf, reader}
 use Rattle.arc_parts.specs.declared.storage.Storage.{Storage}
-use Rattle.arc_parts.specs.declared.storage.Storage.TheVariants.{Nothing, Static, Native, Block}
-use Rattle.arc_parts.specs.declared.storage.Storage.TheVariants.{Raw}
+use Rattle.arc_parts.specs.declared.storage.Storage.TheVariants.{Free, Block, Raw}
 
 -- what contracts see of a window: its items, and where it stands: on a block as one of its owners,
 -- where the block counts them
@@ -46,45 +45,52 @@ raw_view list buffer = record { items = list buffer; given = given_as false buff
 
 -- what a window stands on
 abbrev pub StandsBy : Type 0 → Type 0 → Type 0
-StandsBy T M = Storage T (NativeView T) (BlockView T M) (RawView T M)
+StandsBy T M = Storage T (BlockView T M) (RawView T M)
 
 -- what a caller gave fits what the window stands on
 abbrev pub FitsStorage : {T B M : Type 0} → (list : B → List T) → (places : B → ℕ)
     → StandsBy T (Given B M) → Type 0
-FitsStorage list places (Nothing none) = Unit {0}
-FitsStorage list places (Static items) = Unit {0}
-FitsStorage list places (Native block) = Unit {0}
+FitsStorage list places (Free free) = Unit {0}
 FitsStorage list places (Block block) =
     FitsGiven list places block.facts.given block.facts block.items
+    × (IsCallers block.facts.sort → block.first ≡ 0)
 FitsStorage list places (Raw shared) = list shared.given.buffer ≡ shared.items
 
--- The part from start to end of what a window stands on. Of a native block these are the numbers of
--- places, of others those of items.
-abbrev pub window_seen : {T M : Type 0} → StandsBy T M → ℕ → ℕ → Window T M
-window_seen (Nothing none) start end = record { items = []; place = nowhere }
-window_seen (Static items) start end = record { items = sub items start end; place = static_data }
-window_seen (Native block) start end = record {
+-- the part from the place start to the place end of a block
+abbrev pub part_of_block : {T M : Type 0} → BlockView T M → (start end : ℕ) → Window T M
+part_of_block block start end = record {
   items = sub block.items (start - block.first) (end - block.first);
-  place = on_block (Some block.owner) start (native_info block);
-}
-window_seen (Block block) start end = record {
-  items = sub block.items start end;
   place = on_block (Some block.owner) start block.facts;
 }
+
+-- the items from start to end of a `'static` slice, where one is there; else there is nothing
+abbrev pub free_part : {T M : Type 0} → (there : Bool) → List T → (start end : ℕ) → Window T M
+free_part false items start end = record { items = []; place = nowhere }
+free_part true items start end = record { items = sub items start end; place = static_data }
+
+-- The part from start to end of what a window stands on. Of a block these are the numbers of
+-- places, of others those of items.
+abbrev pub window_seen : {T M : Type 0} → StandsBy T M → ℕ → ℕ → Window T M
+window_seen (Free free) start end = free_part free.there free.items start end
+window_seen (Block block) start end = part_of_block block start end
 window_seen (Raw shared) start end = record {
   items = sub shared.items start end;
   place = on_block None start (raw_info (length shared.items) (Some shared.given));
 }
 
--- start to end lies within what the window stands on; a block has a place for each item; a window
--- on nothing has no items
+-- start to end lies within the items of a block, which has a place for each
+abbrev pub IsPartOfBlock : {T M : Type 0} → BlockView T M → (start end : ℕ) → Type 0
+IsPartOfBlock block start end = IsAmong block start end
+    × (block.first + length block.items ≤ block.facts.size)
+
+abbrev pub IsFreePart : {T : Type 0} → (there : Bool) → List T → (start end : ℕ) → Type 0
+IsFreePart false items start end = (start ≡ 0) × (end ≡ 0)
+IsFreePart true items start end = (start ≤ end) × (end ≤ length items)
+
+-- start to end lies within what the window stands on; a window on nothing has no items
 abbrev pub IsWithin : {T M : Type 0} → StandsBy T M → ℕ → ℕ → Type 0
-IsWithin (Nothing none) start end = (start ≡ 0) × (end ≡ 0)
-IsWithin (Static items) start end = (start ≤ end) × (end ≤ length items)
-IsWithin (Native block) start end = IsAmong block start end
-    × (block.first + length block.items ≤ block.size)
-IsWithin (Block block) start end = (start ≤ end) × (end ≤ length block.items)
-    × (length block.items ≤ block.facts.size)
+IsWithin (Free free) start end = IsFreePart free.there free.items start end
+IsWithin (Block block) start end = IsPartOfBlock block start end
 IsWithin (Raw shared) start end = (start ≤ end) × (end ≤ length shared.items)
 
 -- a native block of this size

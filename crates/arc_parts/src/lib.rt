@@ -3,5 +3,5 @@
 
 pub mod parts;
 pub mod room;
-pub mod shared_buffer;
-pub mod storage;
+mod shared_buffer;
+mod storage;

@@ -14,11 +14,12 @@ ghost use Rattle.arc_block.specs.Place.{nowhere, static_data, on_block, moved, I
 ghost use Rattle.arc_block.specs.Table.{reader};
 ghost use Rattle.arc_parts.specs.Window.{window_of, NeedsBlock, IsHeld};
 ghost use Rattle.arc_parts.specs.Window.{parts_of, window_seen, IsWithin};
+ghost use Rattle.arc_parts.specs.Window.{part_of_block, IsPartOfBlock};
 ghost use Rattle.arc_parts.specs.Steps.{Makes, Begins, EndsShownAt};
 
 use crate::shared_buffer::SharedBuffer;
-use crate::storage::Storage;
-use arc_block::block::{Block, MAX_OWNERS, NativeBlock};
+use crate::storage::{FreeItems, Storage};
+use arc_block::block::{Block, MAX_OWNERS};
 use arc_block::layout::{Layout, stands_on_nothing};
 use arc_block::static_slice::{StaticItems, StaticSlice};
 use arc_buffer::buffer::Buffer;
@@ -26,14 +27,14 @@ use arc_buffer::kinds::Slice;
 use arc_owners::error::AllocError;
 use arc_owners::mark::{Mark, Open};
 use arc_owners::owners::Pass;
+pub use sole::SoleSort;
 use std::alloc::{Allocator, Global};
 use std::marker::Model;
 pub use vectors::cut_to;
 
 /// What a reader's parts stand on.
-pub type PartsStorage<S, B, M, A, H> = Storage<
+type PartsStorage<S, B, M, A, H> = Storage<
     <S as Slice>::Item,
-    NativeBlock<S, A, MAX_OWNERS, H>,
     Block<S, B, M, A, MAX_OWNERS, H>,
     SharedBuffer<<S as Slice>::Item, B, M, A>,
 >;
@@ -86,10 +87,8 @@ impl<S: Slice, B: Buffer<S::Item> + Drop, M: Drop, A: Allocator + Copy, H: Mark>
             alloc,
         } = self;
         match on {
-            Storage::Native(block) => drop(block),
             Storage::Block(block) => drop(block),
-            Storage::Static(items) => drop(items),
-            Storage::Nothing(items) => drop(items),
+            Storage::Free(free) => drop(free),
             Storage::Raw(shared) => drop(shared),
         }
         drop(alloc);
@@ -103,10 +102,10 @@ impl<S: Slice, B: Buffer<S::Item> + Drop, M: Drop, A: Allocator + Copy, H: Mark>
     A,
     H,
 > {
-    /// The part from `start` to before `end` of what is given. Of a native block these are the
-    /// numbers of places, of others those of items.
+    /// The part from `start` to before `end` of what is given. Of a block these are the numbers of
+    /// places, of others those of items.
     #[inline(always)]
-    pub fn over(on: PartsStorage<S, B, M, A, H>, start: usize, end: usize, alloc: A) -> Self
+    fn over(on: PartsStorage<S, B, M, A, H>, start: usize, end: usize, alloc: A) -> Self
         requires { IsWithin on start end }
         ensures { result ≡ parts_of (window_seen on start end) }
     {
@@ -120,7 +119,7 @@ impl<S: Slice, B: Buffer<S::Item> + Drop, M: Drop, A: Allocator + Copy, H: Mark>
 
     /// What the parts stand on, `start` and `end` in that, and the allocator.
     #[inline(always)]
-    pub fn into_storage(self) -> (PartsStorage<S, B, M, A, H>, usize, usize, A)
+    fn into_storage(self) -> (PartsStorage<S, B, M, A, H>, usize, usize, A)
         ensures within { IsWithin result.0 result.1 result.2 }
         ensures parts { self ≡ parts_of (window_seen result.0 result.1 result.2) }
     {
@@ -133,13 +132,31 @@ impl<S: Slice, B: Buffer<S::Item> + Drop, M: Drop, A: Allocator + Copy, H: Mark>
         (on, start, end, alloc)
     }
 
+    /// The part from the place `start` to before the place `end` of a block, among those of the
+    /// items that its owner reads.
+    #[inline(always)]
+    pub fn on_block(
+        alloc: A,
+        block: Block<S, B, M, A, MAX_OWNERS, H>,
+        start: usize,
+        end: usize,
+    ) -> Self
+        requires { IsPartOfBlock block start end }
+        ensures { result ≡ parts_of (part_of_block block start end) }
+    {
+        Parts::over(Storage::Block(block), start, end, alloc)
+    }
+
     /// No items, on nothing.
     #[inline(always)]
     pub fn on_nothing(alloc: A) -> Self
         ensures { result ≡ record { items = []; place = nowhere; role = reader } }
     {
         Parts {
-            on: Storage::Nothing(StaticItems::none()),
+            on: Storage::Free(FreeItems {
+                items: StaticItems::none(),
+                there: false,
+            }),
             start: 0,
             end: 0,
             alloc,
@@ -152,7 +169,7 @@ impl<S: Slice, B: Buffer<S::Item> + Drop, M: Drop, A: Allocator + Copy, H: Mark>
     {
         let (items, start, end) = items.into_items();
         Parts {
-            on: Storage::Static(items),
+            on: Storage::Free(FreeItems { items, there: true }),
             start,
             end,
             alloc,
@@ -162,7 +179,7 @@ impl<S: Slice, B: Buffer<S::Item> + Drop, M: Drop, A: Allocator + Copy, H: Mark>
     /// All of a new native block. The pass becomes the block's.
     fn over_new<L: Layout>(
         alloc: A,
-        block: NativeBlock<S, A, MAX_OWNERS, H>,
+        block: Block<S, B, M, A, MAX_OWNERS, H>,
         end: usize,
         new: Pass<H>,
         pass: &mut Pass<H>,
@@ -177,16 +194,16 @@ impl<S: Slice, B: Buffer<S::Item> + Drop, M: Drop, A: Allocator + Copy, H: Mark>
     {
         *pass = new;
         Parts {
-            on: Storage::Native(block),
+            on: Storage::Block(block),
             start: 0,
             end,
             alloc,
         }
     }
 
-    /// All items of a block of a caller's making, of which there are `end`.
+    /// All items of a block whose owner reads them from the front on, of which there are `end`.
     fn over_all(alloc: A, block: Block<S, B, M, A, MAX_OWNERS, H>, end: usize) -> Self
-        requires all { end ≡ length block.items }
+        requires all { (block.first ≡ 0) × (end ≡ length block.items) }
         requires places { length block.items ≤ block.facts.size }
         ensures { result ≡ record {
           items = block.items;
@@ -230,7 +247,7 @@ impl<S: Slice, B: Buffer<S::Item> + Drop, M: Drop, A: Allocator + Copy, H: Mark>
         if stands_on_nothing::<L>(items.len()) {
             return Ok(Self::on_nothing(alloc));
         }
-        let (block, new) = NativeBlock::try_from_slice(alloc, items)?;
+        let (block, new) = Block::try_from_slice(alloc, items)?;
         Ok(Self::over_new::<L>(alloc, block, items.len(), new, pass))
     }
 
@@ -263,7 +280,7 @@ impl<S: Slice, B: Buffer<S::Item> + Drop, M: Drop, A: Allocator + Copy, H: Mark>
             drop(array);
             return Ok(Self::on_nothing(alloc));
         }
-        let (block, new) = NativeBlock::try_from_array(alloc, array)?;
+        let (block, new) = Block::try_from_array(alloc, array)?;
         Ok(Self::over_new::<L>(alloc, block, end, new, pass))
     }
 
@@ -293,10 +310,8 @@ impl<S: Slice, B: Buffer<S::Item> + Drop, M: Drop, A: Allocator + Copy, H: Mark>
         ensures { result.now ≡ self.now.items }
     {
         match &self.on {
-            Storage::Native(block) => block.range(self.start, self.end),
             Storage::Block(block) => block.range(self.start, self.end),
-            Storage::Static(items) => items.range(self.start, self.end),
-            Storage::Nothing(items) => items.range(self.start, self.end),
+            Storage::Free(free) => free.items.range(self.start, self.end),
             Storage::Raw(shared) => shared.range(self.start, self.end),
         }
     }
@@ -308,10 +323,8 @@ impl<S: Slice, B: Buffer<S::Item> + Drop, M: Drop, A: Allocator + Copy, H: Mark>
         ensures { result.now ≡ self.now.items }
     {
         match &self.on {
-            Storage::Native(block) => block.range(self.start, self.end),
             Storage::Block(block) => block.range(self.start, self.end),
-            Storage::Static(items) => items.range(self.start, self.end),
-            Storage::Nothing(items) => items.range(self.start, self.end),
+            Storage::Free(free) => free.items.range(self.start, self.end),
             // This arm isn't reached. It reads as the others do, so that the compiler makes one
             // read of all.
             Storage::Raw(shared) => shared.none.range(self.start, self.end),
@@ -339,4 +352,5 @@ mod buffers;
 mod ends;
 mod moves;
 mod owners;
+mod sole;
 mod vectors;

@@ -16,8 +16,8 @@ use Rattle.arc_memory.specs.Sources.{IsPiece}
 use Rattle.arc_memory.specs.CutMemories.{KeepsAll, KeepsOwn, SameCut, IsCutAt, IsCutOf, IsWholeOf}
 use Rattle.arc_memory.specs.CutMemories.{with_cut_written}
 use Rattle.arc_buffer.specs.Slice.{sub}
-use Rattle.arc_block.specs.Block.{native, memory_info}
-use Rattle.arc_block.specs.Natives.{NativeView, native_over, IsAmong}
+use Rattle.arc_block.specs.Block.{BlockView, native, memory_info}
+use Rattle.arc_block.specs.Natives.{native_over, IsAmong}
 use Rattle.arc_block.specs.Place.{offset_at}
 use Rattle.arc_owners.specs.declared.error.TryReserveError.TheVariants.{Unsupported}
 use Rattle.arc_parts.specs.declared.room.Room.{Room}
@@ -30,8 +30,8 @@ use Rattle.arc_sort_writers.specs.CutParts.{cut_native, IsCutNative, IsCutFor, I
 use Rattle.arc_sort_writers.proofs.MemoryParts.{slice_is_sub}
 use Rattle.arc_sort_writers.proofs.CutNatives.{xs, first, room, left, size, full, none-there}
 
-module _ {T A : Type 0} where
-  pub within_more : (drops one_pass : Bool) (owner : Option Owner) (m w : CutMemory T A)
+module _ {T V A : Type 0} where
+  pub within_more : (drops one_pass : Bool) (owner : Option Owner) (m w : CutMemory T V A)
       (ys : List T) → IsCutNative drops one_pass owner m → xs w ≡ xs m ++ ys → SameCut m w
       → length (xs m) + length ys ≤ room m → IsCutNative drops one_pass owner w
   within_more drops one_pass owner m w ys within items same fits = at owner within
@@ -73,7 +73,7 @@ module _ {T A : Type 0} where
       )
 
   -- the same memory, of which other places are his
-  pub within_at : (drops one_pass : Bool) (owner : Option Owner) (m w : CutMemory T A)
+  pub within_at : (drops one_pass : Bool) (owner : Option Owner) (m w : CutMemory T V A)
       (at many gone : ℕ) → IsCutNative drops one_pass owner m → IsCutAt m at many gone w
       → length (xs w) ≤ length (xs m) → IsCutFor drops w → IsCutNative drops one_pass owner w
   within_at drops one_pass None m w at many gone within cut fewer kept = (
@@ -91,7 +91,7 @@ module _ {T A : Type 0} where
       (kept, (within.1.0, subst (λ s. IsPiece s) (sym cut.source) within.1.1))
 
   -- with the first so many of his items, where others are forgotten
-  pub within_short : (drops one_pass : Bool) (owner : Option Owner) (m w : CutMemory T A) (n : ℕ)
+  pub within_short : (drops one_pass : Bool) (owner : Option Owner) (m w : CutMemory T V A) (n : ℕ)
       → IsCutNative drops one_pass owner m → drops ≡ false → xs w ≡ take n (xs m) → SameCut m w
       → IsCutNative drops one_pass owner w
   within_short drops one_pass owner m w n within copied items same = (
@@ -116,7 +116,7 @@ module _ {T A : Type 0} where
       at (Some o) within = (within.1.0, subst (λ s. IsPiece s) (sym same.source) within.1.1)
 
   -- once other items were written over his
-  pub within_lent : (drops one_pass : Bool) (owner : Option Owner) (m : CutMemory T A)
+  pub within_lent : (drops one_pass : Bool) (owner : Option Owner) (m : CutMemory T V A)
       (ws : List T) → IsCutNative drops one_pass owner m
       → IsCutNative drops one_pass owner (with_cut_written m ws)
   within_lent drops one_pass owner m ws within = (keeps within.0, at owner within)
@@ -153,16 +153,16 @@ module _ {T A : Type 0} where
       at (Some o) within = within.1
 
   -- his items lie among those of the block, once its memory is lent again
-  pub among_cut : (drops : Bool) (o : Owner) (m : CutMemory T A) (w : WriterMemory T A)
-      (b : NativeView T) (start end : ℕ) → IsCutFor drops m
+  pub among_cut : {M : Type 0} (drops : Bool) (o : Owner) (m : CutMemory T V A)
+      (w : WriterMemory T V A) (b : BlockView T M) (start end : ℕ) → IsCutFor drops m
       → (drops ≡ false → IsWholeOf m (first m) w × (w.places.vec.items ≡ xs m))
       → (drops ≡ true → IsWholeOf m 0 w
       × (w.places.vec.items ≡ m.before.items ++ (xs m ++ m.behind.items)))
       → b ≡ native_over drops o w → start ≡ first m → end ≡ first m + length (xs m)
-      → IsAmong b start end × (b.first + length b.items ≤ b.size)
-  among_cut drops o m w b start end kept own all is begins ends =
-      subst (λ (n : NativeView T). IsAmong n start end × (n.first + length n.items ≤ n.size))
-      (sym is) (
+      → IsAmong b start end × (b.first + length b.items ≤ b.facts.size)
+  among_cut {M} drops o m w b start end kept own all is begins ends =
+      subst (λ (n : BlockView T M). IsAmong n start end
+      × (n.first + length n.items ≤ n.facts.size)) (sym is) (
         there drops kept own all,
         omega (arith, w.own, w.places.vec.ok.0, w.places.vec.ok.1, w.places.lies.1),
       )
@@ -171,7 +171,7 @@ module _ {T A : Type 0} where
           → (drops ≡ false → IsWholeOf m (first m) w × (w.places.vec.items ≡ xs m))
           → (drops ≡ true → IsWholeOf m 0 w
           × (w.places.vec.items ≡ m.before.items ++ (xs m ++ m.behind.items)))
-          → IsAmong (native_over drops o w) start end
+          → IsAmong (native_over {G = M} drops o w) start end
       there false kept own all =
           let same = own refl in
           let long : length w.places.vec.items ≡ length (xs m) = ap (λ zs. length zs) same.1 in
@@ -197,7 +197,7 @@ module _ {T A : Type 0} where
           }
 
   -- memory that is all his, with no other items, keeps those of any kind
-  pub keeps_both : (drops : Bool) (m : CutMemory T A) → KeepsAll m → KeepsOwn m
+  pub keeps_both : (drops : Bool) (m : CutMemory T V A) → KeepsAll m → KeepsOwn m
       → first m + room m ≡ size m → IsCutFor drops m
   keeps_both drops m all own ends = record {
     all = λ owned. all;
@@ -206,7 +206,7 @@ module _ {T A : Type 0} where
   }
 
   -- which items are kept, by what is known of the kind
-  pub keeps_all : (drops : Bool) (m : CutMemory T A) → drops ≡ true → KeepsAll m
+  pub keeps_all : (drops : Bool) (m : CutMemory T V A) → drops ≡ true → KeepsAll m
       → (left m ≡ 0 → m.behind.count ≡ 0) → IsCutFor drops m
   keeps_all drops m owned kept last = record {
     all = λ same. kept;
@@ -214,7 +214,7 @@ module _ {T A : Type 0} where
     last = λ same. last;
   }
 
-  pub keeps_own : (drops : Bool) (m : CutMemory T A) → drops ≡ false → KeepsOwn m
+  pub keeps_own : (drops : Bool) (m : CutMemory T V A) → drops ≡ false → KeepsOwn m
       → IsCutFor drops m
   keeps_own drops m copied kept = record {
     all = λ owned. absurd (false≢true (sym copied ∙ owned));
@@ -223,7 +223,7 @@ module _ {T A : Type 0} where
   }
 
   -- his places go up to the end where none lie behind them: without the first ones as before
-  pub last_front : (m w : CutMemory T A) (n : ℕ) → (left m ≡ 0 → m.behind.count ≡ 0)
+  pub last_front : (m w : CutMemory T V A) (n : ℕ) → (left m ≡ 0 → m.behind.count ≡ 0)
       → n ≤ length (xs m) → IsCutAt m (first m + n) (room m - n) (left m) w
       → left w ≡ 0 → w.behind.count ≡ 0
   last_front m w n last short at none =
@@ -245,13 +245,13 @@ module _ {T A : Type 0} where
       )
 
   -- and some do where the last ones stay there
-  pub last_back : (m w : CutMemory T A) (n : ℕ) → n < length (xs m)
+  pub last_back : (m w : CutMemory T V A) (n : ℕ) → n < length (xs m)
       → IsCutAt m (first m) n (length (xs m) - n + left m) w
       → left w ≡ 0 → w.behind.count ≡ 0
   last_back m w n short at none = absurd (omega (arith, none, short, at.left))
 
   -- once it was to grow
-  pub keeps_grown : {E : Type 0} (drops : Bool) (m w : CutMemory T A) (places : ℕ)
+  pub keeps_grown : {E : Type 0} (drops : Bool) (m w : CutMemory T V A) (places : ℕ)
       (reply : Result (Unit {0}) E) → drops ≡ true → IsCutFor drops m → KeepsAll w
       → first w ≡ first m → first m + length (xs m) ≤ places
       → OnOk reply ((size w ≡ places) × (room w ≡ places - first m) × IsPiece w.source)
@@ -264,7 +264,7 @@ module _ {T A : Type 0} where
 
   -- where items are dropped one by one and end where the full places do, all places behind them
   -- are his
-  ends_there : (drops : Bool) (m : CutMemory T A) → IsCutFor drops m → drops ≡ true
+  ends_there : (drops : Bool) (m : CutMemory T V A) → IsCutFor drops m → drops ≡ true
       → first m + length (xs m) ≡ full m → room m ≡ size m - first m
   ends_there drops m kept owned all =
       let ends : m.behind.count ≡ 0 = kept.last owned (omega (arith, all)) in
@@ -272,7 +272,7 @@ module _ {T A : Type 0} where
 
 -- Where room is made: n is how many places the block has, at is the writer's first, and of his len
 -- items and those behind them k are the block's full places.
-module _ {T A : Type 0} (m : CutMemory T A) (n k at len : ℕ) where
+module _ {T V A : Type 0} (m : CutMemory T V A) (n k at len : ℕ) where
   -- places behind his are none of his where items aren't dropped one by one
   pub behind_room : (drops : Bool) (additional : ℕ) (r : Room)
       → IsCutFor drops m → n ≡ size m → k ≡ full m → at ≡ first m → len ≡ length (xs m)
@@ -349,15 +349,15 @@ module _ {T A : Type 0} (m : CutMemory T A) (n k at len : ℕ) where
 
 -- The part from start to end of all that hold items, as it is cut: m is the memory, c that with all
 -- places as the writer's, f without those before the part, and w the part.
-module _ {T A : Type 0} (m : WriterMemory T A) (start end : ℕ) where
-  is-part : (c f w : CutMemory T A) → start ≤ end → xs c ≡ m.places.vec.items
+module _ {T V A : Type 0} (m : WriterMemory T V A) (start end : ℕ) where
+  is-part : (c f w : CutMemory T V A) → start ≤ end → xs c ≡ m.places.vec.items
       → xs f ≡ drop start (xs c) → xs w ≡ take (end - start) (xs f)
       → xs w ≡ sub m.places.vec.items start end
   is-part c f w ordered all behind short =
       short ∙ ap (take (end - start)) behind ∙ ap (λ ys. take (end - start) (drop start ys)) all
       ∙ slice_is_sub m.places.vec.items start end ordered
 
-  pub part_forgotten : (c f w : CutMemory T A) (capacity : ℕ) → start ≤ end
+  pub part_forgotten : (c f w : CutMemory T V A) (capacity : ℕ) → start ≤ end
       → end ≤ length m.places.vec.items → capacity ≡ m.places.under.count
       → xs c ≡ m.places.vec.items → IsCutOf m capacity c
       → xs f ≡ drop start (xs c) → IsCutAt c (first c + start) (room c - start) 0 f
@@ -382,7 +382,7 @@ module _ {T A : Type 0} (m : WriterMemory T A) (start end : ℕ) where
     };
   }
 
-  pub part_kept : (c f : CutMemory T A) (capacity : ℕ) → start ≤ end
+  pub part_kept : (c f : CutMemory T V A) (capacity : ℕ) → start ≤ end
       → end ≤ length m.places.vec.items → end ≡ length m.places.vec.items
       → capacity ≡ m.places.under.count
       → xs c ≡ m.places.vec.items → IsCutOf m capacity c → KeepsOwn c
@@ -428,7 +428,7 @@ module _ {T A : Type 0} (m : WriterMemory T A) (start end : ℕ) where
         };
       }
 
-  pub part_kept_short : (c f w : CutMemory T A) (capacity : ℕ) → start ≤ end
+  pub part_kept_short : (c f w : CutMemory T V A) (capacity : ℕ) → start ≤ end
       → end ≤ length m.places.vec.items → end < length m.places.vec.items
       → capacity ≡ m.places.under.count
       → xs c ≡ m.places.vec.items → IsCutOf m capacity c → KeepsOwn c

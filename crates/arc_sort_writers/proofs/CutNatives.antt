@@ -16,51 +16,51 @@ use Rattle.arc_memory.specs.CutMemories.{KeepsAll, SameCut, IsCutAt, IsWholeOf}
 use Rattle.arc_memory.specs.CutMemories.{with_cut_written}
 use Rattle.arc_buffer.specs.Slice.{sub}
 use Rattle.arc_buffer.proofs.Sub.{sub-whole}
-use Rattle.arc_block.specs.Block.{native, full_places, memory_info}
-use Rattle.arc_block.specs.Natives.{NativeView, native_over}
+use Rattle.arc_block.specs.Block.{BlockView, native, full_places, memory_info}
+use Rattle.arc_block.specs.Natives.{native_over}
 use Rattle.arc_block.specs.Place.{nowhere, on_block, IsOnBlock, size_at, offset_at}
 use Rattle.arc_block.specs.Table.{reader, sole_writer, one_writer_of_several}
-use Rattle.arc_parts.specs.declared.storage.Storage.TheVariants.{Native}
 use Rattle.arc_parts.specs.declared.room.Room.TheVariants.{Behind, Front}
 use Rattle.arc_parts.specs.declared.room.Room.TheVariants.{Growth}
-use Rattle.arc_parts.specs.Window.{PartsView, IsNativeOf, parts_of, window_seen}
+use Rattle.arc_parts.specs.Window.{PartsView, IsNativeOf, parts_of, part_of_block}
 use Rattle.arc_parts.specs.Writers.{writer_capacity, capacity_of, with_room, with_more, with_full}
 use Rattle.arc_parts.specs.Writers.{with_items, after_advance, after_truncate, as_reader}
 use Rattle.arc_parts.specs.Writers.{idle_writer, writer_over, IsWholeWriter}
-use Rattle.arc_sort_writers.specs.SortParts.{sole_native_part, CanGrowNative}
+use Rattle.arc_parts.specs.SoleParts.{sole_native_part}
+use Rattle.arc_sort_writers.specs.SortParts.{CanGrowNative}
 use Rattle.arc_sort_writers.specs.NativeWriters.{native_row, native_writer_over}
 use Rattle.arc_parts.specs.Shared.{as_shared}
 use Rattle.arc_sort_writers.specs.CutParts.{cut_native, IsCutNative, IsCutFor, IsPartCut}
 use Rattle.arc_sort_writers.proofs.MemoryParts.{slice_is_sub}
 
-module _ {T A : Type 0} where
+module _ {T V A : Type 0} where
   -- his items, the number of his first place, how many he has, how many items lie behind them, and
   -- how many places the block has
-  abbrev pub xs : CutMemory T A → List T
+  abbrev pub xs : CutMemory T V A → List T
   xs m = m.places.vec.items
 
-  abbrev pub first : CutMemory T A → ℕ
+  abbrev pub first : CutMemory T V A → ℕ
   first m = m.places.under.start
 
-  abbrev pub room : CutMemory T A → ℕ
+  abbrev pub room : CutMemory T V A → ℕ
   room m = m.places.under.count
 
-  abbrev pub left : CutMemory T A → ℕ
+  abbrev pub left : CutMemory T V A → ℕ
   left m = length m.behind.items
 
-  abbrev pub size : CutMemory T A → ℕ
+  abbrev pub size : CutMemory T V A → ℕ
   size m = m.places.under.whole
 
   -- how many of the block's places are full
-  abbrev pub full : CutMemory T A → ℕ
+  abbrev pub full : CutMemory T V A → ℕ
   full m = first m + length (xs m) + left m
 
   -- where the memory has no places, the writer has none
-  pub none-there : (m : CutMemory T A) → size m ≡ 0 → room m ≡ 0
+  pub none-there : (m : CutMemory T V A) → size m ≡ 0 → room m ≡ 0
   none-there m none = omega (arith, none, m.back.2, m.back.3)
 
   -- items behind the others are full places more, where there is room for them
-  filled : (drops : Bool) (m : CutMemory T A) (n : ℕ) → (drops ≡ true → KeepsAll m)
+  filled : (drops : Bool) (m : CutMemory T V A) (n : ℕ) → (drops ≡ true → KeepsAll m)
       → length (xs m) + n ≤ room m
       → full_places drops (full m + n)
       ≡ option_map (λ k. k + (n - (k - (first m + length (xs m))))) (full_places drops (full m))
@@ -73,9 +73,9 @@ module _ {T A : Type 0} where
       let same : full m + suc n ≡ full m + (suc n - (full m - (first m + length (xs m)))) =
       omega (arith, none, m.behind.inside.1) in ap Some same
 
-module _ {T M A : Type 0} where
+module _ {T M V A : Type 0} where
   -- who stands on nothing has no items and no places
-  pub idle_cut : (drops : Bool) (m : CutMemory T A) → xs m ≡ [] → size m ≡ 0
+  pub idle_cut : (drops : Bool) (m : CutMemory T V A) → xs m ≡ [] → size m ≡ 0
       → cut_native {M = M} drops None m ≡ idle_writer
   idle_cut drops m empty none i = record {
     items = empty i;
@@ -84,14 +84,14 @@ module _ {T M A : Type 0} where
   }
 
   -- what fits behind the items fits in his places
-  pub fits_cut : (drops : Bool) (owner : Option Owner) (m : CutMemory T A) (seen : PartsView T M)
+  pub fits_cut : (drops : Bool) (owner : Option Owner) (m : CutMemory T V A) (seen : PartsView T M)
       (n : ℕ) → cut_native {M = M} drops owner m ≡ seen
       → length seen.items + n ≤ capacity_of seen.role → length (xs m) + n ≤ room m
   fits_cut drops owner m seen n view fits =
       subst (λ s. length s.items + n ≤ capacity_of s.role) (sym view) fits
 
   -- the items that were lent are those that were written, in the same places
-  pub lent_cut : (drops : Bool) (owner : Option Owner) (m : CutMemory T A) (ws : List T)
+  pub lent_cut : (drops : Bool) (owner : Option Owner) (m : CutMemory T V A) (ws : List T)
       (seen : PartsView T M) → cut_native {M = M} drops owner m ≡ seen
       → cut_native {M = M} drops owner (with_cut_written m ws) ≡ with_items seen ws
   lent_cut drops None m ws seen view =
@@ -118,7 +118,8 @@ module _ {T M A : Type 0} where
       ∙ ap (λ s. with_items s ws) view
 
   -- items stand behind the others, where there is room for them
-  pub push_cut : (drops one_pass : Bool) (owner : Option Owner) (m w : CutMemory T A) (ys : List T)
+  pub push_cut : (drops one_pass : Bool) (owner : Option Owner) (m w : CutMemory T V A)
+      (ys : List T)
       (seen : PartsView T M) → cut_native {M = M} drops owner m ≡ seen
       → IsCutNative drops one_pass owner m → xs w ≡ xs m ++ ys → SameCut m w
       → length seen.items + length ys ≤ capacity_of seen.role
@@ -143,7 +144,7 @@ module _ {T M A : Type 0} where
       ∙ ap (with_more ys) view
 
   -- the items cut short: those behind them are forgotten
-  pub forgotten_cut : (drops : Bool) (owner : Option Owner) (m w : CutMemory T A) (n : ℕ)
+  pub forgotten_cut : (drops : Bool) (owner : Option Owner) (m w : CutMemory T V A) (n : ℕ)
       (seen : PartsView T M) → cut_native {M = M} drops owner m ≡ seen → drops ≡ false
       → n < length (xs m) → xs w ≡ take n (xs m) → SameCut m w
       → cut_native {M = M} drops owner w ≡ after_truncate drops n seen
@@ -168,7 +169,7 @@ module _ {T M A : Type 0} where
       }
 
   -- and here they stay behind them
-  pub kept_cut : (drops : Bool) (owner : Option Owner) (m w : CutMemory T A) (n : ℕ)
+  pub kept_cut : (drops : Bool) (owner : Option Owner) (m w : CutMemory T V A) (n : ℕ)
       (seen : PartsView T M) → cut_native {M = M} drops owner m ≡ seen → drops ≡ true
       → n < length (xs m) → xs w ≡ take n (xs m)
       → IsCutAt m (first m) n (length (xs m) - n + left m) w
@@ -199,7 +200,7 @@ module _ {T M A : Type 0} where
       }
 
   -- the first places are none of his any more
-  pub advanced_cut : (drops : Bool) (owner : Option Owner) (m w : CutMemory T A) (n gone : ℕ)
+  pub advanced_cut : (drops : Bool) (owner : Option Owner) (m w : CutMemory T V A) (n gone : ℕ)
       (seen : PartsView T M) → cut_native {M = M} drops owner m ≡ seen → n ≤ length (xs m)
       → xs w ≡ drop n (xs m) → IsCutAt m (first m + n) (room m - n) gone w
       → (drops ≡ true → gone ≡ left m)
@@ -227,7 +228,7 @@ module _ {T M A : Type 0} where
           (arith, long, short, at.start, at.left, stays refl) in ap Some same
 
   -- all places up to the end of the block are his
-  pub behind_cut : (drops one_pass : Bool) (owner : Option Owner) (m w : CutMemory T A)
+  pub behind_cut : (drops one_pass : Bool) (owner : Option Owner) (m w : CutMemory T V A)
       (seen : PartsView T M) → cut_native {M = M} drops owner m ≡ seen → drops ≡ false
       → IsCutNative drops one_pass owner m
       → xs w ≡ xs m → IsCutAt m (first m) (size m - first m) 0 w
@@ -248,7 +249,7 @@ module _ {T M A : Type 0} where
       ∙ ap (with_room Behind) view
 
   -- he has all places of the block, with his items in the first ones
-  pub front_cut : (drops one_pass : Bool) (owner : Option Owner) (m w : CutMemory T A)
+  pub front_cut : (drops one_pass : Bool) (owner : Option Owner) (m w : CutMemory T V A)
       (seen : PartsView T M) → cut_native {M = M} drops owner m ≡ seen → drops ≡ false
       → IsCutNative drops one_pass owner m
       → xs w ≡ xs m → IsCutAt m 0 (size m) 0 w
@@ -269,7 +270,7 @@ module _ {T M A : Type 0} where
       ∙ ap (with_room Front) view
 
   -- the block has so many places
-  pub grown_cut : (drops : Bool) (owner : Option Owner) (m w : CutMemory T A) (places : ℕ)
+  pub grown_cut : (drops : Bool) (owner : Option Owner) (m w : CutMemory T V A) (places : ℕ)
       (seen : PartsView T M) → cut_native {M = M} drops owner m ≡ seen → IsOnBlock seen.place
       → xs w ≡ xs m → first w ≡ first m → size w ≡ places → room w ≡ places - first m
       → (drops ≡ true → left w ≡ left m)
@@ -294,7 +295,7 @@ module _ {T M A : Type 0} where
           (arith, ap (λ zs. length zs) items, begins, stays refl) in ap Some same
 
   -- who has all places up to the end of the block leaves none behind them
-  pub none_left : (drops one_pass : Bool) (owner : Option Owner) (m : CutMemory T A)
+  pub none_left : (drops one_pass : Bool) (owner : Option Owner) (m : CutMemory T V A)
       (seen : PartsView T M) {places : ℕ} → cut_native {M = M} drops owner m ≡ seen
       → CanGrowNative drops seen places → drops ≡ true → left m ≡ 0
   none_left drops one_pass None m seen view grows owned =
@@ -307,7 +308,7 @@ module _ {T M A : Type 0} where
 
   -- and so it is, where memory was given
   pub grown_seen : {E : Type 0} (drops one_pass : Bool) (owner : Option Owner)
-      (m w : CutMemory T A) (places : ℕ) (seen : PartsView T M) (reply : Result (Unit {0}) E)
+      (m w : CutMemory T V A) (places : ℕ) (seen : PartsView T M) (reply : Result (Unit {0}) E)
       → cut_native {M = M} drops owner m ≡ seen → CanGrowNative drops seen places
       → xs w ≡ xs m → first w ≡ first m → (drops ≡ true → left w ≡ 0)
       → OnOk reply ((size w ≡ places) × (room w ≡ places - first m) × IsPiece w.source)
@@ -318,7 +319,7 @@ module _ {T M A : Type 0} where
       ∙ sym (none_left drops one_pass owner m seen view grows owned))
   grown_seen drops one_pass owner m w places seen (Err e) view grows items begins none made = tt
 
-  pub grown_room : {E : Type 0} (drops : Bool) (owner : Option Owner) (m w : CutMemory T A)
+  pub grown_room : {E : Type 0} (drops : Bool) (owner : Option Owner) (m w : CutMemory T V A)
       (places : ℕ) (seen : PartsView T M) (reply : Result (Unit {0}) E)
       → cut_native {M = M} drops owner m ≡ seen → IsOnBlock seen.place → xs w ≡ xs m
       → OnOk reply ((size w ≡ places) × (room w ≡ places - first m) × IsPiece w.source)
@@ -332,7 +333,7 @@ module _ {T M A : Type 0} where
   grown_room drops owner m w places seen (Err e) view stands items made = tt
 
   pub grown_within : {E : Type 0} (drops one_pass : Bool) (owner : Option Owner)
-      (m w : CutMemory T A) (places : ℕ) (seen : PartsView T M) (reply : Result (Unit {0}) E)
+      (m w : CutMemory T V A) (places : ℕ) (seen : PartsView T M) (reply : Result (Unit {0}) E)
       → cut_native {M = M} drops owner m ≡ seen → IsOnBlock seen.place
       → IsCutNative drops one_pass owner m → IsCutFor drops w
       → OnOk reply ((size w ≡ places) × (room w ≡ places - first m) × IsPiece w.source)
@@ -345,7 +346,7 @@ module _ {T M A : Type 0} where
       same = (kept, (within.1.0, subst (λ n. IsPiece n.source) (sym same) within.1.1))
 
   -- the same as one of several writers
-  pub shared_cut : (drops : Bool) (o : Owner) (m : CutMemory T A) (w : WriterMemory T A)
+  pub shared_cut : (drops : Bool) (o : Owner) (m : CutMemory T V A) (w : WriterMemory T V A)
       (seen : PartsView T M) → cut_native {M = M} drops (Some o) m ≡ seen → drops ≡ false
       → w.places.vec.items ≡ xs m → IsWholeOf m (first m) w
       → native_row {M = M} (native_writer_over o w (room m)) ≡ as_shared seen
@@ -360,7 +361,7 @@ module _ {T M A : Type 0} where
       ∙ ap as_shared view
 
   -- where items aren't dropped one by one, full places aren't counted
-  pub uncounted_cut : (drops : Bool) (owner : Option Owner) (m : CutMemory T A)
+  pub uncounted_cut : (drops : Bool) (owner : Option Owner) (m : CutMemory T V A)
       (seen : PartsView T M) → cut_native {M = M} drops owner m ≡ seen → drops ≡ false
       → (len more : ℕ) → with_full len more seen.place ≡ seen.place
   uncounted_cut drops None m seen view copied len more =
@@ -370,7 +371,7 @@ module _ {T M A : Type 0} where
       subst (λ (s : PartsView T M). with_full len more s.place ≡ s.place) view refl
 
   -- all of new memory
-  pub new_cut : (drops : Bool) (o : Owner) (w : CutMemory T A) → first w ≡ 0 → left w ≡ 0
+  pub new_cut : (drops : Bool) (o : Owner) (w : CutMemory T V A) → first w ≡ 0 → left w ≡ 0
       → room w ≡ size w
       → cut_native {M = M} drops (Some o) w ≡ writer_over native drops (Some o) (xs w) (size w)
   new_cut drops o w begins none all =
@@ -387,8 +388,8 @@ module _ {T M A : Type 0} where
       }
 
   -- the part from start to end of all that hold items
-  pub part_cut : (drops : Bool) (o : Owner) (m : WriterMemory T A) (start end : ℕ)
-      (w : CutMemory T A) → start ≤ end → end ≤ length m.places.vec.items
+  pub part_cut : (drops : Bool) (o : Owner) (m : WriterMemory T V A) (start end : ℕ)
+      (w : CutMemory T V A) → start ≤ end → end ≤ length m.places.vec.items
       → IsPartCut drops m start end w
       → cut_native {M = M} drops (Some o) w ≡ sole_native_part {M = M} drops o m start end
   part_cut false o m start end w ordered inside part = λ i. record {
@@ -432,16 +433,16 @@ module _ {T M A : Type 0} where
       places = by-end ((at + (end - start)) == all) refl
 
   -- the same items as a reader's, once the block's memory is lent again
-  pub frozen_cut : (drops one_pass : Bool) (o : Owner) (m : CutMemory T A) (w : WriterMemory T A)
-      (b : NativeView T) (start end : ℕ) (seen : PartsView T M)
+  pub frozen_cut : (drops one_pass : Bool) (o : Owner) (m : CutMemory T V A)
+      (w : WriterMemory T V A) (b : BlockView T M) (start end : ℕ) (seen : PartsView T M)
       → cut_native {M = M} drops (Some o) m ≡ seen → IsCutNative drops one_pass (Some o) m
       → (drops ≡ false → IsWholeOf m (first m) w × (w.places.vec.items ≡ xs m))
       → (drops ≡ true → IsWholeOf m 0 w
       × (w.places.vec.items ≡ m.before.items ++ (xs m ++ m.behind.items)))
       → b ≡ native_over drops o w → start ≡ first m → end ≡ first m + length (xs m)
-      → parts_of (window_seen {M = M} (Native b) start end) ≡ as_reader seen
+      → parts_of (part_of_block b start end) ≡ as_reader seen
   frozen_cut drops one_pass o m w b start end seen view within own all is begins ends =
-      (λ i. parts_of (window_seen {M = M} (Native (is i)) (begins i) (ends i)))
+      (λ i. parts_of (part_of_block (is i) (begins i) (ends i)))
       ∙ again drops own all within.0
       ∙ ap as_reader view
     where
@@ -450,7 +451,7 @@ module _ {T M A : Type 0} where
           → (drops ≡ true → IsWholeOf m 0 w
           × (w.places.vec.items ≡ m.before.items ++ (xs m ++ m.behind.items)))
           → IsCutFor drops m
-          → parts_of (window_seen {M = M} (Native (native_over drops o w)) (first m)
+          → parts_of (part_of_block (native_over {G = M} drops o w) (first m)
           (first m + length (xs m))) ≡ as_reader (cut_native {M = M} drops (Some o) m)
       again false own all kept =
           let same = own refl in
@@ -502,8 +503,8 @@ module _ {T M A : Type 0} where
           }
 
   -- who has an item at each of the block's places has all of the memory's
-  pub whole_cut : (drops one_pass : Bool) (owner : Option Owner) (m : CutMemory T A)
-      (w : WriterMemory T A) (n : ℕ) (seen : PartsView T M)
+  pub whole_cut : (drops one_pass : Bool) (owner : Option Owner) (m : CutMemory T V A)
+      (w : WriterMemory T V A) (n : ℕ) (seen : PartsView T M)
       → cut_native {M = M} drops owner m ≡ seen → IsCutNative drops one_pass owner m
       → (drops ≡ false → IsWholeOf m (first m) w × (w.places.vec.items ≡ xs m))
       → (drops ≡ true → IsWholeOf m 0 w

@@ -15,7 +15,8 @@ use Rattle.arc_block.specs.Place.{on_block}
 use Rattle.arc_block.specs.Table.{sole_writer}
 use Rattle.arc_parts.specs.Window.{PartsView}
 use Rattle.arc_parts.specs.Writers.{writer_capacity, with_items}
-use Rattle.arc_sort_writers.specs.SortParts.{vector_part, IsVectorWithin}
+use Rattle.arc_parts.specs.SoleParts.{vector_part}
+use Rattle.arc_sort_writers.specs.SortParts.{IsVectorWithin}
 use Rattle.arc_sort_writers.proofs.MemoryParts.{slice_is_sub}
 
 -- what stays behind the written items within the first ones is theirs alone

@@ -1,7 +1,6 @@
 pub mod MemoryParts
 pub mod Writers
 pub mod Lent
-pub mod SoleNatives
 pub mod CutNatives
 pub mod CutKeeps
 pub mod SoleBuffers

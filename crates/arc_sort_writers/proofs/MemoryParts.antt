@@ -14,7 +14,7 @@ use Rattle.arc_block.specs.Place.{on_block}
 use Rattle.arc_block.specs.Table.{sole_writer}
 use Rattle.arc_parts.specs.Window.{PartsView}
 use Rattle.arc_parts.specs.Writers.{writer_capacity, with_more, after_truncate}
-use Rattle.arc_sort_writers.specs.SortParts.{memory_part}
+use Rattle.arc_parts.specs.SoleParts.{memory_part}
 
 -- a slice from start to end is what is there between these
 pub slice_is_sub : {T : Type 0} (xs : List T) (start end : ℕ) → start ≤ end

@@ -23,7 +23,8 @@ use Rattle.std.specs.Prelude.{Result, Ok, Err, OnOk, slice_set}
 use Rattle.arc_block.specs.Place.{on_block}
 use Rattle.arc_block.specs.Table.{Role, sole_writer}
 use Rattle.arc_parts.specs.Window.{PartsView, IsBufferWhole}
-use Rattle.arc_sort_writers.specs.SortParts.{block_part, IsBufferWithin}
+use Rattle.arc_parts.specs.SoleParts.{block_part}
+use Rattle.arc_sort_writers.specs.SortParts.{IsBufferWithin}
 use Rattle.arc_parts.specs.Writers.{capacity_of}
 use Rattle.arc_block.specs.Place.{size_at, offset_at, buffer_at}
 use Rattle.arc_block.specs.Table.{bare}

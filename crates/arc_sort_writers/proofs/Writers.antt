@@ -15,7 +15,8 @@ use Rattle.arc_block.specs.Place.{Place, nowhere, static_data, on_block}
 use Rattle.arc_parts.specs.Window.{PartsView}
 use Rattle.arc_parts.specs.Writers.{writer_capacity, capacity_of, with_more, after_truncate}
 use Rattle.arc_parts.specs.Writers.{with_full}
-use Rattle.arc_sort_writers.specs.SortParts.{vector_part, memory_part, IsVectorWithin}
+use Rattle.arc_parts.specs.SoleParts.{vector_part, memory_part}
+use Rattle.arc_sort_writers.specs.SortParts.{IsVectorWithin}
 use Rattle.arc_sort_writers.proofs.MemoryParts.{ends_behind, pushed_part, cut_copied, cut_owned}
 
 -- with no items more nothing changes

@@ -25,13 +25,10 @@ module _ (S B M A H Item Error : RattleType) (h : mark.Ghosts H.Denot)
       Lends (in_vector.the_row S B M A H Item Error h s b a) (Array Item 0) parts r
       (with_items parts.now)
 
--- the same of items on a native block
-module _ (S M A H Item Error : RattleType) (h : mark.Ghosts H.Denot)
-    (s : kind.Ghosts S.Denot Item.Denot Error.Denot) (a : allocator.Ghosts A.Denot)
-    (parts : MutBor (PartsView Item.Denot M.Denot)) where
+  -- the same of items on a native block
   abbrev pub lends_native_items : MutBor (List Item.Denot) → Fml
   lends_native_items r =
-      Lends (native.the_row S M A H Item Error h s a) (Array Item 0) parts r
+      Lends (native.the_row S B M A H Item Error h s b a) (Array Item 0) parts r
       (with_items parts.now)
 
 -- the same of items in a caller's buffer, which then has them too
@@ -46,8 +43,8 @@ module _ (S B M A H Item Error : RattleType) (h : mark.Ghosts H.Denot)
       (with_written m.with_part parts.now)
 
 -- the same of one of several writers on a native block
-module _ (T A H : RattleType) (h : mark.Ghosts H.Denot) (a : allocator.Ghosts A.Denot)
+module _ (T C A H : RattleType) (h : mark.Ghosts H.Denot) (a : allocator.Ghosts A.Denot)
     (writer : MutBor (NativeWriter T.Denot)) where
   abbrev pub lends_writer_items : MutBor (List T.Denot) → Fml
   lends_writer_items r =
-      Lends (shared_native.the_row T A H h a) (Array T 0) writer r (with_written_items writer.now)
+      Lends (shared_native.the_row T C A H h a) (Array T 0) writer r (with_written_items writer.now)

@@ -5,7 +5,7 @@ use Rattle.std.specs.List.{refill}
 use Rattle.arc_owners.specs.declared.mark.Mark.{Ghosts}
 use Rattle.arc_owners.specs.count.Calls.{Owner}
 use Rattle.arc_memory.specs.declared.kept.Kept.{Kept}
-use Rattle.arc_memory.specs.declared.kept.Kept.TheVariants.{Places, Items}
+use Rattle.arc_memory.specs.declared.kept.Kept.TheVariants.{Places, Items, Callers}
 use Rattle.arc_memory.specs.declared.shared_writer.SharedWriter.{SharedWriter}
 use Rattle.arc_memory.specs.declared.writer_memory.WriterMemory.{WriterMemory}
 use Rattle.arc_memory.specs.LentMemory.{LentMemory}
@@ -80,9 +80,9 @@ module _ {T : Type 0} where
     size = (writer_range w).memory.whole;
   }
 
-module _ {T A : Type 0} where
+module _ {T V A : Type 0} where
   -- a block's only owner with so many places of its memory, as one of several
-  abbrev pub native_writer_over : Owner → WriterMemory T A → (capacity : ℕ) → NativeWriter T
+  abbrev pub native_writer_over : Owner → WriterMemory T V A → (capacity : ℕ) → NativeWriter T
   native_writer_over owner memory capacity = record {
     owner = owner;
     items = memory.places.vec.items;
@@ -91,10 +91,11 @@ module _ {T A : Type 0} where
     size = memory.places.under.whole;
   }
 
-  -- what the block keeps is that the places of this memory come back
-  abbrev pub KeepsPlaces : Kept T A → LentMemory → Type 0
-  KeepsPlaces (Places kept) memory = kept.inheritance.memory ≡ memory
-  KeepsPlaces (Items kept) memory = ⊥
+-- what the block keeps is that the places of this memory come back
+abbrev pub KeepsPlaces : {T C A : Type 0} → Kept T C A → LentMemory → Type 0
+KeepsPlaces (Places kept) memory = kept.inheritance.memory ≡ memory
+KeepsPlaces (Items kept) memory = ⊥
+KeepsPlaces (Callers kept) memory = ⊥
 
 -- where he is by himself: on nothing, or on a vector
 abbrev pub IsAlonePlace : {N M : Type 0} → Place (Option N) M → Type 0

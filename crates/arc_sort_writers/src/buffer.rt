@@ -5,28 +5,28 @@ ghost use Rattle.std.specs.Prelude.{◌≡◌, ◌≤◌, ◌+◌, ◌-◌, true
 ghost use Rattle.std.specs.Prelude.{Err, Some, ℕ, IsTrue, ◌↔◌};
 ghost use Rattle.std.specs.Mem.{type_size};
 ghost use Rattle.arc_owners.specs.count.Calls.{IsPassOfNone};
-ghost use Rattle.arc_owners.specs.memory.SoleBoxes.{sole_in, sole_value};
+ghost use Rattle.arc_owners.specs.memory.SoleCounts.{count_owner};
 ghost use Rattle.arc_block.specs.Block.{buffer, buffer_info};
 ghost use Rattle.arc_block.specs.Given.{given_as};
 ghost use Rattle.arc_block.specs.Table.{bare};
-ghost use Rattle.arc_block.specs.Contents.{held_in};
+ghost use Rattle.arc_block.specs.Contents.{held_alone};
 ghost use Rattle.arc_sort_writers.specs.Growth.{AsksForRoom};
 ghost use Rattle.arc_parts.specs.declared.room.Room.TheVariants.{Front, Growth, Own};
 ghost use Rattle.arc_parts.specs.Room.{IfSpare, IfFront, IfOwn, IsBuffersRefusal, IsBuffersRoom};
 ghost use Rattle.arc_parts.specs.Steps.{EndsShownAt};
 ghost use Rattle.arc_parts.specs.Writers.{capacity_of, room_for, with_room, MakesBufferWriter};
 ghost use Rattle.arc_parts.specs.Writers.{IsWriterPlace};
-ghost use Rattle.arc_sort_writers.specs.SortParts.{block_part};
+ghost use Rattle.arc_parts.specs.SoleParts.{block_part};
 ghost use Rattle.arc_block.specs.Place.{size_at, offset_at};
 ghost use Rattle.arc_parts.specs.Window.{IsOfBuffer};
 ghost use Rattle.arc_parts.specs.Shared.{is_vector_at};
 
-use arc_block::block::{CallersBuffer, Content, MAX_OWNERS, SoleCount};
+use arc_block::block::{CallersBuffer, Content, MAX_OWNERS, SoleCallers, SoleOf};
 use arc_buffer::buffer::{Buffer, BufferMut};
 use arc_buffer::kinds::Slice;
 use arc_owners::error::TryReserveError;
 use arc_owners::mark::Mark;
-use arc_owners::owners::{Pass, SoleBox};
+use arc_owners::owners::Pass;
 use arc_parts::room::Room;
 use std::alloc::Allocator;
 use std::marker::Model;
@@ -42,7 +42,7 @@ pub struct SoleBuffer<
     A: Allocator + Copy,
     H: Mark,
 > {
-    count: SoleCount<S::Item, B, M, A, MAX_OWNERS, H>,
+    count: SoleOf<S, B, M, A, MAX_OWNERS, H>,
     start: usize,
     end: usize,
     alloc: A,
@@ -50,19 +50,23 @@ pub struct SoleBuffer<
 
 impl<S: Slice, B: BufferMut<S::Item> + Drop, M: Drop, A: Allocator + Copy, H: Mark> Model
     for SoleBuffer<S, B, M, A, H> {
-    ghost use Rattle.arc_owners.specs.memory.SoleBoxes.{sole_in, sole_value};
-    ghost use Rattle.arc_block.specs.Contents.{held_in};
+    ghost use Rattle.arc_owners.specs.memory.SoleCounts.{count_owner};
+    ghost use Rattle.arc_block.specs.Contents.{held_alone};
     ghost use Rattle.arc_block.specs.Given.{Given};
     ghost use Rattle.arc_parts.specs.Window.{PartsView};
-    ghost use Rattle.arc_sort_writers.specs.SortParts.{block_part, IsBufferWithin};
+    ghost use Rattle.arc_parts.specs.SoleParts.{block_part};
+    ghost use Rattle.arc_sort_writers.specs.SortParts.{IsBufferWithin};
 
     ghost Value = { PartsView S.Item (Given B M) };
 
     ghost view = { λ p. block_part S.DROPS
-        (held_in B.list B.places S.DROPS (sole_in p.count) (sole_value p.count)) p.start p.end };
+        (held_alone B.list B.places S.DROPS (count_owner p.count.count)
+            p.count.memory.places.vec.items) p.start p.end };
 
     ghost invariant = { λ p. IsBufferWithin H.whole
-        (held_in B.list B.places S.DROPS (sole_in p.count) (sole_value p.count)) p.start p.end };
+        (held_alone B.list B.places S.DROPS (count_owner p.count.count)
+            p.count.memory.places.vec.items) p.start p.end
+        × (length p.count.memory.places.vec.items ≡ 1) };
 }
 
 impl<S: Slice, B: BufferMut<S::Item> + Drop, M: Drop, A: Allocator + Copy, H: Mark> Drop
@@ -76,7 +80,7 @@ impl<S: Slice, B: BufferMut<S::Item> + Drop, M: Drop, A: Allocator + Copy, H: Ma
             end: _,
             alloc: _,
         } = self;
-        drop(count);
+        count.let_go().show();
     }
 }
 
@@ -124,7 +128,7 @@ impl<S: Slice, B: BufferMut<S::Item> + Drop, M: Drop, A: Allocator + Copy, H: Ma
     pub fn as_slice(&self) -> &[S::Item]
         ensures { result.now ≡ self.now.items }
     {
-        match self.count.get() {
+        match self.count.content() {
             Content::Buffer(held) => &held.buffer.as_slice()[..self.end][self.start..],
             _ => unreachable!(),
         }
@@ -135,7 +139,7 @@ impl<S: Slice, B: BufferMut<S::Item> + Drop, M: Drop, A: Allocator + Copy, H: Ma
         ensures capacity { result ≡ capacity_of self.now.role }
         ensures enough { length self.now.items ≤ result }
     {
-        match self.count.get() {
+        match self.count.content() {
             Content::Buffer(held) => {
                 if S::DROPS && self.end != held.buffer.as_slice().len() {
                     return self.end - self.start;
@@ -176,7 +180,7 @@ impl<S: Slice, B: BufferMut<S::Item> + Drop, M: Drop, A: Allocator + Copy, H: Ma
             metadata,
             writable: true,
         };
-        match SoleBox::new(alloc, Content::Buffer(held)) {
+        match SoleCallers::of_content(alloc, Content::Buffer(held)) {
             Ok((count, new)) => {
                 *pass = new;
                 Ok(SoleBuffer {
@@ -207,7 +211,7 @@ impl<S: Slice, B: BufferMut<S::Item> + Drop, M: Drop, A: Allocator + Copy, H: Ma
         if additional <= self.capacity() - self.len() {
             return Room::Spare;
         }
-        match self.count.get() {
+        match self.count.content() {
             Content::Buffer(held) => {
                 if S::DROPS && self.end != held.buffer.as_slice().len() {
                     return Room::Refused(TryReserveError::Unsupported);
@@ -235,7 +239,7 @@ impl<S: Slice, B: BufferMut<S::Item> + Drop, M: Drop, A: Allocator + Copy, H: Ma
         ensures own { AsksForRoom B.list B.places B.grows B.refuses self.old additional
             (size_at self.new.place) result }
     {
-        match self.count.get_mut() {
+        match self.count.content_mut() {
             Content::Buffer(held) => held.buffer.try_reserve(additional),
             _ => unreachable!(),
         }
@@ -248,7 +252,7 @@ impl<S: Slice, B: BufferMut<S::Item> + Drop, M: Drop, A: Allocator + Copy, H: Ma
         ensures room { (length self.new.items ≡ length self.old.items)
             × (size_at self.old.place ≤ capacity_of self.new.role) }
     {
-        match self.count.get_mut() {
+        match self.count.content_mut() {
             Content::Buffer(held) => held.buffer.as_mut_slice().rotate_left(self.start),
             _ => unreachable!(),
         }

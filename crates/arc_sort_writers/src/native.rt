@@ -16,12 +16,14 @@ ghost use Rattle.arc_block.specs.Table.{sole_writer};
 ghost use Rattle.arc_parts.specs.Writers.{capacity_of, room_for, with_room, IsNewWriter};
 ghost use Rattle.arc_parts.specs.Writers.{IsWriterOver, MakesWriter, MakesRoom, IsWriterPlace};
 ghost use Rattle.arc_memory.specs.CutMemories.{IsWholeOf};
-ghost use Rattle.arc_sort_writers.specs.SortParts.{sole_native_part, CanGrowNative};
+ghost use Rattle.arc_parts.specs.SoleParts.{sole_native_part};
+ghost use Rattle.arc_sort_writers.specs.SortParts.{CanGrowNative};
 ghost use Rattle.arc_sort_writers.specs.CutParts.{IsPartCut, IsCutFor};
 ghost use Rattle.arc_parts.specs.Window.{IsOfBuffer};
 ghost use Rattle.arc_parts.specs.Shared.{is_vector_at};
 
-use arc_block::block::{MAX_OWNERS, NativeCount};
+use arc_block::block::{BlockKept, MAX_OWNERS, NativeCount};
+use arc_buffer::buffer::Buffer;
 use arc_buffer::kinds::{Slice, Zeroable};
 use arc_memory::{CutMemory, WriterMemory};
 use arc_owners::error::{AllocError, TryReserveError};
@@ -37,25 +39,33 @@ use std::marker::{Model, PhantomData};
 /// has, or on nothing: the items, where they stand, and how many places they have.
 ///
 /// Parts that are dropped end as a window does.
-pub struct SoleNative<S: Slice, M: Drop = (), A: Allocator + Copy = Global, H: Mark = Open> {
+pub struct SoleNative<
+    S: Slice,
+    B: Buffer<S::Item> + Drop = Vec<<S as Slice>::Item>,
+    M: Drop = (),
+    A: Allocator + Copy = Global,
+    H: Mark = Open,
+> {
     // `None` where they stand on nothing, and then there are no places.
     count: Option<NativeCount<MAX_OWNERS, H>>,
     // The items lie in the writer's own places. Behind these lie the items that were cut off, where
     // items are dropped one by one. Else the block may have places there that aren't the writer's:
     // one of several writers who became the only one keeps his places until he asks for room.
-    memory: CutMemory<S::Item, A>,
+    memory: CutMemory<S::Item, BlockKept<S, B, M, A>, A>,
     alloc: A,
-    // The type of what a caller gives (`CallersBuffer`), of which a native block has nothing.
+    // The type of metadata, of which a native block has none.
     marker: PhantomData<M>,
 }
 
-impl<S: Slice, M: Drop, A: Allocator + Copy, H: Mark> Model for SoleNative<S, M, A, H> {
+impl<S: Slice, B: Buffer<S::Item> + Drop, M: Drop, A: Allocator + Copy, H: Mark> Model
+    for SoleNative<S, B, M, A, H> {
     ghost use Rattle.std.specs.Option.{option_map};
     ghost use Rattle.arc_owners.specs.memory.SoleCounts.{count_owner};
+    ghost use Rattle.arc_block.specs.Given.{Given};
     ghost use Rattle.arc_parts.specs.Window.{PartsView};
     ghost use Rattle.arc_sort_writers.specs.CutParts.{cut_native, IsCutNative};
 
-    ghost Value = { PartsView S.Item M };
+    ghost Value = { PartsView S.Item (Given B M) };
 
     ghost view = { λ p. cut_native S.DROPS (option_map count_owner p.count) p.memory };
 
@@ -63,7 +73,8 @@ impl<S: Slice, M: Drop, A: Allocator + Copy, H: Mark> Model for SoleNative<S, M,
         IsCutNative S.DROPS H.whole (option_map count_owner p.count) p.memory };
 }
 
-impl<S: Slice, M: Drop, A: Allocator + Copy, H: Mark> Drop for SoleNative<S, M, A, H> {
+impl<S: Slice, B: Buffer<S::Item> + Drop, M: Drop, A: Allocator + Copy, H: Mark> Drop
+    for SoleNative<S, B, M, A, H> {
     fn drop(self)
         ensures ended { H.whole ≡ false → EndsShownAt H H.real self.place }
     {
@@ -73,7 +84,7 @@ impl<S: Slice, M: Drop, A: Allocator + Copy, H: Mark> Drop for SoleNative<S, M, 
             alloc,
             marker: _,
         } = self;
-        let memory = whole_of::<S, A>(memory);
+        let memory = whole_of::<S, BlockKept<S, B, M, A>, A>(memory);
         match count {
             Some(count) => end_native(count, memory).show(),
             None => drop(memory),
@@ -85,7 +96,9 @@ impl<S: Slice, M: Drop, A: Allocator + Copy, H: Mark> Drop for SoleNative<S, M, 
 /// All of a writer's memory, with the items that are to be dropped with it: all that lie there,
 /// where they are dropped one by one, and else the writer's own.
 #[inline(always)]
-fn whole_of<S: Slice, A: Allocator>(memory: CutMemory<S::Item, A>) -> WriterMemory<S::Item, A>
+fn whole_of<S: Slice, V: Drop, A: Allocator>(
+    memory: CutMemory<S::Item, V, A>,
+) -> WriterMemory<S::Item, V, A>
     requires { IsCutFor S.DROPS memory }
     ensures own { S.DROPS ≡ false → IsWholeOf memory memory.places.under.start result
         × (result.places.vec.items ≡ memory.places.vec.items) }
@@ -100,11 +113,11 @@ fn whole_of<S: Slice, A: Allocator>(memory: CutMemory<S::Item, A>) -> WriterMemo
 
 /// The places from `start` to before `end`, of which each holds an item, as the writer's own. Items
 /// behind them are forgotten, and those before them too; items that are dropped one by one stay.
-fn part_of<S: Slice, A: Allocator>(
-    memory: WriterMemory<S::Item, A>,
+fn part_of<S: Slice, V: Drop, A: Allocator>(
+    memory: WriterMemory<S::Item, V, A>,
     start: usize,
     end: usize,
-) -> CutMemory<S::Item, A>
+) -> CutMemory<S::Item, V, A>
     requires range { (start ≤ end) × (end ≤ length memory.places.vec.items) }
     requires first { S.DROPS ≡ true → memory.places.under.start ≡ 0 }
     ensures { IsPartCut S.DROPS memory start end result }
@@ -116,11 +129,11 @@ fn part_of<S: Slice, A: Allocator>(
 }
 
 /// `part_of` of items that aren't dropped one by one.
-fn forgotten_part<T: Drop, A: Allocator>(
-    memory: WriterMemory<T, A>,
+fn forgotten_part<T: Drop, V: Drop, A: Allocator>(
+    memory: WriterMemory<T, V, A>,
     start: usize,
     end: usize,
-) -> CutMemory<T, A>
+) -> CutMemory<T, V, A>
     requires range { (start ≤ end) × (end ≤ length memory.places.vec.items) }
     ensures { IsPartCut false memory start end result }
 {
@@ -132,11 +145,11 @@ fn forgotten_part<T: Drop, A: Allocator>(
 }
 
 /// `part_of` of items that are dropped one by one.
-fn kept_part<T: Drop, A: Allocator>(
-    memory: WriterMemory<T, A>,
+fn kept_part<T: Drop, V: Drop, A: Allocator>(
+    memory: WriterMemory<T, V, A>,
     start: usize,
     end: usize,
-) -> CutMemory<T, A>
+) -> CutMemory<T, V, A>
     requires range { (start ≤ end) × (end ≤ length memory.places.vec.items) }
     requires first { memory.places.under.start ≡ 0 }
     ensures { IsPartCut true memory start end result }
@@ -153,8 +166,8 @@ fn kept_part<T: Drop, A: Allocator>(
 
 /// Grows the memory to so many places, with the items that it keeps in the same places. No items
 /// lie behind the writer's, who then has all places there.
-fn grown<S: Slice, A: Allocator>(
-    memory: &mut CutMemory<S::Item, A>,
+fn grown<S: Slice, V: Drop, A: Allocator>(
+    memory: &mut CutMemory<S::Item, V, A>,
     alloc: A,
     places: usize,
 ) -> Result<(), AllocError>
@@ -176,7 +189,13 @@ fn grown<S: Slice, A: Allocator>(
     memory.grow_own(alloc, places)
 }
 
-impl<S: Slice, M: Drop, A: Allocator + Copy, H: Mark> SoleNative<S, M, A, H> {
+impl<S: Slice, B: Buffer<S::Item> + Drop, M: Drop, A: Allocator + Copy, H: Mark> SoleNative<
+    S,
+    B,
+    M,
+    A,
+    H,
+> {
     /// No items and no places, on nothing.
     #[tactic(auto, using(crate::proofs::CutKeeps::keeps_both))]
     pub fn on_nothing(alloc: A) -> Self
@@ -405,7 +424,11 @@ impl<S: Slice, M: Drop, A: Allocator + Copy, H: Mark> SoleNative<S, M, A, H> {
 
     /// All items of this memory, which becomes a new block's. The pass becomes that block's.
     #[tactic(auto, using(crate::proofs::CutKeeps::keeps_both))]
-    fn on_new(alloc: A, memory: WriterMemory<S::Item, A>, pass: &mut Pass<H>) -> Self
+    fn on_new(
+        alloc: A,
+        memory: WriterMemory<S::Item, BlockKept<S, B, M, A>, A>,
+        pass: &mut Pass<H>,
+    ) -> Self
         requires start { memory.places.under.start ≡ 0 }
         requires block { IsPiece memory.source }
         ensures { IsWriterOver Counted native S.DROPS H.whole memory.places.vec.items
@@ -427,7 +450,7 @@ impl<S: Slice, M: Drop, A: Allocator + Copy, H: Mark> SoleNative<S, M, A, H> {
     pub fn over(
         alloc: A,
         count: NativeCount<MAX_OWNERS, H>,
-        memory: WriterMemory<S::Item, A>,
+        memory: WriterMemory<S::Item, BlockKept<S, B, M, A>, A>,
         start: usize,
         end: usize,
     ) -> Self
@@ -439,7 +462,7 @@ impl<S: Slice, M: Drop, A: Allocator + Copy, H: Mark> SoleNative<S, M, A, H> {
     {
         SoleNative {
             count: Some(count),
-            memory: part_of::<S, A>(memory, start, end),
+            memory: part_of::<S, BlockKept<S, B, M, A>, A>(memory, start, end),
             alloc,
             marker: PhantomData,
         }
@@ -551,7 +574,7 @@ impl<S: Slice, M: Drop, A: Allocator + Copy, H: Mark> SoleNative<S, M, A, H> {
             × (capacity_of self.new.role ≡ places - offset_at self.old.place)) }
         ensures refused { OnErr result (self.new ≡ self.old) }
     {
-        grown::<S, A>(&mut self.memory, self.alloc, places)
+        grown::<S, BlockKept<S, B, M, A>, A>(&mut self.memory, self.alloc, places)
     }
 
     /// Takes all places up to the end of the block.

@@ -13,7 +13,6 @@ ghost use Rattle.arc_block.specs.Block.{IsLimited};
 ghost use Rattle.arc_block.specs.Natives.{native_view};
 ghost use Rattle.arc_block.specs.declared.block.TheConstants.{MAX_OWNERS};
 ghost use Rattle.arc_owners.specs.count.Calls.{Asks, IsFirst, IsFreshPass};
-ghost use Rattle.arc_owners.specs.memory.SoleBoxes.{sole_in};
 ghost use Rattle.arc_owners.specs.memory.SoleCounts.{count_owner};
 ghost use Rattle.arc_memory.specs.Sources.{IsPiece};
 ghost use Rattle.arc_memory.specs.LentRanges.{part_range};
@@ -22,7 +21,8 @@ ghost use Rattle.arc_memory.specs.SharedWriters.{writer_range, writer_items};
 ghost use Rattle.arc_memory.specs.WriterParts.{SplitsOwner};
 ghost use Rattle.arc_owners.specs.memory.Boxes.{owner_in, value_of, place_in};
 
-use arc_block::block::{MAX_OWNERS, NativeBlock, NativeCount, max_owners};
+use arc_block::block::{Block, Content, MAX_OWNERS, NativeCount, max_owners};
+use arc_buffer::buffer::Buffer;
 use arc_buffer::kinds::Slice;
 use arc_memory::{Base, HeadSize, Kept, LifetimeToken, SharedWriter, WriterMemory, WriterPart};
 use arc_owners::error::{AllocError, CountFull};
@@ -34,20 +34,20 @@ use std::sync::Wait;
 use std_alloc::vec::Lodged;
 
 /// One of several writers on a native block: an owner, with places that no other owner reaches. Its
-/// items need no drop.
+/// items need no drop. C is what a block of a caller's making keeps.
 ///
 /// One that is dropped ends as a window does.
-pub struct SharedNative<T: Drop, A: Allocator + Copy = Global, H: Mark = Open> {
-    writer: SharedWriter<T, Kept<T, A>, Lodged, MAX_OWNERS, H>,
-    head: HeadSize<Header<Kept<T, A>>>,
+pub struct SharedNative<T: Drop, C: Drop, A: Allocator + Copy = Global, H: Mark = Open> {
+    writer: SharedWriter<T, Kept<T, C, A>, Lodged, MAX_OWNERS, H>,
+    head: HeadSize<Header<Kept<T, C, A>>>,
 }
 
-impl<T: Drop, A: Allocator + Copy, H: Mark> Model for SharedNative<T, A, H> {
+impl<T: Drop, C: Drop, A: Allocator + Copy, H: Mark> Model for SharedNative<T, C, A, H> {
     ghost use Rattle.arc_memory.specs.SharedWriters.{writer_owner, writer_value, writer_range};
     ghost use Rattle.arc_block.specs.Block.{IsLimited};
     ghost use Rattle.arc_sort_writers.specs.NativeWriters.{NativeWriter, native_writer_seen};
     ghost use Rattle.arc_memory.specs.SharedWriters.{writer_place};
-    ghost use Rattle.arc_block.specs.Natives.{IsLaidFor};
+    ghost use Rattle.arc_memory.specs.KeptPlaces.{IsRoomFor};
     ghost use Rattle.arc_sort_writers.specs.NativeWriters.{KeepsPlaces};
     ghost use Rattle.arc_block.specs.declared.block.TheConstants.{MAX_OWNERS};
 
@@ -57,10 +57,10 @@ impl<T: Drop, A: Allocator + Copy, H: Mark> Model for SharedNative<T, A, H> {
 
     ghost invariant = { λ w. IsLimited MAX_OWNERS H.whole (writer_owner w.writer)
         × KeepsPlaces (writer_value w.writer) (writer_range w.writer).memory
-        × IsLaidFor (writer_place w.writer) w.head.size (writer_value w.writer) };
+        × IsRoomFor (writer_place w.writer) w.head.size (writer_value w.writer) };
 }
 
-impl<T: Drop, A: Allocator + Copy, H: Mark> Drop for SharedNative<T, A, H> {
+impl<T: Drop, C: Drop, A: Allocator + Copy, H: Mark> Drop for SharedNative<T, C, A, H> {
     fn drop(self)
         ensures ended { H.whole ≡ false → EndsShown H H.real self.owner }
     {
@@ -71,13 +71,13 @@ impl<T: Drop, A: Allocator + Copy, H: Mark> Drop for SharedNative<T, A, H> {
 /// A writer of the part's places, of which these are the numbers. It stands apart, so that what the
 /// unsafe call asks is proved without other facts.
 #[inline(always)]
-fn writer_of<T: Drop, A: Allocator + Copy, H: Mark>(
-    part: WriterPart<T, Kept<T, A>, Lodged, MAX_OWNERS, H>,
+fn writer_of<T: Drop, C: Drop, A: Allocator + Copy, H: Mark>(
+    part: WriterPart<T, Kept<T, C, A>, Lodged, MAX_OWNERS, H>,
     base: *const T,
     start: usize,
     len: usize,
     capacity: usize,
-) -> SharedWriter<T, Kept<T, A>, Lodged, MAX_OWNERS, H>
+) -> SharedWriter<T, Kept<T, C, A>, Lodged, MAX_OWNERS, H>
     requires place { (base ≡ part.part.memory.base) × (start ≡ part.part.start) }
     requires sizes { (len ≡ length part.part.items) × (capacity ≡ part.part.count) }
     ensures owner { (writer_owner result ≡ owner_in part.owner)
@@ -89,7 +89,7 @@ fn writer_of<T: Drop, A: Allocator + Copy, H: Mark>(
     unsafe { SharedWriter::of(part, base, start, len, capacity) }
 }
 
-impl<T: Drop, A: Allocator + Copy, H: Mark> SharedNative<T, A, H> {
+impl<T: Drop, C: Drop, A: Allocator + Copy, H: Mark> SharedNative<T, C, A, H> {
     ghost use Rattle.std.specs.Borrow.{sem};
     ghost use Rattle.arc_sort_writers.specs.Lends.{lends_writer_items};
 
@@ -97,7 +97,7 @@ impl<T: Drop, A: Allocator + Copy, H: Mark> SharedNative<T, A, H> {
     /// items and of the first `capacity` of its places. It adds no entry and takes no memory.
     pub fn of_sole(
         count: NativeCount<MAX_OWNERS, H>,
-        memory: WriterMemory<T, A>,
+        memory: WriterMemory<T, Kept<T, C, A>, A>,
         capacity: usize,
     ) -> Self
         requires owner { IsLimited MAX_OWNERS H.whole (count_owner count) }
@@ -132,7 +132,7 @@ impl<T: Drop, A: Allocator + Copy, H: Mark> SharedNative<T, A, H> {
     pub fn try_into_sole_as(
         self,
         pass: &mut Pass<H>,
-    ) -> Result<(NativeCount<MAX_OWNERS, H>, WriterMemory<T, A>), Self>
+    ) -> Result<(NativeCount<MAX_OWNERS, H>, WriterMemory<T, Kept<T, C, A>, A>), Self>
         requires pass { IsPassFor self.owner pass.old }
         ensures entry { Asks self.owner pass.old pass.new (is_ok result) }
         ensures owner { IfOk result (λ r. (count_owner r.0 ≡ self.owner)
@@ -167,7 +167,10 @@ impl<T: Drop, A: Allocator + Copy, H: Mark> SharedNative<T, A, H> {
     ///
     /// Down.
     #[tactic(auto, using(crate::proofs::Takes::laid_room))]
-    pub fn into_memory_if_last_as(self, pass: &mut Pass<H>) -> Option<WriterMemory<T, A>>
+    pub fn into_memory_if_last_as(
+        self,
+        pass: &mut Pass<H>,
+    ) -> Option<WriterMemory<T, Kept<T, C, A>, A>>
         requires pass { IsPassFor self.owner pass.old }
         ensures entry { Leaves self.owner pass.old pass.new (is_some result) }
         ensures memory { IfSome result (λ memory. (memory.places.vec.items ≡ self.items)
@@ -222,8 +225,8 @@ impl<T: Drop, A: Allocator + Copy, H: Mark> SharedNative<T, A, H> {
     /// The items, to be changed in their places: they are what is written there.
     #[inline(always)]
     pub fn as_mut_slice(&mut self) -> &mut [T]
-        ensures* writes_back { sem 𝓛 (lends_writer_items T.row A.row H.row H.Mark A.Allocator
-            self.entry result) }
+        ensures* writes_back { sem 𝓛 (lends_writer_items T.row C.row A.row H.row H.Mark
+            A.Allocator self.entry result) }
         ensures value { result.now ≡ self.old.items }
     {
         self.writer.as_mut_slice()
@@ -334,14 +337,6 @@ impl<T: Drop, A: Allocator + Copy, H: Mark> SharedNative<T, A, H> {
 
     /// This writer isn't of the block of an owner that has its block to itself. Does nothing: its
     /// contract is the law.
-    pub fn apart_from<V: Drop>(&self, sole: &SoleBox<V, A, MAX_OWNERS, H>)
-        ensures { ¬ (self.now.owner.block ≡ (sole_in sole.now).block) }
-    {
-        sole.apart_from_rest(&self.writer.rest.rest);
-    }
-
-    /// This writer isn't of the block of an owner that has a native block to itself. Does nothing:
-    /// its contract is the law.
     pub fn apart_from_count(&self, sole: &NativeCount<MAX_OWNERS, H>)
         ensures { ¬ (self.now.owner.block ≡ (count_owner sole.now).block) }
     {
@@ -372,18 +367,6 @@ impl<T: Drop, A: Allocator + Copy, H: Mark> SharedNative<T, A, H> {
             writer: writer.unsplit_as(back, pass),
             head,
         }
-    }
-
-    /// A reader of the items. Other owners may still write their own places. The places behind the
-    /// items are given up. It adds no entry and takes no memory.
-    #[tactic(auto, using(crate::proofs::Takes::kept_frozen))]
-    pub fn freeze<S: Slice<Item = T>>(self) -> NativeBlock<S, A, MAX_OWNERS, H>
-        requires { S.DROPS ≡ false }
-        ensures { result ≡ native_view S.DROPS self.owner self.items self.start self.size }
-    {
-        let SharedNative { writer, head } = self;
-        let at = writer.places.base();
-        NativeBlock::of_reader(Base { at }, writer.freeze(), head)
     }
 
     /// Ends this writer; the last owner gives the block back. It takes no memory.
@@ -459,7 +442,28 @@ impl<T: Drop, A: Allocator + Copy, H: Mark> SharedNative<T, A, H> {
     }
 }
 
-impl<T: Copy + Drop, A: Allocator + Copy, H: Mark> SharedNative<T, A, H> {
+impl<T: Drop, B: Drop, M: Drop, A: Allocator + Copy, H: Mark> SharedNative<
+    T,
+    Content<T, B, M, A>,
+    A,
+    H,
+> {
+    /// A reader of the items. Other owners may still write their own places. The places behind the
+    /// items are given up. It adds no entry and takes no memory.
+    #[tactic(auto, using(crate::proofs::Takes::kept_frozen))]
+    pub fn freeze<S: Slice<Item = T>>(self) -> Block<S, B, M, A, MAX_OWNERS, H>
+    where
+        B: Buffer<T>,
+        requires { S.DROPS ≡ false }
+        ensures { result ≡ native_view S.DROPS self.owner self.items self.start self.size }
+    {
+        let SharedNative { writer, head } = self;
+        let at = writer.places.base();
+        Block::of_reader(Base { at }, writer.freeze(), head)
+    }
+}
+
+impl<T: Copy + Drop, C: Drop, A: Allocator + Copy, H: Mark> SharedNative<T, C, A, H> {
     /// A writer with a copy of the items, on a new native block of `capacity` places, all of them
     /// the writer's, and a pass of the block.
     ///
@@ -492,7 +496,7 @@ impl<T: Copy + Drop, A: Allocator + Copy, H: Mark> SharedNative<T, A, H> {
     }
 }
 
-impl<T: Drop, A: Allocator + Copy, H: Stepping> SharedNative<T, A, H> {
+impl<T: Drop, C: Drop, A: Allocator + Copy, H: Stepping> SharedNative<T, C, A, H> {
     /// A new pass of the block. It has seen at least how this owner became one, and nothing was
     /// made with it. It adds no entry.
     pub fn pass(&self) -> Pass<H>

@@ -4,7 +4,7 @@ ghost use Rattle.std.specs.Prelude.{◌≡◌, ◌≤◌, ◌<◌, ◌+◌, ◌-
 ghost use Rattle.std.specs.Prelude.{IfOk, IfErr, OnOk, OnErr, IsTrue, ◌↔◌};
 ghost use Rattle.std.specs.Mem.{type_size};
 ghost use Rattle.std.specs.Vec.{vec_capacity, vec_len};
-ghost use Rattle.arc_owners.specs.memory.SoleBoxes.{sole_in};
+ghost use Rattle.arc_owners.specs.memory.SoleCounts.{count_owner};
 ghost use Rattle.arc_block.specs.declared.block.TheConstants.{MAX_OWNERS};
 ghost use Rattle.arc_parts.specs.declared.room.Room.TheVariants.{Front, Growth};
 ghost use Rattle.arc_block.specs.Block.{IsLimited, vector};
@@ -12,12 +12,13 @@ ghost use Rattle.arc_parts.specs.Room.{IfSpare, IfFresh, IfBehind, IfGrowth, IfF
 ghost use Rattle.arc_parts.specs.Steps.{IsPassAt, EndsShownAt};
 ghost use Rattle.arc_parts.specs.Writers.{capacity_of, room_for, with_room, IsWriterOver};
 ghost use Rattle.arc_parts.specs.Writers.{MakesRoom, IsWriterPlace};
-ghost use Rattle.arc_sort_writers.specs.SortParts.{vector_part, CanGrow};
+ghost use Rattle.arc_parts.specs.SoleParts.{vector_part};
+ghost use Rattle.arc_sort_writers.specs.SortParts.{CanGrow};
 ghost use Rattle.arc_block.specs.Place.{size_at, offset_at};
 ghost use Rattle.arc_parts.specs.Window.{IsOfBuffer};
 ghost use Rattle.arc_parts.specs.Shared.{is_vector_at};
 
-use arc_block::block::{MAX_OWNERS, SoleCount, end_sole, new_count};
+use arc_block::block::{MAX_OWNERS, SoleOf, end_sole, new_count};
 use arc_buffer::buffer::Buffer;
 use arc_buffer::kinds::Slice;
 use arc_owners::error::{AllocError, TryReserveError};
@@ -38,7 +39,7 @@ pub struct SoleVector<
     A: Allocator + Copy = Global,
     H: Mark = Open,
 > {
-    count: SoleCount<S::Item, B, M, A, MAX_OWNERS, H>,
+    count: SoleOf<S, B, M, A, MAX_OWNERS, H>,
     items: Vec<S::Item, A>,
     start: usize,
     end: usize,
@@ -47,9 +48,9 @@ pub struct SoleVector<
 
 /// The fields: the count, the vector, the numbers in it from which and before which the items lie,
 /// and the allocator.
-type VectorFields<T, B, M, A, H> = (
-    SoleCount<T, B, M, A, MAX_OWNERS, H>,
-    Vec<T, A>,
+type VectorFields<S, B, M, A, H> = (
+    SoleOf<S, B, M, A, MAX_OWNERS, H>,
+    Vec<<S as Slice>::Item, A>,
     usize,
     usize,
     A,
@@ -57,17 +58,19 @@ type VectorFields<T, B, M, A, H> = (
 
 impl<S: Slice, B: Buffer<S::Item> + Drop, M: Drop, A: Allocator + Copy, H: Mark> Model
     for SoleVector<S, B, M, A, H> {
-    ghost use Rattle.arc_owners.specs.memory.SoleBoxes.{sole_in};
+    ghost use Rattle.arc_owners.specs.memory.SoleCounts.{count_owner};
     ghost use Rattle.arc_block.specs.Given.{Given};
     ghost use Rattle.arc_parts.specs.Window.{PartsView};
-    ghost use Rattle.arc_sort_writers.specs.SortParts.{vector_part, IsVectorWithin};
+    ghost use Rattle.arc_parts.specs.SoleParts.{vector_part};
+    ghost use Rattle.arc_sort_writers.specs.SortParts.{IsVectorWithin};
 
     ghost Value = { PartsView S.Item (Given B M) };
 
-    ghost view = { λ p. vector_part S.DROPS (sole_in p.count) p.items p.start p.end };
+    ghost view = { λ p. vector_part S.DROPS (count_owner p.count.count) p.items p.start p.end };
 
     ghost invariant = { λ p.
-        IsVectorWithin S.DROPS H.whole (sole_in p.count) p.items p.start p.end };
+        IsVectorWithin S.DROPS H.whole (count_owner p.count.count) p.items p.start p.end
+        × (p.count.memory.places.vec.items ≡ []) };
 }
 
 impl<S: Slice, B: Buffer<S::Item> + Drop, M: Drop, A: Allocator + Copy, H: Mark> Drop
@@ -218,14 +221,15 @@ impl<S: Slice, B: Buffer<S::Item> + Drop, M: Drop, A: Allocator + Copy, H: Mark>
     /// items are dropped one by one, the vector is truncated behind them.
     pub fn over(
         alloc: A,
-        count: SoleCount<S::Item, B, M, A, MAX_OWNERS, H>,
+        count: SoleOf<S, B, M, A, MAX_OWNERS, H>,
         items: Vec<S::Item, A>,
         start: usize,
         end: usize,
     ) -> Self
-        requires count { IsLimited MAX_OWNERS H.whole (sole_in count) }
+        requires count { IsLimited MAX_OWNERS H.whole (count_owner count.count) }
+        requires empty { count.memory.places.vec.items ≡ [] }
         requires range { (start ≤ end) × (end ≤ vec_len items) }
-        ensures { result ≡ vector_part S.DROPS (sole_in count) items start end }
+        ensures { result ≡ vector_part S.DROPS (count_owner count.count) items start end }
     {
         let mut items = items;
         if !S::DROPS {

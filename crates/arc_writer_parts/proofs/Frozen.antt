@@ -5,22 +5,22 @@ use Rattle.std.proofs.lemmas.Bool.{false≢true}
 use Rattle.arc_buffer.specs.Slice.{sub}
 use Rattle.arc_buffer.proofs.Sub.{sub-whole}
 use Rattle.arc_block.specs.Block.{native, memory_info}
-use Rattle.arc_block.specs.Natives.{NativeView, native_view}
+use Rattle.arc_block.specs.Block.{BlockView}
+use Rattle.arc_block.specs.Natives.{native_view}
 use Rattle.arc_sort_writers.specs.NativeWriters.{NativeWriter, native_row}
 use Rattle.arc_owners.specs.declared.count.tokens.Pass.{Pass}
 use Rattle.arc_block.specs.Place.{on_block, IsOnBlock}
 use Rattle.arc_block.specs.Table.{reader}
 use Rattle.arc_parts.specs.Steps.{Makes, Begins}
-use Rattle.arc_parts.specs.Window.{Window, PartsView, parts_of, window_seen}
+use Rattle.arc_parts.specs.Window.{Window, PartsView, parts_of, part_of_block}
 use Rattle.arc_parts.specs.Writers.{as_reader}
-use Rattle.arc_parts.specs.declared.storage.Storage.TheVariants.{Native}
 
 -- the same items at the same place
-pub frozen_several : {T M : Type 0} (drops : Bool) (w : NativeWriter T) (b : NativeView T)
+pub frozen_several : {T M : Type 0} (drops : Bool) (w : NativeWriter T) (b : BlockView T M)
     (start len : ℕ)
     → drops ≡ false → b ≡ native_view drops w.owner w.items w.start w.size → start ≡ w.start
     → len ≡ length w.items
-    → parts_of (window_seen {M = M} (Native b) start (start + len)) ≡ as_reader
+    → parts_of (part_of_block {M = M} b start (start + len)) ≡ as_reader
     (native_row {M = M} w)
 frozen_several true w b start len copied is begins long = absurd (false≢true (sym copied))
 frozen_several {T} {M} false w b start len copied is begins long =
@@ -33,7 +33,7 @@ frozen_several {T} {M} false w b start len copied is begins long =
       place = on_block (Some w.owner) w.start (memory_info native false w.size 0);
       role = reader;
     } in
-    (λ i. parts_of (window_seen {M = M} (Native (is i)) (begins i) (begins i + long i)))
+    (λ i. parts_of (part_of_block {M = M} (is i) (begins i) (begins i + long i)))
     ∙ (λ i. make (items i))
 
 -- what is made of parts on no block, where these are the same parts

@@ -3,8 +3,6 @@ use Rattle.std.proofs.Common.{◌≡◌, ℕ, true, false, length, Option, Some,
 use Rattle.arc_owners.specs.declared.count.tokens.Pass.{Pass}
 use Rattle.arc_owners.specs.count.Calls.{Owner, Asks, Leaves}
 use Rattle.arc_sort_writers.specs.NativeWriters.{NativeWriter, native_row}
-use Rattle.arc_block.specs.Block.{Sort, native, vector, buffer, raw}
-use Rattle.arc_block.specs.Layouts.{LayoutFacts, MayWrite, holds_block}
 use Rattle.arc_block.specs.Place.{Place, nowhere, static_data, on_block, IsOnBlock, at_owner}
 use Rattle.arc_parts.specs.Shared.{AsksAlone, IsSharedPlace}
 use Rattle.arc_parts.specs.Steps.{TakesAt, RefusesTaking}
@@ -47,11 +45,3 @@ several_refused n w row before after view asked unasked =
         block = λ on. (refl, both.1);
       }));
     })
-
--- a layout that holds what may be written holds its block, whose owners are counted
-pub held_writable : {O : Type 0} (layout : LayoutFacts) (o : O) (sort : Sort)
-    → MayWrite layout.has_any sort → holds_block layout (Some o) sort ≡ true
-held_writable layout o native may = refl
-held_writable layout o vector may = may.1
-held_writable layout o (buffer writable) may = may.1
-held_writable layout o raw may = absurd may.0

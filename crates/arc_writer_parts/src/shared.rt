@@ -10,6 +10,7 @@ ghost use Rattle.arc_parts.specs.Window.{IsBlockHeld};
 ghost use Rattle.arc_parts.specs.Writers.{with_full};
 
 use crate::sole::SoleParts;
+use arc_block::block::BlockContent;
 use arc_block::layout::Layout;
 use arc_buffer::buffer::BufferMut;
 use arc_buffer::kinds::Slice;
@@ -40,7 +41,7 @@ pub struct SharedParts<
     A: Allocator + Copy = Global,
     H: Mark = Open,
 > {
-    on: SharedStorage<SharedNative<S::Item, A, H>, SoleParts<S, B, M, A, H>>,
+    on: SharedStorage<SharedNative<S::Item, BlockContent<S, B, M, A>, A, H>, SoleParts<S, B, M, A, H>>,
     alloc: A,
 }
 
@@ -105,7 +106,7 @@ impl<S: Slice, B: BufferMut<S::Item> + Drop, M: Drop, A: Allocator + Copy, H: Ma
     }
 
     /// One of several writers on a native block.
-    pub(crate) fn several(alloc: A, writer: SharedNative<S::Item, A, H>) -> Self
+    pub(crate) fn several(alloc: A, writer: SharedNative<S::Item, BlockContent<S, B, M, A>, A, H>) -> Self
         requires { S.DROPS ≡ false }
         ensures { result ≡ native_row writer }
     {

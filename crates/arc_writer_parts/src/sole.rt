@@ -11,7 +11,6 @@ ghost use Rattle.std.specs.Prelude.{◌↔◌};
 ghost use Rattle.arc_parts.specs.Window.{IsOfBuffer};
 ghost use Rattle.arc_parts.specs.Shared.{is_vector_at};
 
-use arc_block::block::CallersBuffer;
 use arc_buffer::buffer::BufferMut;
 use arc_buffer::kinds::{Slice, Zeroable};
 use arc_owners::error::AllocError;
@@ -55,11 +54,7 @@ pub struct SoleParts<
     A: Allocator + Copy = Global,
     H: Mark = Open,
 > {
-    on: SoleStorage<
-        SoleNative<S, CallersBuffer<B, M>, A, H>,
-        SoleVector<S, B, M, A, H>,
-        SoleBuffer<S, B, M, A, H>,
-    >,
+    on: SoleStorage<SoleNative<S, B, M, A, H>, SoleVector<S, B, M, A, H>, SoleBuffer<S, B, M, A, H>>,
 }
 
 impl<S: Slice, B: BufferMut<S::Item> + Drop, M: Drop, A: Allocator + Copy, H: Mark> Model
@@ -96,7 +91,7 @@ impl<S: Slice, B: BufferMut<S::Item> + Drop, M: Drop, A: Allocator + Copy, H: Ma
 > {
     /// Items in native memory, or nothing.
     #[inline(always)]
-    pub(crate) fn in_native(parts: SoleNative<S, CallersBuffer<B, M>, A, H>) -> Self
+    pub(crate) fn in_native(parts: SoleNative<S, B, M, A, H>) -> Self
         ensures { result ≡ parts }
     {
         SoleParts {

@@ -17,18 +17,20 @@ impl<
     H: Mark,
 > Block<S, B, M, A, MAX, H> {
     /// The metadata of the caller's buffer that the block keeps, behind an `Arc` or not; `None`
-    /// where the block is a vector.
+    /// where it keeps none.
     pub fn borrowed_metadata(&self) -> Option<&B::Metadata>
     where
         B: BorrowMetadata,
         ensures some { IfSome result (λ m. IsCallers self.now.facts.sort
             × IsOwnMetadata B.list B.metadata self.now.facts.given self.now.items m.now) }
+        ensures first { IfSome result (λ _. self.now.first ≡ 0) }
         ensures none { IfNone result (¬ IsCallers self.now.facts.sort) }
     {
-        match self.piece.get() {
-            Content::Buffer(held) => Some(held.buffer.borrow_metadata()),
-            Content::Raw(shared) => Some(shared.borrow_metadata()),
-            Content::Vector(_) => None,
+        match self.content() {
+            Some(Content::Buffer(held)) => Some(held.buffer.borrow_metadata()),
+            Some(Content::Raw(shared)) => Some(shared.borrow_metadata()),
+            Some(Content::Vector(_)) => None,
+            None => None,
         }
     }
 }

@@ -57,4 +57,13 @@ impl<const MAX: u64, H: Mark> SoleCount<MAX, H> {
     {
         other.share.right.same_lease(&self.sole.right);
     }
+
+    /// Another sole owner is of another block. This one is borrowed to be changed, so that they are
+    /// two, and stays as it is.
+    pub fn apart_from_sole(&mut self, other: &SoleCount<MAX, H>)
+        ensures same { count_owner self.new ≡ count_owner self.old }
+        ensures apart { ¬ ((count_owner other.now).block ≡ (count_owner self.old).block) }
+    {
+        other.sole.right.lives_apart(&mut self.sole.right);
+    }
 }

@@ -192,6 +192,24 @@ impl<V: Drop, A: Allocator + Copy, const MAX: u64, H: Mark> CountedBox<V, A, MAX
         unsafe { borrow.show(place, &self.share.right) }
     }
 
+    /// As `show`, of a value that lies elsewhere, at `place`. There it is lent for the lifetime of
+    /// the same lease. It adds no entry and takes no memory.
+    pub fn show_beside<T, W>(
+        &self,
+        place: *const W,
+        lent: &SharedBorrow<W>,
+    ) -> (*const T, Shown<T, W>)
+    where
+        W: Shows<T>,
+        requires place { lent.now.at ≡ place }
+        requires lifetime { lent.now.lifetime ≡ lifetime_in self.now }
+        ensures items { result.1.items ≡ W.shown lent.now.value }
+        ensures place { result.1.at ≡ result.0 }
+        ensures lifetime { result.1.lifetime ≡ lifetime_in self.now }
+    {
+        unsafe { lent.show(place, &self.share.right) }
+    }
+
     /// The items from `start` to before `end` of the slice that the value showed. `base` is where
     /// the slice begins. It reads no memory.
     #[inline(always)]

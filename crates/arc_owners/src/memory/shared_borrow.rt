@@ -9,7 +9,7 @@ use std::marker::{Model, PhantomData};
 /// That a value lies at a place for as long as a block is lent to its owners, for them to read. It
 /// has no bytes, and can be had more than once.
 pub struct SharedBorrow<T> {
-    pub(crate) marker: PhantomData<T>,
+    pub marker: PhantomData<T>,
     pub ghost value: { T },
     pub ghost at: { Ptr } by { coded_ptr },
     pub ghost lifetime: { ℕ },

@@ -27,11 +27,7 @@ impl<S: Slice, B: Buffer<S::Item> + Drop, M: Drop, A: Allocator + Copy, H: Mark>
         ensures { IsTrue result ↔ IsWholeOf n (window_of self.now) }
     {
         match &self.on {
-            Storage::Native(block) => block.is_of_places(n) && self.len() == n,
-            Storage::Block(block) => {
-                block.known_sort();
-                false
-            }
+            Storage::Block(block) => block.is_native_of(n) && self.len() == n,
             _ => false,
         }
     }
@@ -63,14 +59,10 @@ impl<S: Slice, B: Buffer<S::Item> + Drop, M: Drop, A: Allocator + Copy, H: Mark>
         }
         let (on, start, end, alloc) = self.into_storage();
         match on {
-            Storage::Native(block) => match block.try_into_memory_as(start, end, pass) {
+            Storage::Block(block) => match block.try_into_memory_as(start, end, pass) {
                 Ok(memory) => Ok(memory.into_array()),
-                Err(block) => Err(Parts::over(Storage::Native(block), start, end, alloc)),
+                Err(block) => Err(Parts::over(Storage::Block(block), start, end, alloc)),
             },
-            Storage::Block(block) => {
-                block.known_sort();
-                unreachable!()
-            }
             _ => unreachable!(),
         }
     }
@@ -88,9 +80,6 @@ impl<S: Slice, B: Buffer<S::Item> + Drop, M: Drop, A: Allocator + Copy, H: Mark>
     {
         let (on, _, _, _) = self.into_storage();
         match on {
-            Storage::Native(block) => {
-                let _ = block.release_as(pass);
-            }
             Storage::Block(block) => {
                 let _ = block.release_as(pass);
             }
@@ -112,7 +101,6 @@ impl<S: Slice, B: Buffer<S::Item> + Drop, M: Drop, A: Allocator + Copy, H: Mark>
     {
         let (on, _, _, _) = self.into_storage();
         match on {
-            Storage::Native(block) => block.let_go(),
             Storage::Block(block) => block.let_go(),
             _ => Pass::none(),
         }
@@ -132,13 +120,7 @@ impl<S: Slice, B: Buffer<S::Item> + Drop, M: Drop, A: Allocator + Copy, H: Mark>
     {
         let (on, _, _, _) = self.into_storage();
         match on {
-            Storage::Native(block) => block.drop_with_unique_hint_as(pass),
-            Storage::Block(block) => match block.try_into_content_as(pass) {
-                Ok(content) => drop(content),
-                Err(shared) => {
-                    let _ = shared.release_as(pass);
-                }
-            },
+            Storage::Block(block) => block.drop_with_unique_hint_as(pass),
             _ => {}
         }
     }
@@ -150,10 +132,8 @@ impl<S: Slice, B: Buffer<S::Item> + Drop, M: Drop, A: Allocator + Copy, H: Mark>
     {
         let (on, start, end, alloc) = self.into_storage();
         let on = match on {
-            Storage::Native(block) => Storage::Native(block.into_kind()),
             Storage::Block(block) => Storage::Block(block.into_kind()),
-            Storage::Static(items) => Storage::Static(items),
-            Storage::Nothing(items) => Storage::Nothing(items),
+            Storage::Free(free) => Storage::Free(free),
             Storage::Raw(shared) => Storage::Raw(shared),
         };
         Parts::over(on, start, end, alloc)
@@ -170,11 +150,11 @@ impl<S: Slice, B: Buffer<S::Item> + Drop, M: Drop, A: Allocator + Copy, H: Mark>
         ensures refused { IfErr result (λ parts. (parts ≡ self) × IsOnBlock self.place) }
     {
         match &self.on {
-            Storage::Native(_) | Storage::Block(_) | Storage::Raw(_) => Err(self),
-            Storage::Static(items) => {
-                Ok(StaticSlice::of_items(items.again(), self.start, self.end))
+            Storage::Block(_) | Storage::Raw(_) => Err(self),
+            Storage::Free(free) if free.there => {
+                Ok(StaticSlice::of_items(free.items.again(), self.start, self.end))
             }
-            Storage::Nothing(_) => Ok(StaticSlice::empty()),
+            Storage::Free(_) => Ok(StaticSlice::empty()),
         }
     }
 }

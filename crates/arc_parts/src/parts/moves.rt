@@ -33,11 +33,9 @@ impl<S: Slice, B: Buffer<S::Item> + Drop, M: Drop, A: Allocator + Copy, H: Mark>
         ensures { result ≡ layout_move (layout_facts L.Layout) self.now.place }
     {
         match &self.on {
-            Storage::Nothing(_) if L::STATIC => Move::Stays,
-            Storage::Nothing(_) => Move::NewEmpty,
-            Storage::Static(_) if L::STATIC => Move::Stays,
-            Storage::Static(_) => Move::HandedBack,
-            Storage::Native(_) => Move::Stays,
+            Storage::Free(_) if L::STATIC => Move::Stays,
+            Storage::Free(free) if free.there => Move::HandedBack,
+            Storage::Free(_) => Move::NewEmpty,
             Storage::Block(block) => block.move_to::<L>(),
             Storage::Raw(_) if L::RAW => Move::Stays,
             Storage::Raw(_) if L::ANY => Move::NewCount,

@@ -62,16 +62,12 @@ impl<S: Slice, B: Buffer<S::Item> + Drop, M: Drop, A: Allocator + Copy, H: Mark>
         ensures again { IfNone result (MayJoinAt self.now.place pass.old pass.new) }
     {
         let on = match &self.on {
-            Storage::Native(block) => match block.try_share_once_as(leave, pass)? {
-                Ok(block) => Storage::Native(block),
-                Err(e) => return Some(Err(e)),
+            Storage::Block(block) => match block.try_share_once_as(leave, pass) {
+                Some(Ok(block)) => Storage::Block(block),
+                Some(Err(e)) => return Some(Err(e)),
+                None => return None,
             },
-            Storage::Block(block) => match block.try_share_once_as(leave, pass)? {
-                Ok(block) => Storage::Block(block),
-                Err(e) => return Some(Err(e)),
-            },
-            Storage::Static(items) => Storage::Static(items.again()),
-            Storage::Nothing(items) => Storage::Nothing(items.again()),
+            Storage::Free(free) => Storage::Free(free.again()),
             Storage::Raw(shared) => match shared.try_clone() {
                 Ok(shared) => Storage::Raw(shared),
                 Err(_) => return Some(Err(OwnerError::AllocError)),
@@ -129,31 +125,22 @@ impl<S: Slice, B: Buffer<S::Item> + Drop, M: Drop, A: Allocator + Copy, H: Mark>
         let _last = self.end;
         let (from, to) = (self.start + start, self.start + end);
         match &self.on {
-            Storage::Native(block) => match block.try_share_once_as(leave, pass)? {
-                Ok(block) => Some(Ok(Parts {
-                    on: Storage::Native(block),
-                    start: from,
-                    end: to,
-                    alloc: self.alloc,
-                })),
-                Err(e) => Some(Err(e)),
-            },
-            Storage::Block(block) => match block.try_share_once_as(leave, pass)? {
-                Ok(block) => Some(Ok(Parts {
+            Storage::Block(block) => match block.try_share_once_as(leave, pass) {
+                Some(Ok(block)) => Some(Ok(Parts {
                     on: Storage::Block(block),
                     start: from,
                     end: to,
                     alloc: self.alloc,
                 })),
-                Err(e) => Some(Err(e)),
+                Some(Err(e)) => Some(Err(e)),
+                None => None,
             },
-            Storage::Static(items) => Some(Ok(Parts {
-                on: Storage::Static(items.again()),
+            Storage::Free(free) => Some(Ok(Parts {
+                on: Storage::Free(free.again()),
                 start: from,
                 end: to,
                 alloc: self.alloc,
             })),
-            Storage::Nothing(_) => Some(Ok(Self::on_nothing(self.alloc))),
             Storage::Raw(shared) => match shared.try_clone() {
                 Ok(shared) => Some(Ok(Parts {
                     on: Storage::Raw(shared),
@@ -182,7 +169,6 @@ impl<S: Slice, B: Buffer<S::Item> + Drop, M: Drop, A: Allocator + Copy, H: Mark>
             self.now.place pass.old pass.new result }
     {
         match &self.on {
-            Storage::Native(block) => block.is_unique_as(pass),
             Storage::Block(block) => block.is_unique_by_sort_as(pass),
             _ => false,
         }
@@ -197,7 +183,6 @@ impl<S: Slice, B: Buffer<S::Item> + Drop, M: Drop, A: Allocator + Copy, H: Mark>
             Learns o.block pass.old other.now pass.new) }
     {
         match &self.on {
-            Storage::Native(block) => block.learn(pass, other),
             Storage::Block(block) => block.learn(pass, other),
             _ => {}
         }
@@ -211,7 +196,6 @@ impl<S: Slice, B: Buffer<S::Item> + Drop, M: Drop, A: Allocator + Copy, H: Mark>
             IsLimited 9223372036854775807 H.whole o) }
     {
         match &self.on {
-            Storage::Native(block) => block.max_owners(),
             Storage::Block(block) => block.max_owners(),
             _ => max_owners(),
         }
@@ -231,7 +215,6 @@ impl<S: Slice, B: Buffer<S::Item> + Drop, M: Drop, A: Allocator + Copy, H: Stepp
         ensures { at_owner self.now.place (IsPassOfNone result) (λ o. IsNewPass o result) }
     {
         match &self.on {
-            Storage::Native(block) => block.pass(),
             Storage::Block(block) => block.pass(),
             _ => Pass::none(),
         }

@@ -12,7 +12,7 @@ ghost use Rattle.arc_parts.specs.Writers.{capacity_of, idle_writer};
 
 use super::SoleBuffer;
 use crate::shared::SharedNative;
-use arc_block::block::max_owners;
+use arc_block::block::{BlockContent, max_owners};
 use arc_buffer::buffer::BufferMut;
 use arc_buffer::kinds::Slice;
 use arc_owners::mark::Mark;
@@ -62,15 +62,15 @@ impl<S: Slice, B: BufferMut<S::Item> + Drop, M: Drop, A: Allocator + Copy, H: Ma
         requires pass { IsPassAt self.now.place pass.old }
         ensures { AsksAlone self.now.place pass.old pass.new result }
     {
-        self.count.is_unique_as(pass)
+        self.count.count.is_unique_as(pass)
     }
 
     /// Their block isn't the block of this writer, who is one of several. Does nothing: its
     /// contract is the law.
-    pub fn apart_from(&self, writer: &SharedNative<S::Item, A, H>)
+    pub fn apart_from(&self, writer: &SharedNative<S::Item, BlockContent<S, B, M, A>, A, H>)
         ensures { at_owner self.now.place (Unit {0}) (λ o. ¬ (writer.now.owner.block ≡ o.block)) }
     {
-        writer.apart_from(&self.count);
+        writer.apart_from_count(&self.count.count);
     }
 
     /// Their block is no vector: the answer is `false`.

@@ -2,9 +2,9 @@
 ghost use Rattle.std.specs.Prelude.{◌≡◌, ◌↔◌, true, false, Some, None, ℕ, IfOk, IfErr};
 ghost use Rattle.std.specs.Prelude.{IfSome, IfNone, IsTrue};
 ghost use Rattle.arc_owners.specs.count.Calls.{Leaves, Learns, IsNewPass, IsPassOfNone, SeesAlone};
-ghost use Rattle.arc_owners.specs.memory.SoleBoxes.{sole_in, sole_value};
+ghost use Rattle.arc_owners.specs.memory.SoleCounts.{count_owner};
 ghost use Rattle.arc_block.specs.LayoutFacts.{layout_facts};
-ghost use Rattle.arc_block.specs.Contents.{held_in};
+ghost use Rattle.arc_block.specs.Contents.{held_alone};
 ghost use Rattle.arc_block.specs.Metadata.{IsMetadataAt};
 ghost use Rattle.arc_block.specs.Moves.{IsRefused, layout_move};
 ghost use Rattle.arc_block.specs.Place.{at_owner, buffer_at, metadata_at, IsOnBlock, size_at};
@@ -13,17 +13,17 @@ ghost use Rattle.arc_block.specs.Table.{reader};
 ghost use Rattle.arc_parts.specs.Window.{IsBufferWhole, IsVecPart, IsBoxWhole, IsHeld, IsBlockHeld};
 ghost use Rattle.arc_parts.specs.Window.{window_of};
 ghost use Rattle.arc_parts.specs.Writers.{as_reader, Freezes, IsWholeWriter};
-ghost use Rattle.arc_sort_writers.specs.SortParts.{block_part, IsBufferWithin};
+ghost use Rattle.arc_parts.specs.SoleParts.{block_part};
+ghost use Rattle.arc_sort_writers.specs.SortParts.{IsBufferWithin};
 
 use super::SoleBuffer;
-use arc_block::block::{Block, Content, MAX_OWNERS, SoleCount};
+use arc_block::block::{Block, Content, MAX_OWNERS, SoleOf};
 use arc_block::layout::Layout;
 use arc_buffer::buffer::{BorrowMetadata, Buffer, BufferMut};
 use arc_buffer::kinds::Slice;
 use arc_owners::mark::{Mark, Stepping};
 use arc_owners::owners::Pass;
 use arc_parts::parts::Parts;
-use arc_parts::storage::Storage;
 use std::alloc::Allocator;
 
 impl<S: Slice, B: BufferMut<S::Item> + Drop, M: Drop, A: Allocator + Copy, H: Mark> SoleBuffer<
@@ -36,14 +36,17 @@ impl<S: Slice, B: BufferMut<S::Item> + Drop, M: Drop, A: Allocator + Copy, H: Ma
     /// The items from `start` to before `end` of a caller's buffer, whose only owner this is.
     pub fn over(
         alloc: A,
-        count: SoleCount<S::Item, B, M, A, MAX_OWNERS, H>,
+        count: SoleOf<S, B, M, A, MAX_OWNERS, H>,
         start: usize,
         end: usize,
     ) -> Self
-        requires { IsBufferWithin H.whole
-            (held_in B.list B.places S.DROPS (sole_in count) (sole_value count)) start end }
+        requires alone { length count.memory.places.vec.items ≡ 1 }
+        requires within { IsBufferWithin H.whole
+            (held_alone B.list B.places S.DROPS (count_owner count.count)
+            count.memory.places.vec.items) start end }
         ensures { result ≡ block_part S.DROPS
-            (held_in B.list B.places S.DROPS (sole_in count) (sole_value count)) start end }
+            (held_alone B.list B.places S.DROPS (count_owner count.count)
+            count.memory.places.vec.items) start end }
     {
         SoleBuffer {
             count,
@@ -56,12 +59,15 @@ impl<S: Slice, B: BufferMut<S::Item> + Drop, M: Drop, A: Allocator + Copy, H: Ma
     /// The count, which has the buffer, the numbers in that from which and before which the items
     /// lie, and the allocator.
     #[inline(always)]
-    fn into_count(self) -> (SoleCount<S::Item, B, M, A, MAX_OWNERS, H>, usize, usize, A)
+    fn into_count(self) -> (SoleOf<S, B, M, A, MAX_OWNERS, H>, usize, usize, A)
         ensures within { IsBufferWithin H.whole
-            (held_in B.list B.places S.DROPS (sole_in result.0) (sole_value result.0))
+            (held_alone B.list B.places S.DROPS (count_owner result.0.count)
+            result.0.memory.places.vec.items)
             result.1 result.2 }
+        ensures alone { length result.0.memory.places.vec.items ≡ 1 }
         ensures parts { self ≡ block_part S.DROPS
-            (held_in B.list B.places S.DROPS (sole_in result.0) (sole_value result.0))
+            (held_alone B.list B.places S.DROPS (count_owner result.0.count)
+            result.0.memory.places.vec.items)
             result.1 result.2 }
     {
         let SoleBuffer {
@@ -78,12 +84,7 @@ impl<S: Slice, B: BufferMut<S::Item> + Drop, M: Drop, A: Allocator + Copy, H: Ma
         ensures { result ≡ as_reader self }
     {
         let (count, start, end, alloc) = self.into_count();
-        Parts::over(
-            Storage::Block(Block::of_sole_buffer(count)),
-            start,
-            end,
-            alloc,
-        )
+        Parts::on_block(alloc, Block::of_callers(count), start, end)
     }
 
     /// The same items, as parts of a window under the layout `L` that is read. It adds no entry and
@@ -137,7 +138,7 @@ impl<S: Slice, B: BufferMut<S::Item> + Drop, M: Drop, A: Allocator + Copy, H: Ma
     fn is_whole(&self) -> bool
         ensures { IsTrue result ↔ IsBufferWhole self.now.items self.now.place }
     {
-        match self.count.get() {
+        match self.count.content() {
             Content::Buffer(held) => { self.start == 0 && self.end == held.buffer.as_slice().len() }
             _ => unreachable!(),
         }
@@ -167,7 +168,7 @@ impl<S: Slice, B: BufferMut<S::Item> + Drop, M: Drop, A: Allocator + Copy, H: Ma
             return Err(self);
         }
         let (count, _, _, _) = self.into_count();
-        let held = count.into_value_as(pass).into_buffer();
+        let held = count.into_content_as(pass).into_buffer();
         drop(held.metadata);
         Ok(held.buffer)
     }
@@ -177,7 +178,7 @@ impl<S: Slice, B: BufferMut<S::Item> + Drop, M: Drop, A: Allocator + Copy, H: Ma
         ensures some { IfSome result (λ m. metadata_at self.now.place ≡ Some m.now) }
         ensures none { IfNone result (metadata_at self.now.place ≡ None) }
     {
-        match self.count.get() {
+        match self.count.content() {
             Content::Buffer(held) => held.metadata.as_ref(),
             _ => unreachable!(),
         }
@@ -189,7 +190,7 @@ impl<S: Slice, B: BufferMut<S::Item> + Drop, M: Drop, A: Allocator + Copy, H: Ma
         B: BorrowMetadata,
         ensures { IsMetadataAt B.list B.metadata self.now.place self.now.items result.now }
     {
-        match self.count.get() {
+        match self.count.content() {
             Content::Buffer(held) => held.buffer.borrow_metadata(),
             _ => unreachable!(),
         }
@@ -215,7 +216,7 @@ impl<S: Slice, B: BufferMut<S::Item> + Drop, M: Drop, A: Allocator + Copy, H: Ma
             Leaves o pass.old pass.new true) }
     {
         let (count, _, _, _) = self.into_count();
-        drop(count.into_value_as(pass));
+        drop(count.into_content_as(pass));
     }
 
     /// What a drop does. Under `Open` the owner ends with a new pass, which is the answer, and the
@@ -230,9 +231,7 @@ impl<S: Slice, B: BufferMut<S::Item> + Drop, M: Drop, A: Allocator + Copy, H: Ma
         ensures ended { H.whole ≡ false → EndsAt self.place result }
     {
         let (count, _, _, _) = self.into_count();
-        let (content, pass) = count.let_go();
-        drop(content);
-        pass
+        count.let_go()
     }
 
     /// Shows a pass the block's whole history up to here, in which no other owner lives. It adds no
@@ -242,7 +241,7 @@ impl<S: Slice, B: BufferMut<S::Item> + Drop, M: Drop, A: Allocator + Copy, H: Ma
         ensures { at_owner self.now.place (pass.new ≡ pass.old) (λ o.
             SeesAlone o pass.old pass.new) }
     {
-        self.count.only(pass);
+        self.count.count.only(pass);
     }
 
     /// From here on the first pass has seen at least what the other had. It adds no entry.
@@ -252,7 +251,7 @@ impl<S: Slice, B: BufferMut<S::Item> + Drop, M: Drop, A: Allocator + Copy, H: Ma
         ensures { at_owner self.now.place (pass.new ≡ pass.old) (λ o.
             Learns o.block pass.old other.now pass.new) }
     {
-        self.count.learn(pass, other);
+        self.count.count.learn(pass, other);
     }
 }
 
@@ -268,6 +267,6 @@ impl<S: Slice, B: BufferMut<S::Item> + Drop, M: Drop, A: Allocator + Copy, H: St
     pub fn pass(&self) -> Pass<H>
         ensures { at_owner self.now.place (IsPassOfNone result) (λ o. IsNewPass o result) }
     {
-        self.count.pass()
+        self.count.count.pass()
     }
 }

@@ -58,7 +58,7 @@ impl<S: Slice, B: BufferMut<S::Item> + Drop, M: Drop, A: Allocator + Copy, H: Ma
         ensures value { result.now ≡ self.old.items }
     {
         let (start, end) = (self.start, self.end);
-        self.count.get_mut().buffer_mut().as_mut_part(start, end)
+        self.count.content_mut().buffer_mut().as_mut_part(start, end)
     }
 
     /// Makes room for `additional` items more behind those that there are. The buffer is asked
@@ -175,7 +175,7 @@ impl<S: Slice, B: BufferMut<S::Item> + Drop, M: Drop, A: Allocator + Copy, H: Ma
         requires { length self.old.items + 1 ≤ capacity_of self.old.role }
         ensures { bare self.new ≡ with_more (item ∷ []) (bare self.old) }
     {
-        match self.count.get_mut() {
+        match self.count.content_mut() {
             Content::Buffer(held) => self.end = put_at(&mut held.buffer, self.end, item),
             _ => unreachable!(),
         }

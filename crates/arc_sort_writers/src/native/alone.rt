@@ -11,13 +11,20 @@ ghost use Rattle.arc_parts.specs.Writers.{capacity_of, idle_writer};
 
 use super::SoleNative;
 use crate::shared::SharedNative;
-use arc_block::block::max_owners;
+use arc_block::block::{BlockContent, max_owners};
+use arc_buffer::buffer::Buffer;
 use arc_buffer::kinds::Slice;
 use arc_owners::mark::Mark;
 use arc_owners::owners::Pass;
 use std::alloc::Allocator;
 
-impl<S: Slice, M: Drop, A: Allocator + Copy, H: Mark> SoleNative<S, M, A, H> {
+impl<S: Slice, B: Buffer<S::Item> + Drop, M: Drop, A: Allocator + Copy, H: Mark> SoleNative<
+    S,
+    B,
+    M,
+    A,
+    H,
+> {
     /// Their role is a sole writer's. Does nothing: its contract is the law.
     pub fn known_role(&self)
         ensures { self.now.role ≡ sole_writer (capacity_of self.now.role) }
@@ -80,7 +87,7 @@ impl<S: Slice, M: Drop, A: Allocator + Copy, H: Mark> SoleNative<S, M, A, H> {
 
     /// Where they stand on a block, it isn't the block of this writer, who is one of several. Does
     /// nothing: its contract is the law.
-    pub fn apart_from(&self, writer: &SharedNative<S::Item, A, H>)
+    pub fn apart_from(&self, writer: &SharedNative<S::Item, BlockContent<S, B, M, A>, A, H>)
         ensures { at_owner self.now.place (Unit {0}) (λ o. ¬ (writer.now.owner.block ≡ o.block)) }
     {
         if let Some(count) = &self.count {

@@ -17,7 +17,7 @@ ghost use Rattle.arc_parts.specs.Window.{IsVecPart, IsBoxWhole};
 ghost use Rattle.arc_block.specs.Moves.{IsRefused, layout_move};
 
 use super::{SoleNative, whole_of};
-use arc_block::block::{CallersBuffer, MAX_OWNERS, NativeBlock, NativeCount};
+use arc_block::block::{Block, BlockKept, MAX_OWNERS, NativeCount};
 use arc_block::layout::Layout;
 use arc_buffer::buffer::{BorrowMetadata, Buffer};
 use arc_buffer::kinds::Slice;
@@ -25,20 +25,19 @@ use arc_memory::{CutMemory, WriterMemory};
 use arc_owners::mark::{Mark, Stepping};
 use arc_owners::owners::Pass;
 use arc_parts::parts::Parts;
-use arc_parts::storage::Storage;
 use std::alloc::Allocator;
 use std::marker::PhantomData;
 use std::mem;
 
 /// The fields of a sole writer's parts on a native block but the marker, in their order.
-type NativeFields<T, A, H> = (Option<NativeCount<MAX_OWNERS, H>>, CutMemory<T, A>, A);
+type NativeFields<T, V, A, H> = (Option<NativeCount<MAX_OWNERS, H>>, CutMemory<T, V, A>, A);
 
 /// What a drop does. Under `Open` the owner ends with a new pass, which is the answer, and its
 /// items are dropped. Under `Whole` owner and items are forgotten: the items stay where they are,
 /// and the answer is a pass of no block.
-pub(super) fn end_native<T: Drop, A: Allocator + Copy, const MAX: u64, H: Mark>(
+pub(super) fn end_native<T: Drop, V: Drop, A: Allocator + Copy, const MAX: u64, H: Mark>(
     count: NativeCount<MAX, H>,
-    memory: WriterMemory<T, A>,
+    memory: WriterMemory<T, V, A>,
 ) -> Pass<H>
     ensures forgotten { H.whole ≡ true → IsPassOfNone result }
     ensures ended { H.whole ≡ false → EndsByItself (count_owner count) result true }
@@ -52,10 +51,16 @@ pub(super) fn end_native<T: Drop, A: Allocator + Copy, const MAX: u64, H: Mark>(
     pass
 }
 
-impl<S: Slice, M: Drop, A: Allocator + Copy, H: Mark> SoleNative<S, M, A, H> {
+impl<S: Slice, B: Buffer<S::Item> + Drop, M: Drop, A: Allocator + Copy, H: Mark> SoleNative<
+    S,
+    B,
+    M,
+    A,
+    H,
+> {
     /// The fields but the marker, in their order.
     #[inline(always)]
-    fn into_fields(self) -> NativeFields<S::Item, A, H>
+    fn into_fields(self) -> NativeFields<S::Item, BlockKept<S, B, M, A>, A, H>
         ensures within { IsCutNative S.DROPS H.whole (option_map count_owner result.0) result.1 }
         ensures parts { self ≡ cut_native S.DROPS (option_map count_owner result.0) result.1 }
     {
@@ -130,11 +135,11 @@ impl<S: Slice, M: Drop, A: Allocator + Copy, H: Mark> SoleNative<S, M, A, H> {
         if let Some(count) = count {
             count.end_as(pass);
         }
-        Ok(whole_of::<S, A>(memory).into_array())
+        Ok(whole_of::<S, BlockKept<S, B, M, A>, A>(memory).into_array())
     }
 
     /// The same parts, of items of another kind. It adds no entry.
-    pub fn into_kind<K: Slice<Item = S::Item>>(self) -> SoleNative<K, M, A, H>
+    pub fn into_kind<K: Slice<Item = S::Item>>(self) -> SoleNative<K, B, M, A, H>
         requires { K.DROPS ≡ S.DROPS }
         ensures { result ≡ self }
     {
@@ -161,7 +166,7 @@ impl<S: Slice, M: Drop, A: Allocator + Copy, H: Mark> SoleNative<S, M, A, H> {
         if let Some(count) = count {
             count.end_as(pass);
         }
-        drop(whole_of::<S, A>(memory));
+        drop(whole_of::<S, BlockKept<S, B, M, A>, A>(memory));
     }
 
     /// What a drop does. Under `Open` the owner ends with a new pass, which is the answer, and the
@@ -176,7 +181,7 @@ impl<S: Slice, M: Drop, A: Allocator + Copy, H: Mark> SoleNative<S, M, A, H> {
         ensures ended { H.whole ≡ false → EndsAt self.place result }
     {
         let (count, memory, _) = self.into_fields();
-        let memory = whole_of::<S, A>(memory);
+        let memory = whole_of::<S, BlockKept<S, B, M, A>, A>(memory);
         match count {
             Some(count) => end_native(count, memory),
             None => {
@@ -209,14 +214,7 @@ impl<S: Slice, M: Drop, A: Allocator + Copy, H: Mark> SoleNative<S, M, A, H> {
             count.learn(pass, other);
         }
     }
-}
 
-impl<S: Slice, B: Buffer<S::Item> + Drop, M: Drop, A: Allocator + Copy, H: Mark> SoleNative<
-    S,
-    CallersBuffer<B, M>,
-    A,
-    H,
-> {
     /// The same items at the same place, as a reader's. It adds no entry and takes no memory.
     pub fn freeze(self) -> Parts<S, B, M, A, H>
         ensures { result ≡ as_reader self }
@@ -228,11 +226,11 @@ impl<S: Slice, B: Buffer<S::Item> + Drop, M: Drop, A: Allocator + Copy, H: Mark>
             marker: _,
         } = self;
         let (start, len) = (memory.start(), memory.len());
-        let memory = whole_of::<S, A>(memory);
+        let memory = whole_of::<S, BlockKept<S, B, M, A>, A>(memory);
         match count {
             Some(count) => {
-                let on = Storage::Native(NativeBlock::of_sole(count, memory));
-                Parts::over(on, start, start + len, alloc)
+                let block = Block::of_sole_native(count, memory);
+                Parts::on_block(alloc, block, start, start + len)
             }
             None => {
                 drop(memory);
@@ -299,7 +297,13 @@ impl<S: Slice, B: Buffer<S::Item> + Drop, M: Drop, A: Allocator + Copy, H: Mark>
     }
 }
 
-impl<S: Slice, M: Drop, A: Allocator + Copy, H: Stepping> SoleNative<S, M, A, H> {
+impl<S: Slice, B: Buffer<S::Item> + Drop, M: Drop, A: Allocator + Copy, H: Stepping> SoleNative<
+    S,
+    B,
+    M,
+    A,
+    H,
+> {
     /// A new pass of the block. It has seen at least how this owner became one, and nothing was
     /// made with it. On no block it is a pass of none. It adds no entry.
     pub fn pass(&self) -> Pass<H>

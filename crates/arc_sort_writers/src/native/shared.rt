@@ -13,14 +13,21 @@ ghost use Rattle.arc_block.specs.declared.block.TheConstants.{MAX_OWNERS};
 
 use super::SoleNative;
 use crate::shared::SharedNative;
-use arc_block::block::{MAX_OWNERS, NativeCount};
+use arc_block::block::{BlockContent, BlockKept, MAX_OWNERS, NativeCount};
+use arc_buffer::buffer::Buffer;
 use arc_buffer::kinds::Slice;
 use arc_memory::{CutMemory, WriterMemory};
 use arc_owners::mark::Mark;
 use std::alloc::Allocator;
 use std::marker::PhantomData;
 
-impl<S: Slice, M: Drop, A: Allocator + Copy, H: Mark> SoleNative<S, M, A, H> {
+impl<S: Slice, B: Buffer<S::Item> + Drop, M: Drop, A: Allocator + Copy, H: Mark> SoleNative<
+    S,
+    B,
+    M,
+    A,
+    H,
+> {
     /// The allocator.
     pub fn alloc(&self) -> A {
         self.alloc
@@ -51,7 +58,9 @@ impl<S: Slice, M: Drop, A: Allocator + Copy, H: Mark> SoleNative<S, M, A, H> {
     /// # Errors
     ///
     /// The parts come back exactly where they stand on nothing.
-    pub fn into_several(self) -> Result<SharedNative<S::Item, A, H>, Self>
+    pub fn into_several(
+        self,
+    ) -> Result<SharedNative<S::Item, BlockContent<S, B, M, A>, A, H>, Self>
         requires { S.DROPS ≡ false }
         ensures shared { IfOk result (λ writer. native_row writer ≡ as_shared self) }
         ensures idle { IfErr result (λ back. (back ≡ self) × IsAlonePlace self.place) }
@@ -77,7 +86,7 @@ impl<S: Slice, M: Drop, A: Allocator + Copy, H: Mark> SoleNative<S, M, A, H> {
     pub fn of_several(
         alloc: A,
         count: NativeCount<MAX_OWNERS, H>,
-        memory: WriterMemory<S::Item, A>,
+        memory: WriterMemory<S::Item, BlockKept<S, B, M, A>, A>,
         capacity: usize,
     ) -> Self
         requires kind { S.DROPS ≡ false }

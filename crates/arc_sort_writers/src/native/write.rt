@@ -8,6 +8,7 @@ ghost use Rattle.arc_parts.specs.Writers.{capacity_of, room_for, MakesRoom, Push
 ghost use Rattle.arc_parts.specs.Writers.{with_more, after_advance, after_truncate};
 
 use super::SoleNative;
+use arc_buffer::buffer::Buffer;
 use arc_buffer::kinds::Slice;
 use arc_owners::error::TryReserveError;
 use arc_owners::mark::Mark;
@@ -15,14 +16,21 @@ use arc_owners::owners::Pass;
 use arc_parts::room::Room;
 use std::alloc::Allocator;
 
-impl<S: Slice, M: Drop, A: Allocator + Copy, H: Mark> SoleNative<S, M, A, H> {
+impl<S: Slice, B: Buffer<S::Item> + Drop, M: Drop, A: Allocator + Copy, H: Mark> SoleNative<
+    S,
+    B,
+    M,
+    A,
+    H,
+> {
     ghost use Rattle.arc_sort_writers.specs.Lends.{lends_native_items};
 
     /// The items, to be changed in their places: they are what is written there.
     #[inline(always)]
     pub fn as_mut_slice(&mut self) -> &mut [S::Item]
-        ensures* writes_back { sem 𝓛 (lends_native_items S.row M.row A.row H.row S.Item.row
-            S.TryFromSliceError.row H.Mark S.Slice A.Allocator self.entry result) }
+        ensures* writes_back { sem 𝓛 (lends_native_items S.row B.row M.row A.row H.row
+            S.Item.row S.TryFromSliceError.row H.Mark S.Slice B.Buffer A.Allocator self.entry
+            result) }
         ensures value { result.now ≡ self.old.items }
     {
         self.memory.as_mut_slice()
@@ -124,7 +132,13 @@ impl<S: Slice, M: Drop, A: Allocator + Copy, H: Mark> SoleNative<S, M, A, H> {
     }
 }
 
-impl<S: Slice, M: Drop, A: Allocator + Copy, H: Mark> SoleNative<S, M, A, H>
+impl<S: Slice, B: Buffer<S::Item> + Drop, M: Drop, A: Allocator + Copy, H: Mark> SoleNative<
+    S,
+    B,
+    M,
+    A,
+    H,
+>
 where
     S::Item: Copy,
 {

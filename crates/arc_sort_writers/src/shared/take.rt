@@ -7,7 +7,7 @@ use arc_owners::mark::Mark;
 use arc_owners::owners::Pass;
 use std::alloc::Allocator;
 
-impl<T: Drop, A: Allocator + Copy, H: Mark> SharedNative<T, A, H> {
+impl<T: Drop, C: Drop, A: Allocator + Copy, H: Mark> SharedNative<T, C, A, H> {
     /// The same writer, and whether the block has so many places.
     #[tactic(auto, using(crate::proofs::Takes::kept_size))]
     fn is_of_places(self, size: usize) -> (Self, bool)

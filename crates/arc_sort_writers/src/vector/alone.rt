@@ -11,7 +11,7 @@ ghost use Rattle.arc_parts.specs.Writers.{capacity_of, idle_writer, with_full};
 
 use super::SoleVector;
 use crate::shared::SharedNative;
-use arc_block::block::max_owners;
+use arc_block::block::{BlockContent, max_owners};
 use arc_buffer::buffer::Buffer;
 use arc_buffer::kinds::Slice;
 use arc_owners::mark::Mark;
@@ -91,15 +91,15 @@ impl<S: Slice, B: Buffer<S::Item> + Drop, M: Drop, A: Allocator + Copy, H: Mark>
         requires pass { IsPassAt self.now.place pass.old }
         ensures { AsksAlone self.now.place pass.old pass.new result }
     {
-        self.count.is_unique_as(pass)
+        self.count.count.is_unique_as(pass)
     }
 
     /// Their block isn't the block of this writer, who is one of several. Does nothing: its
     /// contract is the law.
-    pub fn apart_from(&self, writer: &SharedNative<S::Item, A, H>)
+    pub fn apart_from(&self, writer: &SharedNative<S::Item, BlockContent<S, B, M, A>, A, H>)
         ensures { at_owner self.now.place (Unit {0}) (λ o. ¬ (writer.now.owner.block ≡ o.block)) }
     {
-        writer.apart_from(&self.count);
+        writer.apart_from_count(&self.count.count);
     }
 
     /// They are of another block than other parts on a vector, and stay as they are. Does nothing:
@@ -109,6 +109,6 @@ impl<S: Slice, B: Buffer<S::Item> + Drop, M: Drop, A: Allocator + Copy, H: Mark>
         ensures apart { at_owner self.old.place (Unit {0}) (λ o.
             at_owner other.now.place (Unit {0}) (λ p. ¬ (p.block ≡ o.block))) }
     {
-        self.count.apart_from_sole(&other.count);
+        self.count.count.apart_from_sole(&other.count.count);
     }
 }

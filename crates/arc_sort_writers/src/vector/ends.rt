@@ -2,7 +2,7 @@
 ghost use Rattle.std.specs.Prelude.{◌≡◌, ◌↔◌, ℕ, true, false, IfOk, IfErr, IsTrue, IfSome, IfNone};
 ghost use Rattle.std.specs.Prelude.{Some, None};
 ghost use Rattle.arc_owners.specs.count.Calls.{Leaves, Learns, IsNewPass, IsPassOfNone, SeesAlone};
-ghost use Rattle.arc_owners.specs.memory.SoleBoxes.{sole_in};
+ghost use Rattle.arc_owners.specs.memory.SoleCounts.{count_owner};
 ghost use Rattle.arc_block.specs.LayoutFacts.{layout_facts};
 ghost use Rattle.arc_block.specs.Metadata.{IsMetadataAt, IsOnCallers};
 ghost use Rattle.arc_block.specs.Place.{at_owner, metadata_at, IsOnBlock};
@@ -11,7 +11,8 @@ ghost use Rattle.arc_parts.specs.Steps.{IsPassAt, EndsAt, Makes, Begins};
 ghost use Rattle.arc_parts.specs.Writers.{as_reader, Freezes, IsWholeWriter};
 ghost use Rattle.arc_parts.specs.Window.{IsHeld, IsBlockHeld, IsBufferWhole, window_of};
 ghost use Rattle.arc_block.specs.Moves.{IsRefused, layout_move};
-ghost use Rattle.arc_sort_writers.specs.SortParts.{vector_part, IsVectorWithin};
+ghost use Rattle.arc_parts.specs.SoleParts.{vector_part};
+ghost use Rattle.arc_sort_writers.specs.SortParts.{IsVectorWithin};
 
 use super::{SoleVector, VectorFields};
 use arc_block::block::{Block, end_sole};
@@ -21,7 +22,6 @@ use arc_buffer::kinds::Slice;
 use arc_owners::mark::{Mark, Stepping};
 use arc_owners::owners::Pass;
 use arc_parts::parts::Parts;
-use arc_parts::storage::Storage;
 use std::alloc::Allocator;
 
 impl<S: Slice, B: Buffer<S::Item> + Drop, M: Drop, A: Allocator + Copy, H: Mark> SoleVector<
@@ -33,10 +33,12 @@ impl<S: Slice, B: Buffer<S::Item> + Drop, M: Drop, A: Allocator + Copy, H: Mark>
 > {
     /// The count, the vector, from where to before where of it the items are, and the allocator.
     #[inline(always)]
-    pub(super) fn into_memory(self) -> VectorFields<S::Item, B, M, A, H>
-        ensures within { IsVectorWithin S.DROPS H.whole (sole_in result.0) result.1 result.2
+    pub(super) fn into_memory(self) -> VectorFields<S, B, M, A, H>
+        ensures within { IsVectorWithin S.DROPS H.whole (count_owner result.0.count) result.1
+            result.2 result.3 }
+        ensures empty { result.0.memory.places.vec.items ≡ [] }
+        ensures parts { self ≡ vector_part S.DROPS (count_owner result.0.count) result.1 result.2
             result.3 }
-        ensures parts { self ≡ vector_part S.DROPS (sole_in result.0) result.1 result.2 result.3 }
     {
         let SoleVector {
             count,
@@ -53,12 +55,7 @@ impl<S: Slice, B: Buffer<S::Item> + Drop, M: Drop, A: Allocator + Copy, H: Mark>
         ensures { result ≡ as_reader self }
     {
         let (count, items, start, end, alloc) = self.into_memory();
-        Parts::over(
-            Storage::Block(Block::of_sole(count, items)),
-            start,
-            end,
-            alloc,
-        )
+        Parts::on_block(alloc, Block::of_sole(count, items), start, end)
     }
 
     /// The same items, as parts of a window under the layout `L` that is read. It adds no entry and
@@ -162,7 +159,7 @@ impl<S: Slice, B: Buffer<S::Item> + Drop, M: Drop, A: Allocator + Copy, H: Mark>
             Leaves o pass.old pass.new true) }
     {
         let (count, items, _, _, _) = self.into_memory();
-        drop(count.into_value_as(pass));
+        count.end_as(pass);
         drop(items);
     }
 
@@ -188,7 +185,7 @@ impl<S: Slice, B: Buffer<S::Item> + Drop, M: Drop, A: Allocator + Copy, H: Mark>
         ensures { at_owner self.now.place (pass.new ≡ pass.old) (λ o.
             SeesAlone o pass.old pass.new) }
     {
-        self.count.only(pass);
+        self.count.count.only(pass);
     }
 
     /// From here on the first pass has seen at least what the other had. It adds no entry.
@@ -198,7 +195,7 @@ impl<S: Slice, B: Buffer<S::Item> + Drop, M: Drop, A: Allocator + Copy, H: Mark>
         ensures { at_owner self.now.place (pass.new ≡ pass.old) (λ o.
             Learns o.block pass.old other.now pass.new) }
     {
-        self.count.learn(pass, other);
+        self.count.count.learn(pass, other);
     }
 }
 
@@ -214,6 +211,6 @@ impl<S: Slice, B: Buffer<S::Item> + Drop, M: Drop, A: Allocator + Copy, H: Stepp
     pub fn pass(&self) -> Pass<H>
         ensures { at_owner self.now.place (IsPassOfNone result) (λ o. IsNewPass o result) }
     {
-        self.count.pass()
+        self.count.count.pass()
     }
 }

@@ -13,6 +13,7 @@ ghost use Rattle.arc_sort_writers.specs.NativeWriters.{native_row};
 
 use super::{SharedParts, SharedStorage};
 use crate::role::WriterParts;
+use arc_block::block::BlockContent;
 use arc_buffer::buffer::BufferMut;
 use arc_buffer::kinds::Slice;
 use arc_owners::error::{AllocError, OwnerError};
@@ -195,7 +196,9 @@ where
     }
 
     /// A writer of a copy of the items, on a native block with as many places, and a pass of that.
-    fn copied(&self) -> Result<(SharedNative<S::Item, A, H>, Pass<H>), AllocError>
+    fn copied(
+        &self,
+    ) -> Result<(SharedNative<S::Item, BlockContent<S, B, M, A>, A, H>, Pass<H>), AllocError>
         ensures made { IfOk result (λ r.
             native_row r.0 ≡ on_native false (Some r.0.owner) self.now) }
         ensures first { IfOk result (λ r. IsFirst MAX_OWNERS H.whole Counted r.0.owner) }
@@ -207,7 +210,11 @@ where
     }
 
     /// Puts this writer in the place of the vector's, which ends as an owner of the vector.
-    fn leave_for(&mut self, writer: SharedNative<S::Item, A, H>, pass: &mut Pass<H>)
+    fn leave_for(
+        &mut self,
+        writer: SharedNative<S::Item, BlockContent<S, B, M, A>, A, H>,
+        pass: &mut Pass<H>,
+    )
         requires vector { is_vector_at self.old.place ≡ true }
         requires pass { IsPassAt self.old.place pass.old }
         ensures moved { self.new ≡ native_row writer }

@@ -9,6 +9,7 @@ ghost use Rattle.arc_parts.specs.Window.{IsBoxWhole};
 ghost use Rattle.arc_parts.specs.Writers.{capacity_of, idle_writer, with_full};
 
 use super::{SoleOther, SoleParts, SoleStorage};
+use arc_block::block::BlockContent;
 use arc_buffer::buffer::BufferMut;
 use arc_buffer::kinds::Slice;
 use arc_owners::mark::Mark;
@@ -103,7 +104,7 @@ impl<S: Slice, B: BufferMut<S::Item> + Drop, M: Drop, A: Allocator + Copy, H: Ma
 
     /// Where they stand on a block, it isn't the block of this writer, who is one of several. Does
     /// nothing: its contract is the law.
-    pub(crate) fn apart_from(&self, writer: &SharedNative<S::Item, A, H>)
+    pub(crate) fn apart_from(&self, writer: &SharedNative<S::Item, BlockContent<S, B, M, A>, A, H>)
         ensures { at_owner self.now.place (Unit {0}) (λ o. ¬ (writer.now.owner.block ≡ o.block)) }
     {
         match &self.on {

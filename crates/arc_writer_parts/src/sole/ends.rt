@@ -1,29 +1,22 @@
 //! How a sole writer's parts end, and what they become.
-ghost use Rattle.std.specs.Prelude.{◌≡◌, ◌↔◌, true, IfOk, IfErr, IsTrue, is_ok};
-ghost use Rattle.arc_owners.specs.count.Calls.{Asks, Leaves};
+ghost use Rattle.std.specs.Prelude.{◌≡◌, ◌↔◌, true, IfOk, IfErr, IsTrue};
+ghost use Rattle.arc_owners.specs.count.Calls.{Leaves};
 ghost use Rattle.arc_block.specs.LayoutFacts.{layout_facts};
-ghost use Rattle.arc_owners.specs.count.Calls.{SeesAlone, IsPassFor};
-ghost use Rattle.arc_parts.specs.declared.storage.Storage.TheVariants.{Block as In};
-ghost use Rattle.arc_parts.specs.declared.storage.Storage.TheVariants.{Native as On};
-ghost use Rattle.arc_block.specs.Block.{IsWritable};
-ghost use Rattle.arc_block.specs.Given.{Given};
+ghost use Rattle.arc_owners.specs.count.Calls.{SeesAlone};
 ghost use Rattle.arc_block.specs.Place.{at_owner};
 ghost use Rattle.arc_block.specs.Table.{reader};
 ghost use Rattle.arc_parts.specs.Steps.{IsPassAt};
 ghost use Rattle.arc_parts.specs.Writers.{as_sole, IsWholeWriter};
 ghost use Rattle.arc_parts.specs.Writers.{BecomesSole, RefusesSole};
 ghost use Rattle.arc_parts.specs.Window.{IsBlockHeld};
-ghost use Rattle.arc_parts.specs.Window.{IsWithin, parts_of, window_seen};
 
 use super::{SoleOther, SoleParts, SoleStorage};
-use arc_block::block::{Block, MAX_OWNERS, NativeBlock};
 use arc_block::layout::Layout;
 use arc_buffer::buffer::BufferMut;
 use arc_buffer::kinds::Slice;
 use arc_owners::mark::Mark;
 use arc_owners::owners::Pass;
-use arc_parts::parts::Parts;
-use arc_parts::storage::Storage;
+use arc_parts::parts::{Parts, SoleSort};
 use arc_sort_writers::buffer::SoleBuffer;
 use arc_sort_writers::native::SoleNative;
 use arc_sort_writers::vector::SoleVector;
@@ -36,80 +29,6 @@ impl<S: Slice, B: BufferMut<S::Item> + Drop, M: Drop, A: Allocator + Copy, H: Ma
     A,
     H,
 > {
-    /// The items from `start` to before `end` of a block that may be written, as their only writer,
-    /// where no other owner lives.
-    ///
-    /// # Errors
-    ///
-    /// The block comes back where another owner lives.
-    ///
-    /// # History
-    ///
-    /// Alone with the answer.
-    fn try_of_block_as(
-        alloc: A,
-        block: Block<S, B, M, A, MAX_OWNERS, H>,
-        start: usize,
-        end: usize,
-        pass: &mut Pass<H>,
-    ) -> Result<Self, Block<S, B, M, A, MAX_OWNERS, H>>
-        requires pass { IsPassFor block.owner pass.old }
-        requires within { IsWithin {T = S.Item} {M = Given B M} (In block) start end }
-        requires writable { IsWritable block.facts.sort }
-        ensures entry { Asks block.owner pass.old pass.new (is_ok result) }
-        ensures sole { IfOk result (λ sole.
-            sole ≡ as_sole S.DROPS (parts_of (window_seen (In block) start end))) }
-        ensures others { IfErr result (λ back. back ≡ block) }
-    {
-        if block.is_vector() {
-            return match block.try_into_sole_as(alloc, pass) {
-                Ok((count, items)) => {
-                    Ok(Self::in_vector(SoleVector::over(alloc, count, items, start, end)))
-                }
-                Err(block) => Err(block),
-            };
-        }
-        match block.try_into_sole_buffer_as(pass) {
-            Ok(count) => Ok(Self::in_buffer(SoleBuffer::over(alloc, count, start, end))),
-            Err(block) => Err(block),
-        }
-    }
-
-    /// The items from `start` to before `end` of a native block, as their only writer, where no
-    /// other owner lives.
-    ///
-    /// # Errors
-    ///
-    /// The block comes back where another owner lives.
-    ///
-    /// # History
-    ///
-    /// Alone with the answer.
-    fn try_of_native_as(
-        alloc: A,
-        block: NativeBlock<S, A, MAX_OWNERS, H>,
-        start: usize,
-        end: usize,
-        pass: &mut Pass<H>,
-    ) -> Result<Self, NativeBlock<S, A, MAX_OWNERS, H>>
-        requires pass { IsPassFor block.owner pass.old }
-        requires within { IsWithin {T = S.Item} {M = Given B M} (On block) start end }
-        ensures entry { Asks block.owner pass.old pass.new (is_ok result) }
-        ensures sole { IfOk result (λ sole.
-            sole ≡ as_sole S.DROPS (parts_of (window_seen (On block) start end))) }
-        ensures others { IfErr result (λ back. back ≡ block) }
-    {
-        match block.try_into_sole_as(start, end, pass) {
-            Ok((count, memory)) => {
-                // Of items that need no drop the memory has only those from `start` on.
-                let first = memory.start();
-                let (start, end) = (start - first, end - first);
-                Ok(Self::in_native(SoleNative::over(alloc, count, memory, start, end)))
-            }
-            Err(shared) => Err(shared),
-        }
-    }
-
     /// The items of a reader's parts at the same place, as their only writer under the layout `L`.
     /// Their block has to be one that may be written and that the layout holds, and no other owner
     /// may live. On no block there may be no items, and the writer stands on nothing.
@@ -134,25 +53,31 @@ impl<S: Slice, B: BufferMut<S::Item> + Drop, M: Drop, A: Allocator + Copy, H: Ma
             × RefusesSole L.ANY parts pass.old pass.new) }
         ensures held { IfOk result (λ sole. IsBlockHeld (layout_facts L.Layout) sole.place) }
     {
-        let (on, start, end, alloc) = parts.into_storage();
-        match on {
-            Storage::Native(block) => match Self::try_of_native_as(alloc, block, start, end, pass) {
-                Ok(sole) => Ok(sole),
-                Err(block) => Err(Parts::over(Storage::Native(block), start, end, alloc)),
+        match parts.sole_sort::<L>() {
+            SoleSort::Native => match parts.try_into_sole_native_as(pass) {
+                Ok((count, memory, start, end, alloc)) => {
+                    Ok(Self::in_native(SoleNative::over(alloc, count, memory, start, end)))
+                }
+                Err(parts) => Err(parts),
             },
-            Storage::Block(block) if !block.may_write(L::ANY) => {
-                Err(Parts::over(Storage::Block(block), start, end, alloc))
-            }
-            Storage::Block(block) => match Self::try_of_block_as(alloc, block, start, end, pass) {
-                Ok(sole) => Ok(sole),
-                Err(block) => Err(Parts::over(Storage::Block(block), start, end, alloc)),
+            SoleSort::Vector => match parts.try_into_sole_vector_as(pass) {
+                Ok((count, items, start, end, alloc)) => {
+                    Ok(Self::in_vector(SoleVector::over(alloc, count, items, start, end)))
+                }
+                Err(parts) => Err(parts),
             },
-            Storage::Static(items) if start < end => {
-                Err(Parts::over(Storage::Static(items), start, end, alloc))
+            SoleSort::Buffer => match parts.try_into_sole_buffer_as(pass) {
+                Ok((count, start, end, alloc)) => {
+                    Ok(Self::in_buffer(SoleBuffer::over(alloc, count, start, end)))
+                }
+                Err(parts) => Err(parts),
+            },
+            SoleSort::Nothing => {
+                let alloc = parts.allocator();
+                drop(parts);
+                Ok(Self::on_nothing(alloc))
             }
-            Storage::Raw(shared) => Err(Parts::over(Storage::Raw(shared), start, end, alloc)),
-            Storage::Static(_) => Ok(Self::on_nothing(alloc)),
-            Storage::Nothing(_) => Ok(Self::on_nothing(alloc)),
+            SoleSort::Refused => Err(parts),
         }
     }
 

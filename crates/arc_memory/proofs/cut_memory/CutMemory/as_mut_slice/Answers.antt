@@ -10,7 +10,7 @@ use Rattle.arc_memory.specs.Sources.{IsFrom, IsFrom-set}
 use Rattle.arc_memory.specs.declared.cut_memory.CutMemory.{CutMemory}
 use Rattle.arc_memory.proofs.cut_memory.CutMemory.as_mut_slice.Goals as goal
 
-module _ {T A : Type 0} (m : CutMemory T A) (ws : List T) where
+module _ {T V A : Type 0} (m : CutMemory T V A) (ws : List T) where
   same_cut : (f : (m.before.base ≡ m.places.under.base) × (m.before.whole ≡ m.places.under.whole)
       × (m.before.start ≡ 0) × (m.before.count ≡ m.places.under.start))
       → (b : (m.behind.base ≡ m.places.under.base) × (m.behind.whole ≡ m.places.under.whole)
@@ -18,7 +18,7 @@ module _ {T A : Type 0} (m : CutMemory T A) (ws : List T) where
       × (m.behind.start + m.behind.count ≡ m.places.under.whole))
       → (n : m.left ≡ length m.behind.items)
       → (k : IsFrom m.source m.places.under.base m.places.under.whole)
-      → ◌≡◌ {A = CutMemory T A} (record {
+      → ◌≡◌ {A = CutMemory T V A} (record {
         places = with_written m.places ws;
         before = m.before;
         behind = m.behind;

@@ -1,6 +1,6 @@
--- The note of the range's memory.
+-- A reader needs no note of what else is lent.
 use Rattle.arc_memory.proofs.frozen_reader.FrozenReader.lend.Given as goal
-use Rattle.arc_memory.specs.LeaseNotes.{note_of}
+use Rattle.arc_owners.specs.count.LentNotes.{no_note}
 
-abbrev pub ghost-lend_noted : goal.ghost-lend_noted
-ghost-lend_noted g a = note_of a.range.memory
+abbrev pub ghost-lend_for : goal.ghost-lend_for
+ghost-lend_for g a = no_note

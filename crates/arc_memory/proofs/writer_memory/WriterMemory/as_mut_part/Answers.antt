@@ -9,13 +9,13 @@ use Rattle.arc_memory.specs.Sources.{IsFrom, IsFrom-set}
 use Rattle.arc_memory.specs.declared.writer_memory.WriterMemory.{WriterMemory}
 use Rattle.arc_memory.proofs.writer_memory.WriterMemory.as_mut_part.Goals as goal
 
-module _ {T A : Type 0} (m : WriterMemory T A) (start : ℕ) (ws : List T) where
+module _ {T V A : Type 0} (m : WriterMemory T V A) (start : ℕ) (ws : List T) where
   same_memory : (f : (m.before.base ≡ m.places.under.base) × (m.before.whole ≡ m.places.under.whole)
       × (m.before.start ≡ 0) × (m.before.count ≡ m.places.under.start))
       → (u : length m.before.items ≡ 0)
       → (o : m.places.under.start + m.places.under.count ≡ m.places.under.whole)
       → (k : IsFrom m.source m.places.under.base m.places.under.whole)
-      → ◌≡◌ {A = WriterMemory T A} (record {
+      → ◌≡◌ {A = WriterMemory T V A} (record {
         before = m.before;
         places = with_written_from start m.places ws;
         source = m.source;

@@ -4,7 +4,7 @@ use Rattle.std.proofs.lemmas.Grind.{common_steps}
 use Rattle.arc_owners.specs.memory.SoleBoxes.{sole_in, sole_value}
 use Rattle.arc_block.specs.Contents.{held_in}
 use Rattle.arc_block.specs.Table.{bare}
-use Rattle.arc_sort_writers.specs.SortParts.{block_part}
+use Rattle.arc_parts.specs.SoleParts.{block_part}
 use Rattle.arc_block.specs.declared.block.content.Content.TheVariants.{Buffer}
 use Rattle.arc_sort_writers.proofs.SoleBuffers.{pushed_seen}
 use Rattle.arc_sort_writers.proofs.buffer.SoleBuffer.push_reserved.Goals as goal

@@ -5,7 +5,7 @@ use Rattle.std.proofs.lemmas.Bool.{eqb-true}
 use Rattle.std.proofs.lemmas.List.{nil_from_length}
 use Rattle.std.specs.declared.vec.Vec.{Vec}
 use Rattle.std.specs.Vec.{vec_capacity}
-use Rattle.arc_owners.specs.memory.SoleBoxes.{sole_in}
+use Rattle.arc_owners.specs.memory.SoleCounts.{count_owner}
 use Rattle.arc_parts.specs.Writers.{with_more}
 use Rattle.arc_sort_writers.proofs.Writers.{push_seen, nothing_more, some_from_test}
 use Rattle.arc_sort_writers.proofs.vector.SoleVector.extend_reserved.Goals as goal
@@ -19,10 +19,11 @@ returns-then-is_empty g c =
 pub returns : goal.returns
 returns g c =
     let was = c.replace-vec.ensures.value in
-    push_seen g.S.Slice.DROPS g.H.Mark.whole (sole_in c.self.inside.count) c.self.inside.items
+    push_seen g.S.Slice.DROPS g.H.Mark.whole (count_owner c.self.inside.count.count)
+    c.self.inside.items
     c.with_all.result
     c.self.inside.start c.self.inside.end c.args.items.now c.args.self.now c.self.view_is
-    c.self.invariant
+    c.self.invariant.0
     (c.with_all.ensures.items
     ∙ ap (λ (v : Vec g.row.S-Item.Denot g.row.A.Denot). v.items ++ c.args.items.now) was)
     (c.with_all.ensures.capacity ∙ ap vec_capacity was) c.requires

@@ -5,6 +5,6 @@ use Rattle.arc_writer_parts.proofs.shared.SharedParts.freeze_several.Goals as go
 
 pub returns : goal.returns
 returns g c =
-    c.over.ensures
+    c.on_block.ensures
     ∙ frozen_several g.S.Slice.DROPS c.args.writer c.freeze.result c.start-start.result c.len.result
     c.requires c.freeze.ensures c.start-start.ensures.start c.len.ensures
