@@ -1,5 +1,5 @@
 -- What a block keeps, for readers of the same items, and what its last owner has of it.
-use Rattle.std.proofs.Common.{◌≡◌, ℕ, ◌+◌, Bool, true, List, [], ◌∷◌, length, refl, sym, ap, ◌∙◌}
+use Rattle.std.proofs.Common.{◌≡◌, ℕ, ◌+◌, Bool, true, false, List, [], ◌∷◌, length, refl, sym, ap, ◌∙◌}
 use Rattle.std.proofs.Common.{Option, None, Some, subst, arith}
 use Rattle.std.specs.Option.{IfSome}
 use Rattle.std.proofs.lemmas.Bool.{false≢true}
@@ -221,7 +221,8 @@ module _ {T B M A : Type 0} (list : B → List T) (places : B → ℕ) (drops : 
       }
   callers_seen owner owner' same xs all =
       let lies = subst (λ v. IsKeptFor (content_items list) drops seen v) is keeps in
-      let make : Owner → List T → ℕ → BlockInfo (Given B M) → BlockView T (Given B M) = λ o ys n info. record {
+      let make : Owner → List T → ℕ → BlockInfo (Given B M) → BlockView T (Given B M) =
+      λ o ys n info. record {
         owner = o;
         items = ys;
         first = n;
@@ -233,3 +234,17 @@ module _ {T B M A : Type 0} (list : B → List T) (places : B → ℕ) (drops : 
       ∙ ap (λ n. make owner seen.items n (alone_info list places drops k.full.items)) (sym lies.2)
       ∙ ap (λ v. make owner seen.items seen.start (kept_info list places drops seen v)) (sym is)
 
+-- what is laid there alone is kept for who reads what it shows
+pub alone_kept : {T C A : Type 0} (show : C → List T) (drops : Bool) (seen : Seen T C)
+    (k : KeptItems C A) (value : Kept T C A) → value ≡ Callers k → seen.native ≡ false
+    → seen.start ≡ 0 → k.kept.inheritance.memory.lifetime ≡ seen.memory.lifetime
+    → (xs : List C) → k.full.items ≡ xs → length xs ≡ 1 → seen.items ≡ shown_alone show xs
+    → IsKeptFor show drops seen value
+alone_kept show drops seen k value is sort first lasts xs all long shows =
+    subst (λ v. IsKeptFor show drops seen v) (sym is) (
+      sort,
+      lasts,
+      first,
+      ap (λ ys. length ys) all ∙ long,
+      ap (shown_alone show) all ∙ sym shows,
+    )

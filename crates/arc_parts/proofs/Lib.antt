@@ -2,6 +2,7 @@ pub mod NativeWindows
 pub mod Windows
 pub mod Raws
 pub mod GivenParts
+pub mod CallersBlocks
 pub mod Held
 pub mod Attempts
 pub mod More

@@ -12,7 +12,7 @@ use Rattle.arc_buffer.specs.Slice.{sub}
 use Rattle.arc_buffer.proofs.Sub.{length-sub, sub-whole}
 use Rattle.arc_block.specs.Block.{buffer_info, vector, buffer, raw, IsMemory}
 use Rattle.arc_block.specs.Block.{IsBuffer}
-use Rattle.arc_block.specs.Contents.{held_in, content_items}
+use Rattle.arc_block.specs.Contents.{held_in, held_alone, content_items}
 use Rattle.arc_block.specs.Given.{Given}
 use Rattle.arc_sort_writers.specs.Growth.{MayAnswer, AsksForRoom}
 use Rattle.arc_block.specs.declared.block.content.Content.{Content}
@@ -20,6 +20,9 @@ use Rattle.arc_block.specs.declared.block.content.Content.TheVariants.{Vector, B
 use Rattle.arc_block.specs.declared.block.content.CallersBuffer.{CallersBuffer}
 use Rattle.arc_parts.specs.declared.room.Room.TheVariants.{Front, Growth}
 use Rattle.std.specs.Prelude.{Result, Ok, Err, OnOk, slice_set}
+use Rattle.std.specs.declared.vec.Vec.{Vec}
+use Rattle.std.specs.Vec.{with_items_from}
+use Rattle.std.proofs.lemmas.List.{with_items_is}
 use Rattle.arc_block.specs.Place.{on_block}
 use Rattle.arc_block.specs.Table.{Role, sole_writer}
 use Rattle.arc_parts.specs.Window.{PartsView, IsBufferWhole}
@@ -118,6 +121,41 @@ cut-role : (drops ends : Bool) (n len free : ℕ)
     ≡ (if drops then sole_writer n else sole_writer (if drops && not ends then len else free))
 cut-role true ends n len free = refl
 cut-role false ends n len free = refl
+
+-- Where one value lies, the last that is written through a borrow lies there once that has ended.
+pub lent_alone : {C Z : Type 0} (v : Vec C Z) (old new : C) → v.items ≡ old ∷ []
+    → (with_items_from v 0 (new ∷ [])).items ≡ new ∷ []
+lent_alone v old new lies =
+    let written : take 0 v.items ++ ((new ∷ []) ++ drop (length (new ∷ [])) (drop 0 v.items))
+    ≡ new ∷ [] =
+    ap (λ xs. take 0 xs ++ ((new ∷ []) ++ drop (length (new ∷ [])) (drop 0 xs))) lies in
+    let long : length (old ∷ []) ≡ v.len = sym (v.ok.0 ∙ ap (λ xs. length xs) lies) in
+    with_items_is v
+    (take 0 v.items ++ ((new ∷ []) ++ drop (length (new ∷ [])) (drop 0 v.items)))
+    (ap (λ xs. length xs) written ∙ long) ∙ written
+
+-- what lies there
+one-there : {C : Type 0} (xs : List C) → length xs ≡ 1 → (x : C) × (xs ≡ x ∷ [])
+one-there [] long = absurd (omega (arith, long))
+one-there (x ∷ []) long = (x, refl)
+one-there (x ∷ y ∷ xs) long = absurd (omega (arith, long))
+
+-- A writer of the items from start to end of a block in whose memory this lies alone: of what the
+-- block keeps.
+module _ {T B M A : Type 0} (list : B → List T) (places : B → ℕ) (drops one_pass : Bool)
+    (o : Owner) (contents : List (Content T B M A)) (content : Content T B M A)
+    (lies : contents ≡ content ∷ []) (start end : ℕ) where
+  pub alone_seen : (w : PartsView T (Given B M))
+      → block_part drops (held_alone list places drops o contents) start end ≡ w
+      → block_part drops (held_in list places drops o content) start end ≡ w
+  alone_seen w view =
+      subst (λ xs. block_part drops (held_alone list places drops o xs) start end ≡ w) lies view
+
+  pub alone_within : IsBufferWithin one_pass (held_alone list places drops o contents) start end
+      → IsBufferWithin one_pass (held_in list places drops o content) start end
+  alone_within within =
+      subst (λ xs. IsBufferWithin one_pass (held_alone list places drops o xs) start end) lies
+      within
 
 -- a writer of the items from start to end of a buffer, which his block keeps
 module _ {T B M A : Type 0} (list : B → List T) (places : B → ℕ) (drops one_pass : Bool)
@@ -329,17 +367,32 @@ buffer-is list places drops o (Vector memory) is = absurd (not-vector is)
 buffer-is list places drops o (Buffer held) is = (held, refl)
 buffer-is list places drops o (Raw shared) is = absurd (not-raw is)
 
-pub cut_held : {T B M A : Type 0} (list : B → List T) (places : B → ℕ) (drops one_pass : Bool)
+cut-held : {T B M A : Type 0} (list : B → List T) (places : B → ℕ) (drops one_pass : Bool)
     (o : Owner) (content : Content T B M A) (start end : ℕ) (w : PartsView T (Given B M))
     → block_part drops (held_in list places drops o content) start end ≡ w
     → IsBufferWithin one_pass (held_in list places drops o content) start end
     → (n : ℕ) → n < end - start
     → block_part drops (held_in list places drops o content) start (start + n)
     ≡ after_truncate drops n w
-cut_held list places drops one_pass o content start end w view within n short =
+cut-held list places drops one_pass o content start end w view within n short =
     let held = buffer-is list places drops o content within.4 in
     ap (λ c. block_part drops (held_in list places drops o c) start (start + n)) held.1
     ∙ cut_seen list places drops one_pass o content held.0 held.1 start end w view within n short
+
+pub cut_held : {T B M A : Type 0} (list : B → List T) (places : B → ℕ) (drops one_pass : Bool)
+    (o : Owner) (contents : List (Content T B M A)) → length contents ≡ 1 → (start end : ℕ)
+    (w : PartsView T (Given B M))
+    → block_part drops (held_alone list places drops o contents) start end ≡ w
+    → IsBufferWithin one_pass (held_alone list places drops o contents) start end
+    → (n : ℕ) → n < end - start
+    → block_part drops (held_alone list places drops o contents) start (start + n)
+    ≡ after_truncate drops n w
+cut_held list places drops one_pass o contents long start end w view within n short =
+    let one = one-there contents long in
+    ap (λ xs. block_part drops (held_alone list places drops o xs) start (start + n)) one.1
+    ∙ cut-held list places drops one_pass o one.0 start end w
+    (alone_seen list places drops one_pass o contents one.0 one.1 start end w view)
+    (alone_within list places drops one_pass o contents one.0 one.1 start end within) n short
 
 -- the items that were lent are those that were written, in the same places
 pub lent_held : {T B M A : Type 0} (list : B → List T) (places : B → ℕ) (drops one_pass : Bool)

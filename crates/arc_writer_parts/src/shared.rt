@@ -41,7 +41,10 @@ pub struct SharedParts<
     A: Allocator + Copy = Global,
     H: Mark = Open,
 > {
-    on: SharedStorage<SharedNative<S::Item, BlockContent<S, B, M, A>, A, H>, SoleParts<S, B, M, A, H>>,
+    on: SharedStorage<
+        SharedNative<S::Item, BlockContent<S, B, M, A>, A, H>,
+        SoleParts<S, B, M, A, H>,
+    >,
     alloc: A,
 }
 
@@ -106,7 +109,10 @@ impl<S: Slice, B: BufferMut<S::Item> + Drop, M: Drop, A: Allocator + Copy, H: Ma
     }
 
     /// One of several writers on a native block.
-    pub(crate) fn several(alloc: A, writer: SharedNative<S::Item, BlockContent<S, B, M, A>, A, H>) -> Self
+    pub(crate) fn several(
+        alloc: A,
+        writer: SharedNative<S::Item, BlockContent<S, B, M, A>, A, H>,
+    ) -> Self
         requires { S.DROPS ≡ false }
         ensures { result ≡ native_row writer }
     {

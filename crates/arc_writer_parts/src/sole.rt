@@ -54,7 +54,11 @@ pub struct SoleParts<
     A: Allocator + Copy = Global,
     H: Mark = Open,
 > {
-    on: SoleStorage<SoleNative<S, B, M, A, H>, SoleVector<S, B, M, A, H>, SoleBuffer<S, B, M, A, H>>,
+    on: SoleStorage<
+        SoleNative<S, B, M, A, H>,
+        SoleVector<S, B, M, A, H>,
+        SoleBuffer<S, B, M, A, H>,
+    >,
 }
 
 impl<S: Slice, B: BufferMut<S::Item> + Drop, M: Drop, A: Allocator + Copy, H: Mark> Model

@@ -174,9 +174,9 @@ pub fn new_count<C: Drop, V: Drop, A: Allocator, const MAX: u64, H: Mark>(
     }
 }
 
-/// What a drop does. Under `Open` the owner ends with a new pass, which is the answer, its items are
-/// dropped, and the block's memory is given back. Under `Whole` owner and items are forgotten: the
-/// items stay where they are, and the answer is a pass of no block.
+/// What a drop does. Under `Open` the owner ends with a new pass, which is the answer, its items
+/// are dropped, and the block's memory is given back. Under `Whole` owner and items are forgotten:
+/// the items stay where they are, and the answer is a pass of no block.
 ///
 /// # History
 ///

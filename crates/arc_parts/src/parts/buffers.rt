@@ -139,8 +139,8 @@ impl<S: Slice, B: Buffer<S::Item> + Drop, M: Drop, A: Allocator + Copy, H: Mark>
         }
     }
 
-    /// What is known of a caller's buffer on which the parts stand, behind an `Arc` or not, fits the
-    /// buffer: the items are a part of its own, and the block has its places. Does nothing: its
+    /// What is known of a caller's buffer on which the parts stand, behind an `Arc` or not, fits
+    /// the buffer: the items are a part of its own, and the block has its places. Does nothing: its
     /// contract is the law.
     #[tactic(auto, using(crate::proofs::GivenParts::parts_fit))]
     pub fn known_given(&self)
@@ -187,6 +187,7 @@ impl<S: Slice, B: Buffer<S::Item> + Drop, M: Drop, A: Allocator + Copy, H: Mark>
     ///
     /// Taken: Alone with yes, then Down. Refused: Alone with no, where only the count could decide;
     /// else nothing.
+    #[tactic(auto, using(crate::proofs::CallersBlocks::buffer_never_native))]
     pub fn try_into_buffer_as(self, pass: &mut Pass<H>) -> Result<B, Self>
         requires role { self.role ≡ reader }
         requires pass { IsPassAt self.place pass.old }
@@ -240,6 +241,7 @@ impl<S: Slice, B: Buffer<S::Item> + Drop, M: Drop, A: Allocator + Copy, H: Mark>
     /// # History
     ///
     /// Down; nothing on an error.
+    #[tactic(auto, using(crate::proofs::CallersBlocks::buffer_never_native))]
     pub fn into_buffer_if_last_as(self, pass: &mut Pass<H>) -> Result<Option<B>, Self>
         requires role { self.role ≡ reader }
         requires pass { IsPassAt self.place pass.old }
@@ -302,6 +304,7 @@ impl<S: Slice, B: Buffer<S::Item> + Drop, M: Drop, A: Allocator + Copy, H: Mark>
     ///
     /// On a block that counts its owners, taken: Alone with yes, then Down. On one, refused: Alone
     /// with no, where only the count could decide. Else nothing.
+    #[tactic(auto, using(crate::proofs::CallersBlocks::raw_never_native))]
     pub fn try_into_raw_as(self, pass: &mut Pass<H>) -> Result<Arc<B, A>, Self>
         requires role { self.role ≡ reader }
         requires pass { IsPassAt self.place pass.old }
@@ -348,6 +351,7 @@ impl<S: Slice, B: Buffer<S::Item> + Drop, M: Drop, A: Allocator + Copy, H: Mark>
     /// # History
     ///
     /// On a block that counts its owners: Down; nothing on an error.
+    #[tactic(auto, using(crate::proofs::CallersBlocks::raw_never_native))]
     pub fn into_raw_if_last_as(self, pass: &mut Pass<H>) -> Result<Option<Arc<B, A>>, Self>
         requires role { self.role ≡ reader }
         requires pass { IsPassAt self.place pass.old }

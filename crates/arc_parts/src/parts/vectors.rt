@@ -224,6 +224,7 @@ impl<S: Slice, B: Buffer<S::Item> + Drop, M: Drop, A: Allocator + Copy, H: Mark>
     /// # History
     ///
     /// Down.
+    #[tactic(auto, using(crate::proofs::CallersBlocks::never_native))]
     fn into_memory_if_last_as(self, pass: &mut Pass<H>) -> Option<Vec<S::Item, A>>
         requires pass { IsPassAt self.place pass.old }
         requires sort { IsOfSort vector self.place }
@@ -255,6 +256,7 @@ impl<S: Slice, B: Buffer<S::Item> + Drop, M: Drop, A: Allocator + Copy, H: Mark>
     /// # History
     ///
     /// Taken: Alone with yes, then Down. Refused: Alone with no.
+    #[tactic(auto, using(crate::proofs::CallersBlocks::never_native))]
     fn try_take_memory_as(self, pass: &mut Pass<H>) -> Result<Vec<S::Item, A>, Self>
         requires pass { IsPassAt self.place pass.old }
         requires sort { IsOfSort vector self.place }

@@ -11,8 +11,8 @@ use Rattle.arc_parts.proofs.parts.Parts.try_into_raw_as.Goals as goal
 
 pub returns-in-Err-clause-refused : goal.returns-in-Err-clause-refused
 returns-in-Err-clause-refused g c =
-    taking_refused _ _ _ c.args.self _ c.self.view_is c.in-Block.is c.self.invariant
-    c.in-Err.block c.in-Err.ensures.others.0 (IsRawWhole c.args.self.items c.args.self.place)
+    taking_refused _ _ _ c.args.self _ c.self.view_is c.in-Block.is c.in-Err.block
+    c.in-Err.ensures.others.0 (IsRawWhole c.args.self.items c.args.self.place)
     (c.if-not-is_raw_whole.ensures.0 refl)
     c.args.pass.now c.try_into_content_as.new.pass c.in-Err.ensures.others.1
 
