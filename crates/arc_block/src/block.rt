@@ -119,7 +119,13 @@ impl<
 /// Gives the block back where there was a last owner who had it, and answers whether there was.
 #[inline(always)]
 fn give_back<T: Drop, C: Drop, A: Allocator>(
-    last: Option<(Kept<T, C, A>, HeaderRoom<Header<Kept<T, C, A>>>, EndedLifetime)>,
+    last: Option<
+        (
+            Kept<T, C, A>,
+            HeaderRoom<Header<Kept<T, C, A>>>,
+            EndedLifetime,
+        ),
+    >,
     head: HeadSize<Header<Kept<T, C, A>>>,
 ) -> bool
     requires ended { IfSome last (λ r. (kept_memory r.0).lifetime ≡ r.2.lifetime) }
@@ -179,7 +185,14 @@ impl<
     #[inline(always)]
     pub fn of_reader(
         base: Base<S::Item>,
-        reader: FrozenReader<S::Item, BlockContent<S, B, M, A>, BlockKept<S, B, M, A>, Lodged, MAX, H>,
+        reader: FrozenReader<
+            S::Item,
+            BlockContent<S, B, M, A>,
+            BlockKept<S, B, M, A>,
+            Lodged,
+            MAX,
+            H,
+        >,
         head: HeadSize<Header<BlockKept<S, B, M, A>>>,
     ) -> Self
         requires limited { IsLimited MAX H.whole (owner_in reader.owner) }

@@ -23,14 +23,7 @@ pub struct FrozenReader<T, C, V: Drop, A: Allocator + Copy, const MAX: u64, H: M
     ghost lent: { lifetime_in owner ≡ seen.memory.lifetime },
 }
 
-impl<T, C, V: Drop, A: Allocator + Copy, const MAX: u64, H: Mark> FrozenReader<
-    T,
-    C,
-    V,
-    A,
-    MAX,
-    H,
-> {
+impl<T, C, V: Drop, A: Allocator + Copy, const MAX: u64, H: Mark> FrozenReader<T, C, V, A, MAX, H> {
     ghost use Rattle.arc_owners.specs.count.Calls.{IsPassFor, Asks, MakesAnother, FindsFull};
     ghost use Rattle.arc_owners.specs.memory.Boxes.{owner_in, value_of, place_in};
     ghost use Rattle.arc_owners.specs.memory.SoleBoxes.{sole_in, sole_value, sole_place};

@@ -61,11 +61,11 @@ impl<S: Slice, B: BufferMut<S::Item> + Drop, M: Drop, A: Allocator + Copy, H: Ma
 
     ghost view = { λ p. block_part S.DROPS
         (held_alone B.list B.places S.DROPS (count_owner p.count.count)
-            p.count.memory.places.vec.items) p.start p.end };
+        p.count.memory.places.vec.items) p.start p.end };
 
     ghost invariant = { λ p. IsBufferWithin H.whole
         (held_alone B.list B.places S.DROPS (count_owner p.count.count)
-            p.count.memory.places.vec.items) p.start p.end
+        p.count.memory.places.vec.items) p.start p.end
         × (length p.count.memory.places.vec.items ≡ 1) };
 }
 

@@ -132,7 +132,13 @@ impl<T: Drop, C: Drop, A: Allocator + Copy, H: Mark> SharedNative<T, C, A, H> {
     pub fn try_into_sole_as(
         self,
         pass: &mut Pass<H>,
-    ) -> Result<(NativeCount<MAX_OWNERS, H>, WriterMemory<T, Kept<T, C, A>, A>), Self>
+    ) -> Result<
+        (
+            NativeCount<MAX_OWNERS, H>,
+            WriterMemory<T, Kept<T, C, A>, A>,
+        ),
+        Self,
+    >
         requires pass { IsPassFor self.owner pass.old }
         ensures entry { Asks self.owner pass.old pass.new (is_ok result) }
         ensures owner { IfOk result (λ r. (count_owner r.0 ≡ self.owner)

@@ -219,10 +219,7 @@ impl<
     ///
     /// Alone with the answer.
     #[tactic(auto, using(crate::proofs::Kept::block_alike, crate::proofs::Kept::laid_room, crate::proofs::Kept::kept_ended))]
-    pub fn try_into_callers_as(
-        self,
-        pass: &mut Pass<H>,
-    ) -> Result<SoleOf<S, B, M, A, MAX, H>, Self>
+    pub fn try_into_callers_as(self, pass: &mut Pass<H>) -> Result<SoleOf<S, B, M, A, MAX, H>, Self>
         requires pass { IsPassFor self.owner pass.old }
         requires sort { ¬ (self.facts.sort ≡ native) }
         ensures entry { Asks self.owner pass.old pass.new (is_ok result) }

@@ -385,6 +385,7 @@ impl<S: Slice, B: Buffer<S::Item> + Drop, M: Drop, A: Allocator + Copy, H: Mark>
 
     /// The metadata that lies in the caller's buffer on which the parts stand, behind an `Arc` or
     /// not, or `None` where they stand on none.
+    #[tactic(auto, using(crate::proofs::CallersBlocks::own_metadata))]
     pub fn borrowed_metadata(&self) -> Option<&B::Metadata>
     where
         B: BorrowMetadata,

@@ -161,6 +161,7 @@ impl<S: Slice, B: Buffer<S::Item> + Drop, M: Drop, A: Allocator + Copy, H: Mark>
     ///
     /// On a block that is no `Arc`: Alone with what the count says.
     #[inline(always)]
+    #[tactic(auto, using(crate::proofs::CallersBlocks::own_answer))]
     pub fn is_unique_as(&self, pass: &mut Pass<H>) -> bool
         requires role { self.now.role ≡ reader }
         requires pass { IsPassAt self.now.place pass.old }
@@ -169,7 +170,10 @@ impl<S: Slice, B: Buffer<S::Item> + Drop, M: Drop, A: Allocator + Copy, H: Mark>
             self.now.place pass.old pass.new result }
     {
         match &self.on {
-            Storage::Block(block) => block.is_unique_by_sort_as(pass),
+            Storage::Block(block) => {
+                block.known_given();
+                block.is_unique_by_sort_as(pass)
+            }
             _ => false,
         }
     }

@@ -188,11 +188,11 @@ impl<S: Slice, B: Buffer<S::Item> + Drop, M: Drop, A: Allocator + Copy, H: Mark>
         ensures entry { at_owner self.place ⊥ (λ o. Asks o pass.old pass.new (is_ok result)) }
         ensures sole { IfOk result (λ r. block_part S.DROPS
             (held_alone B.list B.places S.DROPS (count_owner r.0.count)
-                r.0.memory.places.vec.items) r.1 r.2
+            r.0.memory.places.vec.items) r.1 r.2
             ≡ as_sole S.DROPS self) }
         ensures range { IfOk result (λ r. IsPartOfBlock
             (held_alone B.list B.places S.DROPS (count_owner r.0.count)
-                r.0.memory.places.vec.items) r.1 r.2) }
+            r.0.memory.places.vec.items) r.1 r.2) }
         ensures alone { IfOk result (λ r. length r.0.memory.places.vec.items ≡ 1) }
         ensures sort { IfOk result (λ r. (held_alone B.list B.places S.DROPS (count_owner r.0.count)
             r.0.memory.places.vec.items).facts.sort ≡ buffer true) }

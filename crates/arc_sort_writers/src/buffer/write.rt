@@ -58,7 +58,10 @@ impl<S: Slice, B: BufferMut<S::Item> + Drop, M: Drop, A: Allocator + Copy, H: Ma
         ensures value { result.now ≡ self.old.items }
     {
         let (start, end) = (self.start, self.end);
-        self.count.content_mut().buffer_mut().as_mut_part(start, end)
+        self.count
+            .content_mut()
+            .buffer_mut()
+            .as_mut_part(start, end)
     }
 
     /// Makes room for `additional` items more behind those that there are. The buffer is asked

@@ -58,9 +58,7 @@ impl<S: Slice, B: Buffer<S::Item> + Drop, M: Drop, A: Allocator + Copy, H: Mark>
     /// # Errors
     ///
     /// The parts come back exactly where they stand on nothing.
-    pub fn into_several(
-        self,
-    ) -> Result<SharedNative<S::Item, BlockContent<S, B, M, A>, A, H>, Self>
+    pub fn into_several(self) -> Result<SharedNative<S::Item, BlockContent<S, B, M, A>, A, H>, Self>
         requires { S.DROPS ≡ false }
         ensures shared { IfOk result (λ writer. native_row writer ≡ as_shared self) }
         ensures idle { IfErr result (λ back. (back ≡ self) × IsAlonePlace self.place) }

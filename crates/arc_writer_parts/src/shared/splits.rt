@@ -198,7 +198,13 @@ where
     /// A writer of a copy of the items, on a native block with as many places, and a pass of that.
     fn copied(
         &self,
-    ) -> Result<(SharedNative<S::Item, BlockContent<S, B, M, A>, A, H>, Pass<H>), AllocError>
+    ) -> Result<
+        (
+            SharedNative<S::Item, BlockContent<S, B, M, A>, A, H>,
+            Pass<H>,
+        ),
+        AllocError,
+    >
         ensures made { IfOk result (λ r.
             native_row r.0 ≡ on_native false (Some r.0.owner) self.now) }
         ensures first { IfOk result (λ r. IsFirst MAX_OWNERS H.whole Counted r.0.owner) }

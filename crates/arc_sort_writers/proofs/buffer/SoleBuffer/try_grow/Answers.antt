@@ -27,8 +27,7 @@ returns-clause-grown g c =
     (alone_seen list places drops whole o v.items inner lies start end c.args.self.now
     c.self.view_is)
     (alone_within list places drops whole o v.items inner lies start end c.self.invariant.0) b
-    c.args.additional c.try_reserve.ensures.list room c.requires in
-    (
+    c.args.additional c.try_reserve.ensures.list room c.requires in (
       places b,
       seen.0,
       ap (λ xs. bare (block_part drops (held_alone list places drops o xs) start end))
