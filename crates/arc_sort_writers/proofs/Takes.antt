@@ -1,11 +1,12 @@
 -- One of several writers on a native block: what he took back, and what is seen of him.
-use Rattle.std.proofs.Common.{◌≡◌, ℕ, Bool, true, false, List, sym, ap, ◌∙◌, subst}
+use Rattle.std.proofs.Common.{◌≡◌, ℕ, Bool, true, false, List, refl, sym, ap, ◌∙◌, subst}
 use denote.RawPtr.{Ptr}
 use Rattle.arc_owners.specs.declared.memory.header_room.HeaderRoom.{HeaderRoom}
 use Rattle.arc_memory.specs.KeptPlaces.{kept_memory, kept_place, kept_head, IsRoomFor}
 use Rattle.arc_memory.specs.LentMemory.{LentMemory}
 use Rattle.arc_memory.specs.declared.kept.Kept.{Kept}
 use Rattle.arc_memory.specs.declared.kept.Kept.TheVariants.{Places, Items, Callers}
+use Rattle.arc_memory.specs.declared.kept_places.KeptPlaces.{KeptPlaces}
 use Rattle.arc_memory.specs.declared.seen.Seen.{Seen}
 use Rattle.arc_memory.specs.LentRanges.{LentRange}
 use Rattle.arc_memory.specs.SharedWriters.{writer_owner, writer_value, writer_range, writer_items}
@@ -24,6 +25,18 @@ memory-of : {T C A : Type 0} (kept : Kept T C A) (memory : LentMemory) → Keeps
 memory-of (Places kept) memory keeps = keeps
 memory-of (Items kept) memory keeps = absurd keeps
 memory-of (Callers kept) memory keeps = absurd keeps
+
+are-places : {T C A : Type 0} (kept : Kept T C A) (memory : LentMemory) → KeepsPlaces kept memory
+    → ((k : KeptPlaces T A) → kept ≡ Places k → ⊥) → ⊥
+are-places (Places k) memory keeps other = other k refl
+are-places (Items k) memory keeps other = keeps
+are-places (Callers k) memory keeps other = keeps
+
+-- it is kept as places
+pub are_places : {T C A : Type 0} (kept kept' : Kept T C A) (memory : LentMemory)
+    → KeepsPlaces kept memory → kept' ≡ kept → ((k : KeptPlaces T A) → kept' ≡ Places k → ⊥) → ⊥
+are_places kept kept' memory keeps is other =
+    are-places kept' memory (subst (λ k. KeepsPlaces k memory) (sym is) keeps) other
 
 -- how many places it has
 pub kept_size : {T C A : Type 0} (kept kept' : Kept T C A) (memory : LentMemory) (count : ℕ)

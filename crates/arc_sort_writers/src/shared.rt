@@ -172,7 +172,7 @@ impl<T: Drop, C: Drop, A: Allocator + Copy, H: Mark> SharedNative<T, C, A, H> {
     /// # History
     ///
     /// Down.
-    #[tactic(auto, using(crate::proofs::Takes::laid_room))]
+    #[tactic(auto, using(crate::proofs::Takes::laid_room, crate::proofs::Takes::are_places))]
     pub fn into_memory_if_last_as(
         self,
         pass: &mut Pass<H>,
