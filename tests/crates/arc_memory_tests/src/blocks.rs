@@ -1,6 +1,6 @@
 //! Native blocks that only three may share.
 
-use arc_block::block::NativeBlock;
+use arc_block::block::Block;
 use arc_buffer::kinds::Plain;
 use arc_owners::error::OwnerError;
 use arc_owners::leave::RaiseLeave;
@@ -10,7 +10,7 @@ use std::alloc::{Allocator, Global};
 use std::test::Fail;
 
 /// An owner of bytes, which three may share.
-type Bytes<A> = NativeBlock<Plain<u8>, A, 3, Open>;
+type Bytes<A> = Block<Plain<u8>, Vec<u8>, (), A, 3, Open>;
 
 /// Another owner of a block on which no other thread steps, so that one attempt is enough.
 fn shared<A: Allocator + Copy>(
@@ -48,7 +48,7 @@ fn shared_up_to_three(leave: RaiseLeave, alloc: Global) -> Option<[bool; 6]> {
     let beside = first.is_unique_as(&mut pass);
     let last = first.release_as(&mut pass);
     let fourth = shared(leave, &third, &mut pass)?;
-    Some([same, alone, full, beside, last, fourth.is_of_places(5)])
+    Some([same, alone, full, beside, last, fourth.is_native_of(5)])
 }
 
 #[test]

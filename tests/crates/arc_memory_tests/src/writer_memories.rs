@@ -4,10 +4,13 @@ use arc_memory::WriterMemory;
 use std::alloc::Global;
 use std::test::Fail;
 
+/// A writer's memory, in front of which nothing is laid.
+type Memory = WriterMemory<u8, (), Global>;
+
 /// Memory of three bytes gets a fourth in five places, has those behind the first moved to its
 /// first places, and then the first set to 9: whether the bytes are there after each.
 fn grown_and_changed(alloc: Global) -> Option<[bool; 3]> {
-    let mut memory = WriterMemory::from_slice(alloc, &[1u8, 2, 3]).ok()?;
+    let mut memory = Memory::from_slice(alloc, &[1u8, 2, 3]).ok()?;
     memory.grow(alloc, 5).ok()?;
     if memory.len() >= memory.capacity() {
         return None;
@@ -25,8 +28,8 @@ fn grown_and_changed(alloc: Global) -> Option<[bool; 3]> {
 
 /// An array, and two copies of a byte with a third behind them, as arrays again.
 fn taken_back(alloc: Global) -> Option<[[u8; 3]; 2]> {
-    let array = WriterMemory::from_array(alloc, [1u8, 2, 3]).ok()?;
-    let mut copies = WriterMemory::new(alloc, 3).ok()?;
+    let array = Memory::from_array(alloc, [1u8, 2, 3]).ok()?;
+    let mut copies = Memory::new(alloc, 3).ok()?;
     if copies.capacity() < 3 {
         return None;
     }
