@@ -1,15 +1,18 @@
 -- What a block that is a vector keeps, as the vector that its only owner has.
-use Rattle.std.proofs.Common.{◌≡◌, ℕ, Bool, List, length, refl, sym, ap, ◌∙◌, subst}
+use Rattle.std.proofs.Common.{◌≡◌, ℕ, Bool, List, [], ◌∷◌, ◌++◌, length, Option, None, refl, sym}
+use Rattle.std.proofs.Common.{ap, ◌∙◌, subst}
 use Rattle.std.specs.declared.vec.Vec.{Vec}
 use Rattle.std.specs.Vec.{vec_capacity}
 use Rattle.arc_owners.specs.count.Calls.{Owner}
 use Rattle.arc_memory.specs.declared.native.Native.{Native}
 use Rattle.arc_memory.specs.Memory.{Extent, extent_of}
+use Rattle.arc_memory.proofs.Alone.{alone}
 use Rattle.arc_memory.proofs.SameVecs.{same_vec}
-use Rattle.arc_block.specs.Block.{vector, BlockView, held_as, memory_info}
+use Rattle.arc_block.specs.Block.{native, vector, BlockInfo, BlockView, held_as, memory_info}
 use Rattle.arc_block.specs.declared.block.content.Content.{Content}
 use Rattle.arc_block.specs.declared.block.content.Content.TheVariants.{Vector, Buffer, Raw}
 use Rattle.arc_block.specs.Given.{Given}
+use Rattle.arc_block.specs.Metadata.{FitsGiven, IsCallers}
 use Rattle.arc_block.specs.Contents.{content_sort, content_info, IsVecOf, held_in}
 
 module _ {T B M A : Type 0} where
@@ -60,3 +63,16 @@ module _ {T B M A : Type 0} (list : B → List T) (places : B → ℕ) (drops : 
   kept_places v of =
       ap (λ (x : BlockView T (Given B M)). x.facts.size)
       (vector_held list places drops o content v of ∙ held)
+
+-- what lies alone, taken out: it was the one that lay there, and nothing is left
+module _ {C : Type 0} (xs ys : List C) (x : C) (is : xs ≡ ys ++ x ∷ []) (long : length xs ≡ 1) where
+  pub lone_item : xs ≡ x ∷ []
+  lone_item = alone xs ys x is long
+
+-- what is known of a native block fits that nothing was given
+pub native_fits : {T B M : Type 0} (list : B → List T) (places : B → ℕ)
+    (given : Option (Given B M)) (info : BlockInfo (Given B M)) (items : List T) → given ≡ None
+    → info.sort ≡ native → FitsGiven list places given info items
+native_fits list places given info items none sort =
+    subst (λ x. FitsGiven list places x info items) (sym none)
+    (λ callers. subst IsCallers sort callers)

@@ -20,11 +20,13 @@ use Rattle.arc_memory.specs.SeenItems.{shown_alone}
 use Rattle.arc_memory.specs.PieceParts.{IsRoomOf}
 use Rattle.arc_memory.specs.WriterParts.{IsRangeOf}
 use Rattle.arc_block.specs.Block.{BlockInfo, BlockView, Sort, native, vector, buffer, raw}
+use Rattle.arc_block.specs.Block.{memory_info}
 use Rattle.arc_block.specs.Contents.{content_items, content_info, alone_info, held_in, held_alone}
 use Rattle.arc_block.specs.declared.block.content.Content.{Content}
 use Rattle.arc_block.specs.declared.block.content.Content.TheVariants.{Vector, Buffer, Raw}
 use Rattle.arc_block.specs.Given.{Given}
 use Rattle.arc_block.specs.Kept.{IsKeptFor, IsNativeKept, IsBlockOf, kept_info}
+use Rattle.arc_block.specs.Natives.{native_view}
 
 -- what is laid in the room of a piece's header
 module _ {T C A : Type 0} (place place' : Ptr) (head head' : ℕ × ℕ) (kept kept' : Kept T C A) where
@@ -115,6 +117,24 @@ module _ {T B M A : Type 0} (list : B → List T) (places : B → ℕ) (drops : 
       ∙ ap (shown_alone (content_items list)) is)
       ∙ ap (λ n. make (content_items list content) n kept.full.items) keeps.2
       ∙ ap (make (content_items list content) 0) is
+
+  native-info : (kept : Kept-of) → IsKeptFor (content_items list) drops seen kept
+      → seen.native ≡ true → kept_info list places drops seen kept
+      ≡ memory_info native drops seen.memory.whole (seen.start + length seen.items)
+  native-info (Places kept) keeps sort = refl
+  native-info (Items kept) keeps sort = refl
+  native-info (Callers kept) keeps sort = absurd (false≢true (sym keeps.0 ∙ sort))
+
+  -- where places of ours are read, the block is seen as a native one
+  pub native_read : (kept : Kept-of) → IsKeptFor (content_items list) drops seen kept
+      → seen.native ≡ true → (o : Owner) → owner ≡ o → (xs : List T) → seen.items ≡ xs
+      → (first whole : ℕ) → seen.start ≡ first → seen.memory.whole ≡ whole
+      → seen_as kept ≡ native_view drops o xs first whole
+  native_read kept keeps sort o same xs items first whole starts sizes =
+      let info : kept_info list places drops seen kept
+      ≡ memory_info native drops whole (first + length xs) = native-info kept keeps sort
+      ∙ (λ i. memory_info native drops (sizes i) (starts i + length (items i))) in
+      λ i. record { owner = same i; items = items i; first = starts i; facts = info i }
 
 module _ {T C A : Type 0} (show : C → List T) (drops : Bool) (range : FrozenPlaces T)
     (seen : Seen T C) where

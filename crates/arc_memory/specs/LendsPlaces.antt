@@ -1,6 +1,6 @@
 -- What a writer's places hold, where their items are lent to be changed.
 use Rattle.std.specs.Prelude.{ℕ, List}
-use Rattle.std.specs.Vec.{with_items, with_items_from}
+use Rattle.std.specs.Vec.{with_item, with_items, with_items_from}
 use Rattle.std.specs.Borrow.{Lends, Fml, RattleType, MutBor, Array}
 use Rattle.arc_memory.specs.declared.writer_places.WriterPlaces.{WriterPlaces}
 use Rattle.arc_memory.specs.contracts.writer_places.WriterPlaces.{the_row}
@@ -27,6 +27,13 @@ abbrev pub LendsPlacesFrom : (T : RattleType) → ℕ → MutBor (WriterPlaces T
 LendsPlacesFrom T start places r =
     Lends (the_row T) (Array T 0) places r (with_written_from start places.now)
 
+-- and of the item that lies in the first place
+abbrev pub with_first_written : {T : Type 0} → WriterPlaces T → T → WriterPlaces T
+with_first_written w x = record w { vec = with_item w.vec 0 x; lies = w.lies; begins = w.begins }
+
+abbrev pub LendsFirst : (T : RattleType) → MutBor (WriterPlaces T.Denot) → MutBor T.Denot → Fml
+LendsFirst T places r = Lends (the_row T) T places r (with_first_written places.now)
+
 -- and of a writer's memory
 abbrev pub with_all_written : {T V A : Type 0} → ℕ → WriterMemory T V A → List T
     → WriterMemory T V A
@@ -44,3 +51,19 @@ abbrev pub LendsMemory : (T V A : RattleType) → Ghosts A.Denot → ℕ
     → MutBor (WriterMemory T.Denot V.Denot A.Denot) → MutBor (List T.Denot) → Fml
 LendsMemory T V A a start memory r =
     Lends (memory_row T V A a) (Array T 0) memory r (with_all_written start memory.now)
+
+abbrev pub with_first_item : {T V A : Type 0} → WriterMemory T V A → T → WriterMemory T V A
+with_first_item m x = record {
+  before = m.before;
+  places = with_first_written m.places x;
+  source = m.source;
+  front = m.front;
+  unused = m.unused;
+  own = m.own;
+  from = m.from;
+}
+
+abbrev pub LendsFirstItem : (T V A : RattleType) → Ghosts A.Denot
+    → MutBor (WriterMemory T.Denot V.Denot A.Denot) → MutBor T.Denot → Fml
+LendsFirstItem T V A a memory r =
+    Lends (memory_row T V A a) T memory r (with_first_item memory.now)

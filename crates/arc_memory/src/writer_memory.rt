@@ -38,7 +38,7 @@ impl<T: Drop, V: Drop, A: Allocator> WriterMemory<T, V, A> {
     ghost use Rattle.std.specs.Borrow.{sem};
     ghost use Rattle.arc_memory.specs.PieceParts.{AreAllOfPiece, IsRoomOf};
     ghost use Rattle.arc_memory.specs.Sources.{IsPiece};
-    ghost use Rattle.arc_memory.specs.LendsPlaces.{LendsMemory};
+    ghost use Rattle.arc_memory.specs.LendsPlaces.{LendsMemory, LendsFirstItem};
     ghost use Rattle.arc_memory.specs.WriterMemories.{SameMemory, IsOnePlace};
 
     /// No places, and no memory. Nothing is asked of an allocator.
@@ -301,6 +301,17 @@ impl<T: Drop, V: Drop, A: Allocator> WriterMemory<T, V, A> {
         ensures value { result.now ≡ slice_range self.old.places.vec.items start end }
     {
         self.places.as_mut_part(start, end)
+    }
+
+    /// The item that lies alone, to be changed in its place: it is what is written there.
+    #[inline(always)]
+    pub fn lone_mut(&mut self) -> &mut T
+        requires { length self.old.places.vec.items ≡ 1 }
+        ensures* writes_back { sem 𝓛 (LendsFirstItem T.row V.row A.row A.Allocator self.entry
+            result) }
+        ensures value { self.old.places.vec.items ≡ result.now ∷ [] }
+    {
+        self.places.lone_mut()
     }
 
     /// Moves the items from `index` on to the first places of the memory, all of which are the

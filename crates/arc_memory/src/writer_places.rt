@@ -29,7 +29,7 @@ pub struct WriterPlaces<T> {
 impl<T> WriterPlaces<T> {
     ghost use Rattle.std.specs.Borrow.{sem};
     ghost use Rattle.arc_memory.specs.WriterPlaces.{HasPlaces, SamePlaces, IsRangeOf, IsPartOf};
-    ghost use Rattle.arc_memory.specs.LendsPlaces.{LendsPlaces, LendsPlacesFrom};
+    ghost use Rattle.arc_memory.specs.LendsPlaces.{LendsPlaces, LendsPlacesFrom, LendsFirst};
 
     /// These places, for a writer.
     ///
@@ -98,6 +98,16 @@ impl<T> WriterPlaces<T> {
         ensures value { result.now ≡ slice_range self.old.vec.items start end }
     {
         self.vec.slice_mut(start..end)
+    }
+
+    /// The item that lies alone, to be changed in its place: it is what is written there.
+    #[inline(always)]
+    pub fn lone_mut(&mut self) -> &mut T
+        requires { length self.old.vec.items ≡ 1 }
+        ensures* writes_back { sem 𝓛 (LendsFirst T.row self.entry result) }
+        ensures value { self.old.vec.items ≡ result.now ∷ [] }
+    {
+        &mut self.vec[0]
     }
 
     /// Where the memory's places begin.

@@ -21,8 +21,7 @@ use Rattle.arc_block.specs.declared.block.content.CallersBuffer.{CallersBuffer}
 use Rattle.arc_parts.specs.declared.room.Room.TheVariants.{Front, Growth}
 use Rattle.std.specs.Prelude.{Result, Ok, Err, OnOk, slice_set}
 use Rattle.std.specs.declared.vec.Vec.{Vec}
-use Rattle.std.specs.Vec.{with_items_from}
-use Rattle.std.proofs.lemmas.List.{with_items_is}
+use Rattle.std.specs.Vec.{with_item}
 use Rattle.arc_block.specs.Place.{on_block}
 use Rattle.arc_block.specs.Table.{Role, sole_writer}
 use Rattle.arc_parts.specs.Window.{PartsView, IsBufferWhole}
@@ -124,15 +123,8 @@ cut-role false ends n len free = refl
 
 -- Where one value lies, the last that is written through a borrow lies there once that has ended.
 pub lent_alone : {C Z : Type 0} (v : Vec C Z) (old new : C) → v.items ≡ old ∷ []
-    → (with_items_from v 0 (new ∷ [])).items ≡ new ∷ []
-lent_alone v old new lies =
-    let written : take 0 v.items ++ ((new ∷ []) ++ drop (length (new ∷ [])) (drop 0 v.items))
-    ≡ new ∷ [] =
-    ap (λ xs. take 0 xs ++ ((new ∷ []) ++ drop (length (new ∷ [])) (drop 0 xs))) lies in
-    let long : length (old ∷ []) ≡ v.len = sym (v.ok.0 ∙ ap (λ xs. length xs) lies) in
-    with_items_is v
-    (take 0 v.items ++ ((new ∷ []) ++ drop (length (new ∷ [])) (drop 0 v.items)))
-    (ap (λ xs. length xs) written ∙ long) ∙ written
+    → (with_item v 0 new).items ≡ new ∷ []
+lent_alone v old new lies = ap (λ xs. slice_set xs 0 new) lies
 
 -- what lies there
 one-there : {C : Type 0} (xs : List C) → length xs ≡ 1 → (x : C) × (xs ≡ x ∷ [])

@@ -194,6 +194,7 @@ impl<
         ensures some { IfSome result (λ content. self.now
             ≡ held_in B.list B.places S.DROPS self.now.owner content.now) }
         ensures none { IfNone result (self.now.facts.sort ≡ native) }
+        ensures ungiven { IfNone result (self.now.facts.given ≡ None) }
     {
         match self.reader.owner.get() {
             Kept::Places(_) => None,

@@ -90,7 +90,7 @@ impl<C: Drop, V: Drop, A: Allocator, const MAX: u64, H: Mark> SoleCallers<C, V, 
             A.Allocator self.entry result) }
         ensures value { self.old.memory.places.vec.items ≡ result.now ∷ [] }
     {
-        &mut self.memory.as_mut_part(0, 1)[0]
+        self.memory.lone_mut()
     }
 
     /// Ends this owner, the last one, and gives the block's memory back, with what lies there. No

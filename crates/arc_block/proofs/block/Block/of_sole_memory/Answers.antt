@@ -26,7 +26,7 @@ invariant_of-result g c =
             ∙ ap (λ m. m.lifetime) (sym c.lend-part.ensures.memory.0)
             ∙ sym (ap (λ m. m.lifetime) c.freeze-range.ensures.0) ∙ sym lent.lent)
             c.args.memory.places.vec.items
-            (c.of.ensures.2 ∙ ap (λ r. r.items) c.again.ensures ∙ all) c.requires.alone
+            (c.of.ensures.2 ∙ c.again.ensures.2 ∙ all) c.requires.alone
             (lent.items ∙ ap (shown_alone show) all);
         laid = (
           lent.place ∙ c.lay-sole.ensures.place ∙ c.lend-part.ensures.room.0
@@ -45,7 +45,7 @@ returns g c =
     let is = lent.same.1 ∙ c.lay-sole.ensures.same.1 in
     let kept = c.of.ensures.0 in
     let all = c.freeze-range.ensures.2 ∙ c.lend-part.ensures.part.2 in
-    let there = c.of.ensures.2 ∙ ap (λ r. r.items) c.again.ensures ∙ all in
+    let there = c.of.ensures.2 ∙ c.again.ensures.2 ∙ all in
     let keeps = alone_kept show g.S.Slice.DROPS reader.seen c.of.result (value_of reader.owner) is
     lent.sort.0 lent.sort.1
     (ap (λ k. k.inheritance.memory.lifetime) kept

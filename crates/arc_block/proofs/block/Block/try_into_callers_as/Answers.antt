@@ -36,8 +36,8 @@ regain-memory-requires-clause-room g c =
     (sym (c.take_up-count.ensures.same.1 ∙ c.in-Ok.ensures.sole.1) ∙ c.in-Callers.is)
     (c.take_up-count.ensures.place ∙ c.in-Ok.ensures.sole.2) c.self.invariant.2.laid
 
-pub returns-in-Ok-clause-sole : goal.returns-in-Ok-clause-sole
-returns-in-Ok-clause-sole g c =
+pub returns-in-Callers-clause-sole : goal.returns-in-Callers-clause-sole
+returns-in-Callers-clause-sole g c =
     let reader = c.self.inside.reader in
     let owner = c.take_up-count.ensures.same.0 ∙ c.in-Ok.ensures.sole.0 in (
       callers_seen g.B.Buffer.list g.B.Buffer.places g.S.Slice.DROPS reader.seen
@@ -49,8 +49,8 @@ returns-in-Ok-clause-sole g c =
       subst (λ o. IsLimited g.row.MAX g.H.Mark.whole o) (sym owner) c.self.invariant.0,
     )
 
-pub returns-in-Ok-clause-alone : goal.returns-in-Ok-clause-alone
-returns-in-Ok-clause-alone g c =
+pub returns-in-Callers-clause-alone : goal.returns-in-Callers-clause-alone
+returns-in-Callers-clause-alone g c =
     let reader = c.self.inside.reader in
     callers_alone (content_items g.B.Buffer.list) g.S.Slice.DROPS reader.seen
     (value_of reader.owner) c.in-Callers.kept
