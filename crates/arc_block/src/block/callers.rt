@@ -302,7 +302,8 @@ impl<
     /// is nothing, and else the buffer, with the block's items and places, which are read from the
     /// first one on. Does nothing: its contract is the law.
     pub fn known_given(&self)
-        ensures fits { FitsGiven B.list B.places self.now.facts.given self.now.facts self.now.items }
+        ensures fits { FitsGiven B.list B.places self.now.facts.given self.now.facts
+            self.now.items }
         ensures first { IsCallers self.now.facts.sort → self.now.first ≡ 0 }
     {
         match self.content() {
