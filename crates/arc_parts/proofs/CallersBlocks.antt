@@ -2,17 +2,19 @@
 -- items.
 use Rattle.std.proofs.Common.{◌≡◌, ℕ, ◌+◌, ◌-◌, ◌≤◌, Bool, true, false, List, length, Option, Some}
 use Rattle.std.proofs.Common.{sym, ap, ◌∙◌, subst, arith}
+use Rattle.std.proofs.lemmas.Option.{same_Some}
 use Rattle.arc_owners.specs.count.Calls.{Owner}
 use Rattle.arc_owners.specs.declared.count.tokens.Pass.{Pass}
 use Rattle.arc_buffer.specs.Slice.{sub}
-use Rattle.arc_buffer.proofs.Sub.{length-sub}
+use Rattle.arc_buffer.proofs.Sub.{length-sub, sub-whole}
 use Rattle.arc_block.specs.Block.{Sort, BlockView, native, vector, buffer, raw, IsBuffer}
 use Rattle.arc_block.specs.Given.{Given}
 use Rattle.arc_block.specs.Metadata.{IsCallers, IsOwnMetadata, IsMetadataAt}
+use Rattle.arc_block.specs.Place.{size_at}
 use Rattle.arc_block.specs.Unique.{AsksOwn, AsksOwnAt, IsOwnAnswer, IsAnswerAt}
 use Rattle.arc_parts.specs.declared.storage.Storage.TheVariants.{Block}
 use Rattle.arc_parts.specs.Window.{PartsView, StandsBy, parts_of, window_seen, IsOfSort, IsOfBuffer}
-use Rattle.arc_parts.specs.Window.{IsBufferWhole, IsRawWhole, IsWithin}
+use Rattle.arc_parts.specs.Window.{IsBufferWhole, IsRawWhole, IsWithin, IsAllFull}
 
 -- blocks of this sort are of a caller's making
 abbrev IsGiven : Sort → Type 0
@@ -56,6 +58,38 @@ module _ {T M : Type 0} (inner : StandsBy T M) (from to : ℕ) (p : PartsView T 
       let ends : to - b.first ≡ to = omega (arith, first) in
       ap (λ (v : PartsView T M). v.items) seen ∙ ap (λ n. sub b.items n (to - b.first)) starts
       ∙ ap (sub b.items from) ends
+
+-- what was taken out of the block, which is read from the front on
+module _ {T M : Type 0} (inner : StandsBy T M) (from to : ℕ) (p : PartsView T M) (b : BlockView T M)
+    (view : parts_of (window_seen inner from to) ≡ p) (is : inner ≡ Block b)
+    (taken : BlockView T M) (same : taken ≡ b) (front : taken.first ≡ 0) where
+  -- has the items between the ends, and the block's places
+  pub part_back : (p.items ≡ sub taken.items from to) × (size_at p.place ≡ taken.facts.size)
+  part_back = (
+    front_items inner from to p taken view (is ∙ ap Block (sym same)) front,
+    ap (λ (v : PartsView T M). size_at v.place) (seen inner from to p b view is)
+        ∙ ap (λ (x : BlockView T M). x.facts.size) (sym same),
+  )
+
+  -- and no others, where all its full places are the parts'
+  pub whole_back : IsWithin inner from to → taken.facts.full ≡ Some (length taken.items)
+      → IsAllFull (length p.items) p.place
+      → (taken.items ≡ p.items) × (taken.facts.size ≡ size_at p.place)
+  whole_back within full all =
+      let here = subst (λ x. IsWithin {T = T} {M = M} (Block x) from to) (sym same)
+      (subst (λ x. IsWithin x from to) is within) in
+      let there = subst (λ (v : PartsView T M). IsAllFull (length p.items) v.place)
+      (seen inner from to p b view is) all in
+      let many : length taken.items ≡ length p.items =
+      same_Some (length taken.items) (length p.items)
+      (sym full ∙ ap (λ (x : BlockView T M). x.facts.full) same ∙ there.1) in
+      let long : length p.items ≡ to - from =
+      ap (λ ys. length ys) part_back.0
+      ∙ length-sub taken.items from to here.0.ordered (omega (arith, here.0.to, front)) in
+      let last : to ≡ length taken.items = omega (arith, many, long, there.0, here.0.ordered) in (
+        sym (part_back.0 ∙ (λ i. sub taken.items (there.0 i) (last i)) ∙ sub-whole taken.items),
+        sym part_back.1,
+      )
 
 -- of a buffer that has all items of the block, the parts have a part
 part-there : {T : Type 0} (all xs : List T) (first from to : ℕ) → first ≡ 0 → from ≤ to

@@ -5,14 +5,14 @@ use Rattle.arc_owners.specs.count.Calls.{Owner}
 use Rattle.arc_memory.specs.declared.writer_memory.WriterMemory.{WriterMemory}
 use Rattle.arc_buffer.specs.Slice.{sub}
 use Rattle.arc_buffer.proofs.Sub.{length-sub, sub-whole}
-use Rattle.arc_block.specs.Block.{BlockView}
+use Rattle.arc_block.specs.Block.{BlockView, Sort}
 use Rattle.arc_block.specs.Natives.{native_over, native_taken, IsAmong}
 use Rattle.arc_block.specs.Place.{on_block}
 use Rattle.arc_block.specs.Table.{sole_writer}
 use Rattle.arc_parts.specs.declared.storage.Storage.TheVariants.{Block}
 use Rattle.arc_parts.specs.Window.{PartsView, StandsBy, parts_of, part_of_block, window_seen}
-use Rattle.arc_parts.specs.Window.{IsWithin}
-use Rattle.arc_parts.specs.SoleParts.{sole_native_part}
+use Rattle.arc_parts.specs.Window.{IsWithin, IsPartOfBlock, IsOfSort}
+use Rattle.arc_parts.specs.SoleParts.{sole_native_part, block_part}
 use Rattle.arc_parts.specs.Writers.{writer_capacity, as_sole}
 
 module _ {T V A : Type 0} where
@@ -115,3 +115,44 @@ module _ {T M V A : Type 0} where
     taken_sole =
         taken-native drops o m b start end at p taken among begins
         (ap (λ x. parts_of (window_seen x start end)) (sym is) ∙ view)
+
+-- the only owner of a block, who reads it from the front on, has his part of it
+module _ {T M : Type 0} (inner : StandsBy T M) (start end : ℕ) (p : PartsView T M)
+    (b : BlockView T M) (view : parts_of (window_seen inner start end) ≡ p) (is : inner ≡ Block b)
+    (within : IsWithin inner start end) (taken : BlockView T M) (same : taken ≡ b)
+    (front : taken.first ≡ 0) where
+  inside : IsWithin {T = T} {M = M} (Block taken) start end
+  inside =
+      subst (λ x. IsWithin {T = T} {M = M} (Block x) start end) (sym same)
+      (subst (λ x. IsWithin x start end) is within)
+
+  pub part_within : IsPartOfBlock taken start end
+  part_within = inside
+
+  pub part_range : (start ≤ end) × (end ≤ length taken.items)
+  part_range = (inside.0.ordered, omega (arith, inside.0.to, front))
+
+  pub part_sort : (sort : Sort) → IsOfSort sort p.place → taken.facts.sort ≡ sort
+  part_sort sort of =
+      ap (λ (x : BlockView T M). x.facts.sort) same
+      ∙ subst (λ (v : PartsView T M). IsOfSort sort v.place)
+      (sym view ∙ ap (λ x. parts_of (window_seen x start end)) is) of
+
+  pub part_sole : (drops : Bool) → block_part drops taken start end ≡ as_sole drops p
+  part_sole drops =
+      let starts : start - taken.first ≡ start = omega (arith, front) in
+      let ends : end - taken.first ≡ end = omega (arith, front) in
+      let items : sub taken.items (start - taken.first) (end - taken.first)
+      ≡ sub taken.items start end = λ i. sub taken.items (starts i) (ends i) in
+      let many : length (sub taken.items (start - taken.first) (end - taken.first)) ≡ end - start =
+      ap (λ ys. length ys) items
+      ∙ length-sub taken.items start end part_range.0 part_range.1 in
+      let part : as_sole drops (parts_of (window_seen (Block taken) start end))
+      ≡ block_part drops taken start end = λ i. record {
+        items = items i;
+        place = on_block (Some taken.owner) start taken.facts;
+        role = sole_writer (writer_capacity {M = M} drops taken.facts start (many i));
+      } in
+      sym part ∙ ap (λ x. as_sole drops (parts_of (window_seen (Block x) start end))) same
+      ∙ ap (λ x. as_sole drops (parts_of (window_seen x start end))) (sym is)
+      ∙ ap (as_sole drops) view

@@ -1,12 +1,13 @@
 -- The same parts come back, over the same block.
-use Rattle.std.proofs.Common.{Some, refl, sym, ap, ◌∙◌, arith}
-use Rattle.arc_block.specs.Contents.{content_info}
+use Rattle.std.proofs.Common.{◌≡◌, Some, refl, sym, ap, ◌∙◌, subst}
+use Rattle.arc_block.specs.Contents.{content_info, held_in}
+use Rattle.arc_block.specs.declared.block.content.Content.TheVariants.{Raw}
 use Rattle.arc_block.specs.Given.{buffer_of}
+use Rattle.arc_parts.proofs.CallersBlocks.{whole_back}
 use Rattle.arc_parts.proofs.GivenParts.{buffer_kept}
 use Rattle.arc_parts.specs.Window.{IsRawWhole}
 use Rattle.arc_parts.proofs.Raws.{raw_given, raw_whole_is_all}
 use Rattle.arc_parts.proofs.Windows.{taking_refused}
-use Rattle.std.proofs.lemmas.Grind.{common_steps}
 use Rattle.arc_parts.proofs.parts.Parts.try_into_raw_as.Goals as goal
 
 pub returns-in-Err-clause-refused : goal.returns-in-Err-clause-refused
@@ -30,7 +31,17 @@ returns-in-Raw-clause-itself g c =
     ∙ ap (λ s. Some s.given.buffer) (sym c.into_arc.ensures)
 
 pub returns-in-Ok-clause-taken : goal.returns-in-Ok-clause-taken
-returns-in-Ok-clause-taken g c = grind (arith, common_steps)
+returns-in-Ok-clause-taken g c =
+    let list = g.B.Buffer.list in
+    let places = g.B.Buffer.places in
+    let drops = g.S.Slice.DROPS in
+    let block = c.in-Block.block in
+    let whole = c.if-not-is_raw_whole.ensures.0 refl in
+    let taken = held_in list places drops block.owner (Raw c.into_raw.result) in
+    let back = whole_back _ _ _ c.args.self _ c.self.view_is c.in-Block.is taken
+    (subst (λ x. held_in list places drops block.owner x ≡ block) c.into_raw.ensures
+    c.in-Ok.ensures.content) refl c.self.invariant refl whole.whole in
+    (whole, back.0)
 
 pub returns-in-Ok-clause-itself : goal.returns-in-Ok-clause-itself
 returns-in-Ok-clause-itself g c =
