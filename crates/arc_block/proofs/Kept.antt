@@ -220,6 +220,10 @@ module _ {T C A : Type 0} (show : C → List T) (drops : Bool) (seen : Seen T C)
   pub callers_alone : (xs : List C) → xs ≡ k.full.items → length xs ≡ 1
   callers_alone xs same = ap length same ∙ there.3
 
+  -- in memory of one place
+  pub callers_one : (n : ℕ) → n ≡ k.kept.inheritance.memory.whole → n ≡ 1
+  callers_one n same = same ∙ there.5
+
 -- the room in which it lay is that of its piece's header
 pub callers_room : {T C A X : Type 0} (place : Ptr) (head : ℕ × ℕ) (value : Kept T C A)
     (k : KeptItems C A) (room : HeaderRoom X) → value ≡ Callers k → room.at ≡ place
@@ -259,12 +263,13 @@ pub alone_kept : {T C A : Type 0} (show : C → List T) (drops : Bool) (seen : S
     (k : KeptItems C A) (value : Kept T C A) → value ≡ Callers k → seen.native ≡ false
     → seen.start ≡ 0 → k.kept.inheritance.memory.lifetime ≡ seen.memory.lifetime
     → (xs : List C) → k.full.items ≡ xs → length xs ≡ 1 → seen.items ≡ shown_alone show xs
-    → IsKeptFor show drops seen value
-alone_kept show drops seen k value is sort first lasts xs all long shows =
+    → k.kept.inheritance.memory.whole ≡ 1 → IsKeptFor show drops seen value
+alone_kept show drops seen k value is sort first lasts xs all long shows one =
     subst (λ v. IsKeptFor show drops seen v) (sym is) (
       sort,
       lasts,
       first,
       ap (λ ys. length ys) all ∙ long,
       ap (shown_alone show) all ∙ sym shows,
+      one,
     )

@@ -38,6 +38,7 @@ module _ {T C A : Type 0} (show : C → List T) where
       (seen.native ≡ false) × (kept.kept.inheritance.memory.lifetime ≡ seen.memory.lifetime)
       × (seen.start ≡ 0) × (length kept.full.items ≡ 1)
       × (shown_alone show kept.full.items ≡ seen.items)
+      × (kept.kept.inheritance.memory.whole ≡ 1)
 
   -- What the block keeps is what is read, and lies in the room for a header of this size that its
   -- piece of memory has.

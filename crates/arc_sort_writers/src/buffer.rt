@@ -21,7 +21,7 @@ ghost use Rattle.arc_block.specs.Place.{size_at, offset_at};
 ghost use Rattle.arc_parts.specs.Window.{IsOfBuffer};
 ghost use Rattle.arc_parts.specs.Shared.{is_vector_at};
 
-use arc_block::block::{CallersBuffer, Content, MAX_OWNERS, SoleCallers, SoleOf};
+use arc_block::block::{CallersBuffer, Content, MAX_OWNERS, SoleCallers, SoleOf, end_memory};
 use arc_buffer::buffer::{Buffer, BufferMut};
 use arc_buffer::kinds::Slice;
 use arc_owners::error::TryReserveError;
@@ -80,7 +80,8 @@ impl<S: Slice, B: BufferMut<S::Item> + Drop, M: Drop, A: Allocator + Copy, H: Ma
             end: _,
             alloc: _,
         } = self;
-        count.let_go().show();
+        let SoleCallers { count, memory } = count;
+        end_memory(count, memory).show();
     }
 }
 

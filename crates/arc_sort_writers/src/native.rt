@@ -22,7 +22,7 @@ ghost use Rattle.arc_sort_writers.specs.CutParts.{IsPartCut, IsCutFor};
 ghost use Rattle.arc_parts.specs.Window.{IsOfBuffer};
 ghost use Rattle.arc_parts.specs.Shared.{is_vector_at};
 
-use arc_block::block::{BlockKept, MAX_OWNERS, NativeCount};
+use arc_block::block::{BlockKept, MAX_OWNERS, NativeCount, end_memory};
 use arc_buffer::buffer::Buffer;
 use arc_buffer::kinds::{Slice, Zeroable};
 use arc_memory::{CutMemory, WriterMemory};
@@ -30,7 +30,6 @@ use arc_owners::error::{AllocError, TryReserveError};
 use arc_owners::mark::{Mark, Open};
 use arc_owners::owners::Pass;
 use arc_parts::room::{Room, room_in};
-use ends::end_native;
 use std::alloc::{Allocator, Global};
 use std::cmp::max;
 use std::marker::{Model, PhantomData};
@@ -86,7 +85,7 @@ impl<S: Slice, B: Buffer<S::Item> + Drop, M: Drop, A: Allocator + Copy, H: Mark>
         } = self;
         let memory = whole_of::<S, BlockKept<S, B, M, A>, A>(memory);
         match count {
-            Some(count) => end_native(count, memory).show(),
+            Some(count) => end_memory(count, memory).show(),
             None => drop(memory),
         }
         drop(alloc);

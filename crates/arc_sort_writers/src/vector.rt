@@ -18,7 +18,7 @@ ghost use Rattle.arc_block.specs.Place.{size_at, offset_at};
 ghost use Rattle.arc_parts.specs.Window.{IsOfBuffer};
 ghost use Rattle.arc_parts.specs.Shared.{is_vector_at};
 
-use arc_block::block::{MAX_OWNERS, SoleOf, end_sole, new_count};
+use arc_block::block::{MAX_OWNERS, SoleCallers, SoleOf, end_sole, new_count};
 use arc_buffer::buffer::Buffer;
 use arc_buffer::kinds::Slice;
 use arc_owners::error::{AllocError, TryReserveError};
@@ -85,7 +85,8 @@ impl<S: Slice, B: Buffer<S::Item> + Drop, M: Drop, A: Allocator + Copy, H: Mark>
             end: _,
             alloc,
         } = self;
-        end_sole(count, items).show();
+        let SoleCallers { count, memory } = count;
+        end_sole(count, memory, items).show();
         drop(alloc);
     }
 }

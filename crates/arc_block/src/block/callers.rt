@@ -213,6 +213,7 @@ impl<
     /// # History
     ///
     /// Taken: Alone with yes, then Down. Refused: Alone with no.
+    #[tactic(auto, using(crate::proofs::Kept::block_alike, crate::proofs::Kept::laid_room, crate::proofs::Kept::kept_ended))]
     pub fn try_into_content_as(self, pass: &mut Pass<H>) -> Result<BlockContent<S, B, M, A>, Self>
         requires pass { IsPassFor self.owner pass.old }
         requires sort { ¬ (self.facts.sort ≡ native) }
@@ -222,9 +223,17 @@ impl<
         ensures others { IfErr result (λ back. (back ≡ self)
             × Asks self.owner pass.old pass.new false) }
     {
-        match self.try_into_callers_as(pass) {
-            Ok(sole) => Ok(sole.into_content_as(pass)),
-            Err(block) => Err(block),
+        let Block { base, reader, head } = self;
+        match reader.try_into_sole_as(pass) {
+            Ok((sole, ended, _)) => {
+                let (count, room, kept) = sole.take_up();
+                let Kept::Callers(kept) = kept else {
+                    unreachable!()
+                };
+                count.end_as(pass);
+                Ok(kept.regain(ended, room, head).into_one())
+            }
+            Err(reader) => Err(Block { base, reader, head }),
         }
     }
 

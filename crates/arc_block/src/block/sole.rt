@@ -6,7 +6,7 @@
 ghost use Rattle.std.specs.Prelude.{◌≡◌, ◌≤◌, true, false, [], ◌∷◌, length, is_ok, IfOk, IfErr};
 ghost use Rattle.arc_owners.specs.history.Histories.{Counted};
 ghost use Rattle.arc_owners.specs.count.Calls.{IsFirst, IsPassFor, IsFreshPass, Asks};
-ghost use Rattle.arc_owners.specs.count.Calls.{IsPassOfNone, EndsByItself, Leaves};
+ghost use Rattle.arc_owners.specs.count.Calls.{IsPassOfNone, EndsByItself};
 ghost use Rattle.arc_owners.specs.memory.SoleCounts.{count_owner};
 ghost use Rattle.arc_memory.specs.Sources.{IsPiece, IsPiece-set};
 ghost use Rattle.arc_block.specs.Block.{native, vector, held_as, IsLimited};
@@ -92,59 +92,29 @@ impl<C: Drop, V: Drop, A: Allocator, const MAX: u64, H: Mark> SoleCallers<C, V, 
     {
         self.memory.lone_mut()
     }
+}
 
-    /// Ends this owner, the last one, and gives the block's memory back, with what lies there. No
-    /// step is made.
-    ///
-    /// # History
-    ///
-    /// Down.
-    pub fn end_as(self, pass: &mut Pass<H>)
-        requires pass { IsPassFor (count_owner self.count) pass.old }
-        ensures entry { Leaves (count_owner self.count) pass.old pass.new true }
-    {
-        let SoleCallers { count, memory } = self;
-        count.end_as(pass);
+/// What a drop does of the only owner of a block, who has its memory. Under `Open` the owner ends
+/// with a new pass, which is the answer, and the memory is given back, with what lies there. Under
+/// `Whole` both are forgotten: what lies there stays, and the answer is a pass of no block.
+///
+/// # History
+///
+/// Under `Open`: Down. Under `Whole`: nothing.
+pub fn end_memory<T: Drop, V: Drop, A: Allocator, const MAX: u64, H: Mark>(
+    count: SoleCount<MAX, H>,
+    memory: WriterMemory<T, V, A>,
+) -> Pass<H>
+    ensures forgotten { H.whole ≡ true → IsPassOfNone result }
+    ensures ended { H.whole ≡ false → EndsByItself (count_owner count) result true }
+{
+    let (ended, pass) = count.let_go();
+    if ended {
         drop(memory);
+    } else {
+        mem::forget(memory);
     }
-
-    /// What the block keeps. This owner, the last one, ends without a step, and the block's memory
-    /// is given back.
-    ///
-    /// # History
-    ///
-    /// Down.
-    pub fn into_content_as(self, pass: &mut Pass<H>) -> C
-        requires alone { length self.memory.places.vec.items ≡ 1 }
-        requires pass { IsPassFor (count_owner self.count) pass.old }
-        ensures entry { Leaves (count_owner self.count) pass.old pass.new true }
-        ensures content { self.memory.places.vec.items ≡ result ∷ [] }
-    {
-        let SoleCallers { count, memory } = self;
-        count.end_as(pass);
-        memory.into_one()
-    }
-
-    /// What a drop does. Under `Open` the owner ends with a new pass, which is the answer, and the
-    /// block's memory is given back, with what lies there. Under `Whole` both are forgotten, and
-    /// the answer is a pass of no block.
-    ///
-    /// # History
-    ///
-    /// Under `Open`: Down. Under `Whole`: nothing.
-    pub fn let_go(self) -> Pass<H>
-        ensures forgotten { H.whole ≡ true → IsPassOfNone result }
-        ensures ended { H.whole ≡ false → EndsByItself (count_owner self.count) result true }
-    {
-        let SoleCallers { count, memory } = self;
-        let (ended, pass) = count.let_go();
-        if ended {
-            drop(memory);
-        } else {
-            mem::forget(memory);
-        }
-        pass
-    }
+    pass
 }
 
 /// The only owner of a new block that is a vector, with a pass of it. The owner has the vector.
@@ -174,21 +144,22 @@ pub fn new_count<C: Drop, V: Drop, A: Allocator, const MAX: u64, H: Mark>(
     }
 }
 
-/// What a drop does. Under `Open` the owner ends with a new pass, which is the answer, its items
-/// are dropped, and the block's memory is given back. Under `Whole` owner and items are forgotten:
-/// the items stay where they are, and the answer is a pass of no block.
+/// What a drop does of the only owner of a block that is a vector, who has the vector. Under `Open`
+/// the owner ends with a new pass, which is the answer, the items are dropped, and the block's
+/// memory is given back. Under `Whole` owner and items are forgotten: the items stay where they
+/// are, and the answer is a pass of no block.
 ///
 /// # History
 ///
 /// Under `Open`: Down. Under `Whole`: nothing.
 pub fn end_sole<T: Drop, C: Drop, V: Drop, A: Allocator, const MAX: u64, H: Mark>(
-    sole: SoleCallers<C, V, A, MAX, H>,
+    count: SoleCount<MAX, H>,
+    memory: WriterMemory<C, V, A>,
     items: Vec<T, A>,
 ) -> Pass<H>
     ensures forgotten { H.whole ≡ true → IsPassOfNone result }
-    ensures ended { H.whole ≡ false → EndsByItself (count_owner sole.count) result true }
+    ensures ended { H.whole ≡ false → EndsByItself (count_owner count) result true }
 {
-    let SoleCallers { count, memory } = sole;
     let (ended, pass) = count.let_go();
     if ended {
         drop(items);

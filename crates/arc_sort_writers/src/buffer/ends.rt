@@ -17,7 +17,7 @@ ghost use Rattle.arc_parts.specs.SoleParts.{block_part};
 ghost use Rattle.arc_sort_writers.specs.SortParts.{IsBufferWithin};
 
 use super::SoleBuffer;
-use arc_block::block::{Block, Content, MAX_OWNERS, SoleOf};
+use arc_block::block::{Block, Content, MAX_OWNERS, SoleCallers, SoleOf, end_memory};
 use arc_block::layout::Layout;
 use arc_buffer::buffer::{BorrowMetadata, Buffer, BufferMut};
 use arc_buffer::kinds::Slice;
@@ -168,7 +168,9 @@ impl<S: Slice, B: BufferMut<S::Item> + Drop, M: Drop, A: Allocator + Copy, H: Ma
             return Err(self);
         }
         let (count, _, _, _) = self.into_count();
-        let held = count.into_content_as(pass).into_buffer();
+        let SoleCallers { count, memory } = count;
+        count.end_as(pass);
+        let held = memory.into_one().into_buffer();
         drop(held.metadata);
         Ok(held.buffer)
     }
@@ -216,7 +218,9 @@ impl<S: Slice, B: BufferMut<S::Item> + Drop, M: Drop, A: Allocator + Copy, H: Ma
             Leaves o pass.old pass.new true) }
     {
         let (count, _, _, _) = self.into_count();
-        drop(count.into_content_as(pass));
+        let SoleCallers { count, memory } = count;
+        count.end_as(pass);
+        drop(memory);
     }
 
     /// What a drop does. Under `Open` the owner ends with a new pass, which is the answer, and the
@@ -231,7 +235,8 @@ impl<S: Slice, B: BufferMut<S::Item> + Drop, M: Drop, A: Allocator + Copy, H: Ma
         ensures ended { H.whole ≡ false → EndsAt self.place result }
     {
         let (count, _, _, _) = self.into_count();
-        count.let_go()
+        let SoleCallers { count, memory } = count;
+        end_memory(count, memory)
     }
 
     /// Shows a pass the block's whole history up to here, in which no other owner lives. It adds no

@@ -2,7 +2,7 @@
 ghost use Rattle.std.specs.Prelude.{◌≡◌, ◌↔◌, true, false, IfOk, IfErr, IsTrue};
 ghost use Rattle.std.specs.Prelude.{IfSome, IfNone, Some, None};
 ghost use Rattle.arc_owners.specs.count.Calls.{Leaves, Learns, IsNewPass, IsPassOfNone};
-ghost use Rattle.arc_owners.specs.count.Calls.{SeesAlone, EndsByItself};
+ghost use Rattle.arc_owners.specs.count.Calls.{SeesAlone};
 ghost use Rattle.arc_owners.specs.memory.SoleCounts.{count_owner};
 ghost use Rattle.arc_block.specs.LayoutFacts.{layout_facts};
 ghost use Rattle.arc_block.specs.Metadata.{IsMetadataAt, IsOnCallers};
@@ -17,39 +17,19 @@ ghost use Rattle.arc_parts.specs.Window.{IsVecPart, IsBoxWhole};
 ghost use Rattle.arc_block.specs.Moves.{IsRefused, layout_move};
 
 use super::{SoleNative, whole_of};
-use arc_block::block::{Block, BlockKept, MAX_OWNERS, NativeCount};
+use arc_block::block::{Block, BlockKept, MAX_OWNERS, NativeCount, end_memory};
 use arc_block::layout::Layout;
 use arc_buffer::buffer::{BorrowMetadata, Buffer};
 use arc_buffer::kinds::Slice;
-use arc_memory::{CutMemory, WriterMemory};
+use arc_memory::CutMemory;
 use arc_owners::mark::{Mark, Stepping};
 use arc_owners::owners::Pass;
 use arc_parts::parts::Parts;
 use std::alloc::Allocator;
 use std::marker::PhantomData;
-use std::mem;
 
 /// The fields of a sole writer's parts on a native block but the marker, in their order.
 type NativeFields<T, V, A, H> = (Option<NativeCount<MAX_OWNERS, H>>, CutMemory<T, V, A>, A);
-
-/// What a drop does. Under `Open` the owner ends with a new pass, which is the answer, and its
-/// items are dropped. Under `Whole` owner and items are forgotten: the items stay where they are,
-/// and the answer is a pass of no block.
-pub(super) fn end_native<T: Drop, V: Drop, A: Allocator + Copy, const MAX: u64, H: Mark>(
-    count: NativeCount<MAX, H>,
-    memory: WriterMemory<T, V, A>,
-) -> Pass<H>
-    ensures forgotten { H.whole ≡ true → IsPassOfNone result }
-    ensures ended { H.whole ≡ false → EndsByItself (count_owner count) result true }
-{
-    let (ended, pass) = count.let_go();
-    if ended {
-        drop(memory);
-    } else {
-        mem::forget(memory);
-    }
-    pass
-}
 
 impl<S: Slice, B: Buffer<S::Item> + Drop, M: Drop, A: Allocator + Copy, H: Mark> SoleNative<
     S,
@@ -183,7 +163,7 @@ impl<S: Slice, B: Buffer<S::Item> + Drop, M: Drop, A: Allocator + Copy, H: Mark>
         let (count, memory, _) = self.into_fields();
         let memory = whole_of::<S, BlockKept<S, B, M, A>, A>(memory);
         match count {
-            Some(count) => end_native(count, memory),
+            Some(count) => end_memory(count, memory),
             None => {
                 drop(memory);
                 Pass::none()

@@ -15,7 +15,7 @@ ghost use Rattle.arc_parts.specs.SoleParts.{vector_part};
 ghost use Rattle.arc_sort_writers.specs.SortParts.{IsVectorWithin};
 
 use super::{SoleVector, VectorFields};
-use arc_block::block::{Block, end_sole};
+use arc_block::block::{Block, SoleCallers, end_sole};
 use arc_block::layout::Layout;
 use arc_buffer::buffer::{BorrowMetadata, Buffer};
 use arc_buffer::kinds::Slice;
@@ -159,7 +159,9 @@ impl<S: Slice, B: Buffer<S::Item> + Drop, M: Drop, A: Allocator + Copy, H: Mark>
             Leaves o pass.old pass.new true) }
     {
         let (count, items, _, _, _) = self.into_memory();
+        let SoleCallers { count, memory } = count;
         count.end_as(pass);
+        drop(memory);
         drop(items);
     }
 
@@ -175,7 +177,8 @@ impl<S: Slice, B: Buffer<S::Item> + Drop, M: Drop, A: Allocator + Copy, H: Mark>
         ensures ended { H.whole ≡ false → EndsAt self.place result }
     {
         let (count, items, _, _, _) = self.into_memory();
-        end_sole(count, items)
+        let SoleCallers { count, memory } = count;
+        end_sole(count, memory, items)
     }
 
     /// Shows a pass the block's whole history up to here, in which no other owner lives. It adds no

@@ -93,7 +93,9 @@ impl<S: Slice, B: Buffer<S::Item> + Drop, M: Drop, A: Allocator + Copy, H: Mark>
         ensures entry { at_owner self.place ⊥ (λ o. Leaves o pass.old pass.new true) }
     {
         let (count, items, start, end, _) = self.into_memory();
+        let SoleCallers { count, memory } = count;
         count.end_as(pass);
+        drop(memory);
         cut_to(items, start, end)
     }
 }

@@ -27,7 +27,10 @@ invariant_of-result g c =
             ∙ sym (ap (λ m. m.lifetime) c.freeze-range.ensures.0) ∙ sym lent.lent)
             c.args.memory.places.vec.items
             (c.of.ensures.2 ∙ c.again.ensures.2 ∙ all) c.requires.alone
-            (lent.items ∙ ap (shown_alone show) all);
+            (lent.items ∙ ap (shown_alone show) all)
+            (ap (λ k. k.inheritance.memory.whole) kept
+            ∙ ap (λ m. m.whole) (sym c.lend-part.ensures.memory.0) ∙ c.lend-part.ensures.whole.1
+            ∙ c.requires.place.whole);
         laid = (
           lent.place ∙ c.lay-sole.ensures.place ∙ c.lend-part.ensures.room.0
               ∙ sym (ap kept_place is ∙ ap (λ k. k.piece.right.place) kept),
@@ -52,7 +55,10 @@ returns g c =
     ∙ ap (λ m. m.lifetime) (sym c.lend-part.ensures.memory.0)
     ∙ sym (ap (λ m. m.lifetime) c.freeze-range.ensures.0) ∙ sym lent.lent)
     c.args.memory.places.vec.items there c.requires.alone
-    (lent.items ∙ ap (shown_alone show) all) in
+    (lent.items ∙ ap (shown_alone show) all)
+    (ap (λ k. k.inheritance.memory.whole) kept
+    ∙ ap (λ m. m.whole) (sym c.lend-part.ensures.memory.0) ∙ c.lend-part.ensures.whole.1
+    ∙ c.requires.place.whole) in
     sym (callers_seen g.B.Buffer.list g.B.Buffer.places g.S.Slice.DROPS reader.seen
     (value_of reader.owner) c.of.result is keeps (owner_in reader.owner)
     (count_owner c.args.count) (sym owner) c.args.memory.places.vec.items (sym there))

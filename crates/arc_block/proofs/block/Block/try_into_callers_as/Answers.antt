@@ -5,7 +5,7 @@ use Rattle.arc_block.specs.Block.{BlockView, IsLimited, native}
 use Rattle.arc_block.specs.Given.{Given}
 use Rattle.arc_block.specs.Contents.{content_items}
 use Rattle.arc_block.proofs.Kept.{is_callers, callers_alone, callers_ended, callers_room}
-use Rattle.arc_block.proofs.Kept.{callers_seen}
+use Rattle.arc_block.proofs.Kept.{callers_seen, callers_one}
 use Rattle.arc_block.proofs.block.Block.try_into_callers_as.Goals as goal
 
 pub unreachable-requires : goal.unreachable-requires
@@ -56,3 +56,14 @@ returns-in-Callers-clause-alone g c =
     (value_of reader.owner) c.in-Callers.kept
     (sym (c.take_up-count.ensures.same.1 ∙ c.in-Ok.ensures.sole.1) ∙ c.in-Callers.is)
     c.self.invariant.2.kept _ c.regain-memory.ensures.items
+
+pub invariant_of-result : goal.invariant_of-result
+invariant_of-result g c =
+    let reader = c.self.inside.reader in record {
+      whole = callers_one (content_items g.B.Buffer.list) g.S.Slice.DROPS reader.seen
+          (value_of reader.owner) c.in-Callers.kept
+          (sym (c.take_up-count.ensures.same.1 ∙ c.in-Ok.ensures.sole.1) ∙ c.in-Callers.is)
+          c.self.invariant.2.kept _ c.regain-memory.ensures.memory.0;
+      start = c.regain-memory.ensures.memory.1;
+      piece = c.regain-memory.ensures.block;
+    }

@@ -14,7 +14,7 @@ returns-clause-taken g c =
     let fields = c.into_count-count.result in let was = c.into_count-count.ensures in
     let o = count_owner fields.0.count in
     let contents = fields.0.memory.places.vec.items in
-    let content = c.into_content_as.result in let lies = c.into_content_as.ensures.content in
+    let content = c.into_one.result in let lies = c.into_one.ensures in
     let all = taken_whole list places drops one_pass o content c.into_buffer-held.result
     c.into_buffer-held.ensures fields.1 fields.2 c.args.self
     (alone_seen list places drops one_pass o contents content lies fields.1 fields.2 c.args.self
@@ -30,7 +30,7 @@ returns-clause-itself g c =
     let fields = c.into_count-count.result in let was = c.into_count-count.ensures in
     let o = count_owner fields.0.count in
     let contents = fields.0.memory.places.vec.items in
-    let content = c.into_content_as.result in let lies = c.into_content_as.ensures.content in
+    let content = c.into_one.result in let lies = c.into_one.ensures in
     given_there list places drops one_pass o content c.into_buffer-held.result
     c.into_buffer-held.ensures fields.1 fields.2 c.args.self
     (alone_seen list places drops one_pass o contents content lies fields.1 fields.2 c.args.self
