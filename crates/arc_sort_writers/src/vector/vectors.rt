@@ -7,6 +7,7 @@ ghost use Rattle.arc_parts.specs.Steps.{IsPassAt};
 ghost use Rattle.arc_parts.specs.Window.{IsVecPart, IsBoxWhole};
 
 use super::SoleVector;
+use arc_block::block::SoleCallers;
 use arc_buffer::buffer::Buffer;
 use arc_buffer::kinds::Slice;
 use arc_owners::mark::Mark;
