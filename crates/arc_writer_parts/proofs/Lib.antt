@@ -1,3 +1,4 @@
+pub mod SoleSorts
 pub mod Splits
 pub mod Bare
 pub mod Rooms
