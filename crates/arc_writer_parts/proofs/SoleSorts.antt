@@ -1,6 +1,6 @@
 -- What a reader's parts are to their only owner, by how he was told to take them.
-use Rattle.std.proofs.Common.{◌≡◌, ℕ, ◌≤◌, ◌==◌, ◌&&◌, if◌then◌else◌, Bool, true, false, length, Option}
-use Rattle.std.proofs.Common.{Some, None, refl, sym, ◌∙◌, subst, arith}
+use Rattle.std.proofs.Common.{◌≡◌, ℕ, ◌≤◌, ◌==◌, ◌&&◌, if◌then◌else◌, Bool, true, false, length}
+use Rattle.std.proofs.Common.{Option, Some, None, refl, sym, ◌∙◌, subst, arith}
 use Rattle.std.proofs.lemmas.Bool.{eqb-true, eq-eqb, false≢true}
 use Rattle.arc_owners.specs.count.Calls.{Owner, Asks}
 use Rattle.arc_owners.specs.declared.count.tokens.Pass.{Pass}
