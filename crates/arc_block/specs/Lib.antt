@@ -13,4 +13,3 @@ pub mod Unique
 pub mod Moves
 pub mod LendsBuffers
 pub mod Metadata
-pub mod SoleCallers

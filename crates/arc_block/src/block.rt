@@ -35,7 +35,7 @@ use arc_owners::mark::{Mark, Open, Stepping};
 use arc_owners::owners::{Header, HeaderRoom, Pass};
 pub use content::{CallersBuffer, Content};
 pub use native::NativeCount;
-pub use sole::{SoleCallers, SoleOf, end_memory, end_sole, new_count};
+pub use sole::{CallersCount, CallersMemory, end_memory, end_sole, new_callers};
 use std::alloc::Allocator;
 use std::marker::Model;
 use std_alloc::vec::Lodged;

@@ -303,6 +303,14 @@ impl<T: Drop, V: Drop, A: Allocator> WriterMemory<T, V, A> {
         self.places.as_mut_part(start, end)
     }
 
+    /// The item that lies alone.
+    pub fn lone(&self) -> &T
+        requires { length self.now.places.vec.items ≡ 1 }
+        ensures { self.now.places.vec.items ≡ result.now ∷ [] }
+    {
+        &self.as_slice()[0]
+    }
+
     /// The item that lies alone, to be changed in its place: it is what is written there.
     #[inline(always)]
     pub fn lone_mut(&mut self) -> &mut T

@@ -14,6 +14,13 @@ use Rattle.arc_parts.specs.declared.storage.Storage.TheVariants.{Free, Block, Ra
 use Rattle.arc_parts.specs.Window.{PartsView, StandsBy, parts_of, free_part, window_seen, IsWithin}
 use Rattle.arc_parts.specs.Window.{FitsStorage}
 
+free-fits : {T B : Type 0} (M : Type 0) (list : B → List T) (places : B → ℕ) (there : Bool)
+    (items : List T) (from to : ℕ)
+    → (λ (p : PartsView T (Given B M)). FitsGivenAt list places p.place p.items)
+    (parts_of (free_part there items from to))
+free-fits M list places false items from to = tt
+free-fits M list places true items from to = tt
+
 module _ {T B M : Type 0} (list : B → List T) (places : B → ℕ) where
   whole-fits : (held : Given B M) (info : BlockInfo (Given B M)) (xs : List T) (from to : ℕ)
       → from ≤ to → to ≤ length xs → FitsGiven list places (Some held) info xs
@@ -43,17 +50,11 @@ module _ {T B M : Type 0} (list : B → List T) (places : B → ℕ) where
       (subst (λ b. P from b) (sym ends)
       (whole-fits held info xs from to ordered (omega (arith, inside, zero)) fits))
 
-  free-fits : (there : Bool) (items : List T) (from to : ℕ)
-      → (λ (p : PartsView T (Given B M)). FitsGivenAt list places p.place p.items)
-      (parts_of (free_part there items from to))
-  free-fits false items from to = tt
-  free-fits true items from to = tt
-
   stands-fits : (inner : StandsBy T (Given B M)) (from to : ℕ) → IsWithin inner from to
       → FitsStorage list places inner
       → (λ (p : PartsView T (Given B M)). FitsGivenAt list places p.place p.items)
       (parts_of (window_seen inner from to))
-  stands-fits (Free free) from to within fits = free-fits free.there free.items from to
+  stands-fits (Free free) from to within fits = free-fits M list places free.there free.items from to
   stands-fits (Block b) from to within fits =
       part-fits b.facts.given b.facts b.items b.first from to within.0.ordered within.0.to fits.0
       fits.1

@@ -200,15 +200,16 @@ free-within true items from to start end within ordered inside =
     (omega (arith, ordered), omega (arith, inside, within.1))
 
 -- of what no owner has another part is had without an entry
-free-shared : {T M H : Type 0} (there : Bool) (items : List T) (start end : ℕ) (old : Pass H)
+free-shared : {T H : Type 0} (M : Type 0) (there : Bool) (items : List T) (start end : ℕ)
+    (old : Pass H)
     → Shares (free_part {M = M} there items start end).place old old
     (free_part {M = M} there items start end).place
-free-shared false items start end old = (refl, refl)
-free-shared true items start end old = (refl, refl)
+free-shared M false items start end old = (refl, refl)
+free-shared M true items start end old = (refl, refl)
 
 -- parts that stand on no block
 module _ {T M : Type 0} (inner : StandsBy T M) (from to : ℕ) (p : PartsView T M)
-    (free : FreeItems (List T)) (view : parts_of (window_seen inner from to) ≡ p)
+    (free : FreeItems T) (view : parts_of (window_seen inner from to) ≡ p)
     (is : inner ≡ Free free) (within : IsWithin inner from to) (start end : ℕ)
     (ordered : start ≤ end) (inside : end ≤ length p.items) where
   upto : from + end ≤ to
@@ -220,7 +221,7 @@ module _ {T M : Type 0} (inner : StandsBy T M) (from to : ℕ) (p : PartsView T 
   free-seen = ap (λ x. parts_of (window_seen x (from + start) (from + end))) (sym is)
       ∙ kept_seen inner from to start end p view within ordered upto
 
-  module _ (again : FreeItems (List T)) (same : again ≡ free) where
+  module _ (again : FreeItems T) (same : again ≡ free) where
     pub free_items : (window_seen {M = M} (Free again) (from + start) (from + end)).items
         ≡ sub p.items start end
     free_items =
@@ -250,7 +251,7 @@ module _ {T M : Type 0} (inner : StandsBy T M) (from to : ℕ) (p : PartsView T 
         ∙ ap (λ (v : PartsView T M). v.place) free-seen in
         subst (λ q. Shares q old old
         (window_seen {M = M} (Free again) (from + start) (from + end)).place) (there ∙ sym stays)
-        (free-shared again.there again.items (from + start) (from + end) old)
+        (free-shared M again.there again.items (from + start) (from + end) old)
 
 both_true : (b : Bool) (n : ℕ) → (b && (n == 0)) ≡ true → n ≡ 0
 both_true true n both = eqb-true n 0 both

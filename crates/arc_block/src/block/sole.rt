@@ -8,7 +8,7 @@ ghost use Rattle.arc_owners.specs.history.Histories.{Counted};
 ghost use Rattle.arc_owners.specs.count.Calls.{IsFirst, IsPassFor, IsFreshPass, Asks};
 ghost use Rattle.arc_owners.specs.count.Calls.{IsPassOfNone, EndsByItself};
 ghost use Rattle.arc_owners.specs.memory.SoleCounts.{count_owner};
-ghost use Rattle.arc_memory.specs.Sources.{IsPiece, IsPiece-set};
+ghost use Rattle.arc_memory.specs.WriterMemories.{IsOnePlace};
 ghost use Rattle.arc_block.specs.Block.{native, vector, held_as, IsLimited};
 ghost use Rattle.arc_block.specs.Contents.{held_alone};
 
@@ -22,75 +22,42 @@ use arc_owners::owners::{Pass, SoleCount};
 use std::alloc::Allocator;
 use std::mem;
 
-/// The count of a block of a caller's making by value, with its only owner, and the block's memory.
-/// In the memory's one place lies what the block keeps, of type C, or nothing, while the owner has
-/// that elsewhere. V is what a counted box holds that is laid in front of it.
-///
-/// One that is dropped gives the memory back, with what lies there, and forgets the owner.
-#[derive(Drop)]
-pub struct SoleCallers<C: Drop, V: Drop, A: Allocator, const MAX: u64, H: Mark> {
-    pub count: SoleCount<MAX, H>,
-    pub memory: WriterMemory<C, V, A>,
-    ghost whole: { memory.places.under.whole ≡ 1 },
-    ghost start: { memory.places.under.start ≡ 0 },
-    ghost piece: { IsPiece memory.source } by { IsPiece-set memory.source },
-}
+/// The count of a block of a caller's making by value, with its only owner.
+pub type CallersCount<const MAX: u64, H> = SoleCount<MAX, H>;
 
-/// The only owner of a block of items of the kind `S` that is of a caller's making.
-pub type SoleOf<S, B, M, A, const MAX: u64, H> = SoleCallers<
+/// The memory of a block of a caller's making. In its one place lies what the block keeps, or
+/// nothing, while the only owner has that elsewhere.
+pub type CallersMemory<S, B, M, A> = WriterMemory<
     BlockContent<S, B, M, A>,
     BlockKept<S, B, M, A>,
     A,
-    MAX,
-    H,
 >;
 
-impl<C: Drop, V: Drop, A: Allocator, const MAX: u64, H: Mark> SoleCallers<C, V, A, MAX, H> {
-    ghost use Rattle.std.specs.Borrow.{sem};
-    ghost use Rattle.arc_block.specs.SoleCallers.{LendsContent};
-
-    /// The only owner of a new block that keeps this content, with a pass of the block. `MAX` is at
-    /// least 2.
-    ///
-    /// # Errors
-    ///
-    /// The content comes back where memory for the block is refused.
-    ///
-    /// # Allocates
-    ///
-    /// Once.
-    pub fn of_content(alloc: A, content: C) -> Result<(Self, Pass<H>), C>
-        requires { 2 ≤ MAX }
-        ensures made { IfOk result (λ r. IsFirst MAX H.whole Counted (count_owner r.0.count)
-            × (r.0.memory.places.vec.items ≡ content ∷ [])) }
-        ensures pass { IfOk result (λ r. IsFreshPass (count_owner r.0.count) r.1) }
-        ensures refused { IfErr result (λ back. back ≡ content) }
-    {
-        match WriterMemory::of_one(alloc, content) {
-            Ok(memory) => {
-                let (count, pass) = SoleCount::<MAX, H>::new();
-                Ok((SoleCallers { count, memory }, pass))
-            }
-            Err(content) => Err(content),
+/// The only owner of a new block of a caller's making, with the block's memory, in which nothing
+/// lies yet, and a pass of the block. `MAX` is at least 2.
+///
+/// # Errors
+///
+/// `AllocError` where memory for the block is refused.
+///
+/// # Allocates
+///
+/// Once.
+pub fn new_callers<C: Drop, V: Drop, A: Allocator, const MAX: u64, H: Mark>(
+    alloc: A,
+) -> Result<(CallersCount<MAX, H>, WriterMemory<C, V, A>, Pass<H>), AllocError>
+    requires { 2 ≤ MAX }
+    ensures made { IfOk result (λ r. IsFirst MAX H.whole Counted (count_owner r.0)) }
+    ensures place { IfOk result (λ r. IsOnePlace r.1) }
+    ensures empty { IfOk result (λ r. r.1.places.vec.items ≡ []) }
+    ensures pass { IfOk result (λ r. IsFreshPass (count_owner r.0) r.2) }
+{
+    match WriterMemory::new(alloc, 1) {
+        Ok(memory) => {
+            let (count, pass) = SoleCount::<MAX, H>::new();
+            Ok((count, memory, pass))
         }
-    }
-
-    /// What the block keeps, which lies in its memory.
-    pub fn content(&self) -> &C
-        requires { length self.now.memory.places.vec.items ≡ 1 }
-        ensures { self.now.memory.places.vec.items ≡ result.now ∷ [] }
-    {
-        &self.memory.as_slice()[0]
-    }
-
-    /// The same, to be changed in its place.
-    pub fn content_mut(&mut self) -> &mut C
-        requires { length self.old.memory.places.vec.items ≡ 1 }
-        ensures* writes_back { sem 𝓛 (LendsContent C.row V.row A.row MAX.row H.row H.Mark
-            A.Allocator self.entry result) }
-        ensures value { self.old.memory.places.vec.items ≡ result.now ∷ [] }
-    {
-        self.memory.lone_mut()
+        Err(AllocError) => Err(AllocError),
     }
 }
 
@@ -102,7 +69,7 @@ impl<C: Drop, V: Drop, A: Allocator, const MAX: u64, H: Mark> SoleCallers<C, V, 
 ///
 /// Under `Open`: Down. Under `Whole`: nothing.
 pub fn end_memory<T: Drop, V: Drop, A: Allocator, const MAX: u64, H: Mark>(
-    count: SoleCount<MAX, H>,
+    count: CallersCount<MAX, H>,
     memory: WriterMemory<T, V, A>,
 ) -> Pass<H>
     ensures forgotten { H.whole ≡ true → IsPassOfNone result }
@@ -117,33 +84,6 @@ pub fn end_memory<T: Drop, V: Drop, A: Allocator, const MAX: u64, H: Mark>(
     pass
 }
 
-/// The only owner of a new block that is a vector, with a pass of it. The owner has the vector.
-/// `MAX` is at least 2.
-///
-/// # Errors
-///
-/// `AllocError` where memory for the block is refused.
-///
-/// # Allocates
-///
-/// Once.
-pub fn new_count<C: Drop, V: Drop, A: Allocator, const MAX: u64, H: Mark>(
-    alloc: A,
-) -> Result<(SoleCallers<C, V, A, MAX, H>, Pass<H>), AllocError>
-    requires { 2 ≤ MAX }
-    ensures made { IfOk result (λ r. IsFirst MAX H.whole Counted (count_owner r.0.count)) }
-    ensures empty { IfOk result (λ r. r.0.memory.places.vec.items ≡ []) }
-    ensures pass { IfOk result (λ r. IsFreshPass (count_owner r.0.count) r.1) }
-{
-    match WriterMemory::new(alloc, 1) {
-        Ok(memory) => {
-            let (count, pass) = SoleCount::<MAX, H>::new();
-            Ok((SoleCallers { count, memory }, pass))
-        }
-        Err(AllocError) => Err(AllocError),
-    }
-}
-
 /// What a drop does of the only owner of a block that is a vector, who has the vector. Under `Open`
 /// the owner ends with a new pass, which is the answer, the items are dropped, and the block's
 /// memory is given back. Under `Whole` owner and items are forgotten: the items stay where they
@@ -153,7 +93,7 @@ pub fn new_count<C: Drop, V: Drop, A: Allocator, const MAX: u64, H: Mark>(
 ///
 /// Under `Open`: Down. Under `Whole`: nothing.
 pub fn end_sole<T: Drop, C: Drop, V: Drop, A: Allocator, const MAX: u64, H: Mark>(
-    count: SoleCount<MAX, H>,
+    count: CallersCount<MAX, H>,
     memory: WriterMemory<C, V, A>,
     items: Vec<T, A>,
 ) -> Pass<H>
@@ -190,14 +130,17 @@ impl<
     ///
     /// Alone with the answer.
     #[tactic(auto, using(crate::proofs::Kept::block_alike, crate::proofs::Kept::laid_room, crate::proofs::Kept::kept_ended))]
-    pub fn try_into_callers_as(self, pass: &mut Pass<H>) -> Result<SoleOf<S, B, M, A, MAX, H>, Self>
+    pub fn try_into_callers_as(
+        self,
+        pass: &mut Pass<H>,
+    ) -> Result<(CallersCount<MAX, H>, CallersMemory<S, B, M, A>), Self>
         requires pass { IsPassFor self.owner pass.old }
         requires sort { ¬ (self.facts.sort ≡ native) }
         ensures entry { Asks self.owner pass.old pass.new (is_ok result) }
-        ensures sole { IfOk result (λ sole. (held_alone B.list B.places S.DROPS
-            (count_owner sole.count) sole.memory.places.vec.items ≡ self)
-            × IsLimited MAX H.whole (count_owner sole.count)) }
-        ensures alone { IfOk result (λ sole. length sole.memory.places.vec.items ≡ 1) }
+        ensures sole { IfOk result (λ r. (held_alone B.list B.places S.DROPS (count_owner r.0)
+            r.1.places.vec.items ≡ self) × IsLimited MAX H.whole (count_owner r.0)) }
+        ensures alone { IfOk result (λ r. length r.1.places.vec.items ≡ 1) }
+        ensures place { IfOk result (λ r. IsOnePlace r.1) }
         ensures others { IfErr result (λ back. back ≡ self) }
     {
         let Block { base, reader, head } = self;
@@ -208,7 +151,7 @@ impl<
                     unreachable!()
                 };
                 let memory = kept.regain(ended, room, head);
-                Ok(SoleCallers { count, memory })
+                Ok((count, memory))
             }
             Err(reader) => Err(Block { base, reader, head }),
         }
@@ -216,12 +159,17 @@ impl<
 
     /// The same owner of the same block, a vector, which may be shared. It adds no entry and takes
     /// no memory.
-    pub fn of_sole(sole: SoleOf<S, B, M, A, MAX, H>, items: Vec<S::Item, A>) -> Self
-        requires limited { IsLimited MAX H.whole (count_owner sole.count) }
-        requires empty { sole.memory.places.vec.items ≡ [] }
-        ensures { result ≡ held_as vector S.DROPS (count_owner sole.count) items }
+    pub fn of_sole(
+        count: CallersCount<MAX, H>,
+        memory: CallersMemory<S, B, M, A>,
+        items: Vec<S::Item, A>,
+    ) -> Self
+        requires limited { IsLimited MAX H.whole (count_owner count) }
+        requires place { IsOnePlace memory }
+        requires empty { memory.places.vec.items ≡ [] }
+        ensures { result ≡ held_as vector S.DROPS (count_owner count) items }
     {
-        let SoleCallers { count, mut memory } = sole;
+        let mut memory = memory;
         let (_, native) = Native::of(items);
         memory.push_reserved(Content::Vector(native));
         Block::of_sole_memory(count, memory)
@@ -240,33 +188,22 @@ impl<
     pub fn try_into_sole_as(
         self,
         pass: &mut Pass<H>,
-    ) -> Result<(SoleOf<S, B, M, A, MAX, H>, Vec<S::Item, A>), Self>
+    ) -> Result<(CallersCount<MAX, H>, CallersMemory<S, B, M, A>, Vec<S::Item, A>), Self>
         requires pass { IsPassFor self.owner pass.old }
         requires sort { self.facts.sort ≡ vector }
         ensures entry { Asks self.owner pass.old pass.new (is_ok result) }
-        ensures sole { IfOk result (λ r. (held_as vector S.DROPS (count_owner r.0.count) r.1
-            ≡ self) × IsLimited MAX H.whole (count_owner r.0.count)) }
-        ensures empty { IfOk result (λ r. r.0.memory.places.vec.items ≡ []) }
+        ensures sole { IfOk result (λ r. (held_as vector S.DROPS (count_owner r.0) r.2 ≡ self)
+            × IsLimited MAX H.whole (count_owner r.0)) }
+        ensures empty { IfOk result (λ r. r.1.places.vec.items ≡ []) }
+        ensures place { IfOk result (λ r. IsOnePlace r.1) }
         ensures others { IfErr result (λ back. back ≡ self) }
     {
         match self.try_into_callers_as(pass) {
-            Ok(SoleCallers { count, mut memory }) => {
+            Ok((count, mut memory)) => {
                 let content = memory.take_last();
-                Ok((SoleCallers { count, memory }, content.into_vec()))
+                Ok((count, memory, content.into_vec()))
             }
             Err(block) => Err(block),
         }
-    }
-
-    /// The same owner of the same block, which may be shared. What the block keeps lies in its
-    /// memory. It adds no entry and takes no memory.
-    pub fn of_callers(sole: SoleOf<S, B, M, A, MAX, H>) -> Self
-        requires limited { IsLimited MAX H.whole (count_owner sole.count) }
-        requires alone { length sole.memory.places.vec.items ≡ 1 }
-        ensures { result ≡ held_alone B.list B.places S.DROPS (count_owner sole.count)
-            sole.memory.places.vec.items }
-    {
-        let SoleCallers { count, memory } = sole;
-        Block::of_sole_memory(count, memory)
     }
 }

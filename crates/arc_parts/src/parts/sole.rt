@@ -4,6 +4,7 @@ ghost use Rattle.std.specs.Vec.{vec_len};
 ghost use Rattle.arc_owners.specs.count.Calls.{Asks};
 ghost use Rattle.arc_owners.specs.memory.SoleCounts.{count_owner};
 ghost use Rattle.arc_memory.specs.Sources.{IsPiece};
+ghost use Rattle.arc_memory.specs.WriterMemories.{IsOnePlace};
 ghost use Rattle.arc_block.specs.Block.{native, vector, buffer, IsLimited};
 ghost use Rattle.arc_block.specs.Contents.{held_alone};
 ghost use Rattle.arc_block.specs.Place.{at_owner};
@@ -16,7 +17,7 @@ ghost use Rattle.arc_parts.specs.Writers.{as_sole};
 
 use super::Parts;
 use crate::storage::Storage;
-use arc_block::block::{BlockKept, MAX_OWNERS, NativeCount, SoleOf};
+use arc_block::block::{BlockKept, CallersCount, CallersMemory, MAX_OWNERS, NativeCount};
 use arc_block::layout::Layout;
 use arc_buffer::buffer::Buffer;
 use arc_buffer::kinds::Slice;
@@ -40,8 +41,8 @@ pub enum SoleSort {
     Refused,
 }
 
-/// The count of a native block with its only owner, the block's memory, from where to before where
-/// of its items the part is, and the allocator.
+/// The count of a native block with its only owner, the block's memory, the numbers among its items
+/// from which and before which the part lies, and the allocator.
 pub type NativeAlone<S, B, M, A, H> = (
     NativeCount<MAX_OWNERS, H>,
     WriterMemory<<S as Slice>::Item, BlockKept<S, B, M, A>, A>,
@@ -50,17 +51,24 @@ pub type NativeAlone<S, B, M, A, H> = (
     A,
 );
 
-/// The same of a vector.
+/// The same of a vector, which stands behind its block's memory.
 pub type VectorAlone<S, B, M, A, H> = (
-    SoleOf<S, B, M, A, MAX_OWNERS, H>,
+    CallersCount<MAX_OWNERS, H>,
+    CallersMemory<S, B, M, A>,
     Vec<<S as Slice>::Item, A>,
     usize,
     usize,
     A,
 );
 
-/// The same of a caller's buffer, which lies with the count.
-pub type BufferAlone<S, B, M, A, H> = (SoleOf<S, B, M, A, MAX_OWNERS, H>, usize, usize, A);
+/// The same of a caller's buffer, which lies in its block's memory.
+pub type BufferAlone<S, B, M, A, H> = (
+    CallersCount<MAX_OWNERS, H>,
+    CallersMemory<S, B, M, A>,
+    usize,
+    usize,
+    A,
+);
 
 impl<S: Slice, B: Buffer<S::Item> + Drop, M: Drop, A: Allocator + Copy, H: Mark> Parts<
     S,
@@ -152,10 +160,11 @@ impl<S: Slice, B: Buffer<S::Item> + Drop, M: Drop, A: Allocator + Copy, H: Mark>
         requires pass { IsPassAt self.place pass.old }
         ensures entry { at_owner self.place ⊥ (λ o. Asks o pass.old pass.new (is_ok result)) }
         ensures sole { IfOk result (λ r.
-            vector_part S.DROPS (count_owner r.0.count) r.1 r.2 r.3 ≡ as_sole S.DROPS self) }
-        ensures range { IfOk result (λ r. (r.2 ≤ r.3) × (r.3 ≤ vec_len r.1)) }
-        ensures empty { IfOk result (λ r. r.0.memory.places.vec.items ≡ []) }
-        ensures count { IfOk result (λ r. IsLimited MAX_OWNERS H.whole (count_owner r.0.count)) }
+            vector_part S.DROPS (count_owner r.0) r.2 r.3 r.4 ≡ as_sole S.DROPS self) }
+        ensures range { IfOk result (λ r. (r.3 ≤ r.4) × (r.4 ≤ vec_len r.2)) }
+        ensures empty { IfOk result (λ r. r.1.places.vec.items ≡ []) }
+        ensures place { IfOk result (λ r. IsOnePlace r.1) }
+        ensures count { IfOk result (λ r. IsLimited MAX_OWNERS H.whole (count_owner r.0)) }
         ensures others { IfErr result (λ back. back ≡ self) }
     {
         let (on, start, end, alloc) = self.into_storage();
@@ -163,7 +172,7 @@ impl<S: Slice, B: Buffer<S::Item> + Drop, M: Drop, A: Allocator + Copy, H: Mark>
             unreachable!()
         };
         match block.try_into_sole_as(pass) {
-            Ok((count, items)) => Ok((count, items, start, end, alloc)),
+            Ok((count, memory, items)) => Ok((count, memory, items, start, end, alloc)),
             Err(block) => Err(Parts::on_block(alloc, block, start, end)),
         }
     }
@@ -187,16 +196,15 @@ impl<S: Slice, B: Buffer<S::Item> + Drop, M: Drop, A: Allocator + Copy, H: Mark>
         requires pass { IsPassAt self.place pass.old }
         ensures entry { at_owner self.place ⊥ (λ o. Asks o pass.old pass.new (is_ok result)) }
         ensures sole { IfOk result (λ r. block_part S.DROPS
-            (held_alone B.list B.places S.DROPS (count_owner r.0.count)
-            r.0.memory.places.vec.items) r.1 r.2
+            (held_alone B.list B.places S.DROPS (count_owner r.0) r.1.places.vec.items) r.2 r.3
             ≡ as_sole S.DROPS self) }
         ensures range { IfOk result (λ r. IsPartOfBlock
-            (held_alone B.list B.places S.DROPS (count_owner r.0.count)
-            r.0.memory.places.vec.items) r.1 r.2) }
-        ensures alone { IfOk result (λ r. length r.0.memory.places.vec.items ≡ 1) }
-        ensures sort { IfOk result (λ r. (held_alone B.list B.places S.DROPS (count_owner r.0.count)
-            r.0.memory.places.vec.items).facts.sort ≡ buffer true) }
-        ensures count { IfOk result (λ r. IsLimited MAX_OWNERS H.whole (count_owner r.0.count)) }
+            (held_alone B.list B.places S.DROPS (count_owner r.0) r.1.places.vec.items) r.2 r.3) }
+        ensures alone { IfOk result (λ r. length r.1.places.vec.items ≡ 1) }
+        ensures place { IfOk result (λ r. IsOnePlace r.1) }
+        ensures sort { IfOk result (λ r. (held_alone B.list B.places S.DROPS (count_owner r.0)
+            r.1.places.vec.items).facts.sort ≡ buffer true) }
+        ensures count { IfOk result (λ r. IsLimited MAX_OWNERS H.whole (count_owner r.0)) }
         ensures others { IfErr result (λ back. back ≡ self) }
     {
         let (on, start, end, alloc) = self.into_storage();
@@ -204,7 +212,7 @@ impl<S: Slice, B: Buffer<S::Item> + Drop, M: Drop, A: Allocator + Copy, H: Mark>
             unreachable!()
         };
         match block.try_into_callers_as(pass) {
-            Ok(count) => Ok((count, start, end, alloc)),
+            Ok((count, memory)) => Ok((count, memory, start, end, alloc)),
             Err(block) => Err(Parts::on_block(alloc, block, start, end)),
         }
     }

@@ -57,8 +57,8 @@ returns-in-Callers-clause-alone g c =
     (sym (c.take_up-count.ensures.same.1 ∙ c.in-Ok.ensures.sole.1) ∙ c.in-Callers.is)
     c.self.invariant.2.kept _ c.regain-memory.ensures.items
 
-pub invariant_of-result : goal.invariant_of-result
-invariant_of-result g c =
+pub returns-in-Callers-clause-place : goal.returns-in-Callers-clause-place
+returns-in-Callers-clause-place g c =
     let reader = c.self.inside.reader in record {
       whole = callers_one (content_items g.B.Buffer.list) g.S.Slice.DROPS reader.seen
           (value_of reader.owner) c.in-Callers.kept

@@ -12,9 +12,9 @@ pub into_vec-requires : goal.into_vec-requires
 into_vec-requires g c =
     let list = g.B.Buffer.list in let places = g.B.Buffer.places in
     let drops = g.S.Slice.DROPS in
-    let o = count_owner c.in-Ok.field-0.count in
+    let o = count_owner c.in-Ok.count in
     let content = c.take_last-content.result in
-    let lies = lone_item c.in-Ok.field-0.memory.places.vec.items
+    let lies = lone_item c.in-Ok.memory.places.vec.items
     c.take_last-content.new.self.places.vec.items content c.take_last-content.ensures.items
     c.in-Ok.ensures.alone in
     sym (sort_told list places drops content)
@@ -22,20 +22,21 @@ into_vec-requires g c =
     (subst (λ xs. held_alone list places drops o xs ≡ c.args.self) lies c.in-Ok.ensures.sole.0)
     ∙ c.requires.sort
 
-pub invariant_of-result : goal.invariant_of-result
-invariant_of-result g c = let same = c.take_last-content.ensures.memory in record {
-  whole = same.whole ∙ c.in-Ok.field-0.whole;
-  start = same.start ∙ c.in-Ok.field-0.start;
-  piece = subst (λ s. IsPiece s) (sym same.source) c.in-Ok.field-0.piece;
-}
+pub returns-in-Ok-clause-place : goal.returns-in-Ok-clause-place
+returns-in-Ok-clause-place g c =
+    let same = c.take_last-content.ensures.memory in let was = c.in-Ok.ensures.place in record {
+      whole = same.whole ∙ was.whole;
+      start = same.start ∙ was.start;
+      piece = subst (λ s. IsPiece s) (sym same.source) was.piece;
+    }
 
 pub returns-in-Ok-clause-sole : goal.returns-in-Ok-clause-sole
 returns-in-Ok-clause-sole g c =
     let list = g.B.Buffer.list in let places = g.B.Buffer.places in
     let drops = g.S.Slice.DROPS in
-    let o = count_owner c.in-Ok.field-0.count in
+    let o = count_owner c.in-Ok.count in
     let content = c.take_last-content.result in
-    let lies = lone_item c.in-Ok.field-0.memory.places.vec.items
+    let lies = lone_item c.in-Ok.memory.places.vec.items
     c.take_last-content.new.self.places.vec.items content c.take_last-content.ensures.items
     c.in-Ok.ensures.alone in (
       vector_held list places drops o content c.into_vec.result c.into_vec.ensures

@@ -23,7 +23,7 @@ returns-in-Some-clause-buffer g c =
     let drops = g.S.Slice.DROPS in
     let block = c.in-Block.block in
     let whole = c.if-not-is_buffer_whole.ensures.0 refl in
-    let taken = held_in list places drops block.owner (Buffer c.into_buffer-buffer.result) in
+    let taken = held_in {A = g.row.A.Denot} list places drops block.owner (Buffer c.into_buffer-buffer.result) in
     let back = whole_back _ _ _ c.args.self _ c.self.view_is c.in-Block.is taken
     (subst (λ x. held_in list places drops block.owner x ≡ block) c.into_buffer-buffer.ensures
     c.in-Some.ensures.content) refl c.self.invariant refl whole.whole in

@@ -10,24 +10,24 @@ use Rattle.arc_parts.proofs.Windows.{none_there}
 use Rattle.std.proofs.lemmas.Grind.{common_steps}
 use Rattle.arc_parts.proofs.parts.Parts.try_part_once_as.Goals as goal
 
-pub returns-in-Ok-clause-items : goal.returns-in-Ok-clause-items
-returns-in-Ok-clause-items g c =
+pub returns-in-Some-Ok-clause-items : goal.returns-in-Some-Ok-clause-items
+returns-in-Some-Ok-clause-items g c =
     native_items _ _ _ c.args.self.now _ c.self.view_is c.in-Block.is c.self.invariant
     g.L.Layout.STATIC c.args.start c.args.end c.requires.range.0 c.requires.range.1
-    (sym c.if-stands_on_nothing.ensures) c.in-Ok.block c.in-Ok.ensures.alike
+    (sym c.if-stands_on_nothing.ensures) c.in-Some-Ok.block c.in-Some-Ok.ensures.alike
 
-pub returns-in-Ok-clause-place : goal.returns-in-Ok-clause-place
-returns-in-Ok-clause-place g c =
+pub returns-in-Some-Ok-clause-place : goal.returns-in-Some-Ok-clause-place
+returns-in-Some-Ok-clause-place g c =
     native_shares _ _ _ c.args.self.now _ c.self.view_is c.in-Block.is c.self.invariant
     g.L.Layout.STATIC c.args.start c.args.end c.requires.range.0 c.requires.range.1
-    (sym c.if-stands_on_nothing.ensures) c.in-Ok.block c.in-Ok.ensures.alike
-    c.args.pass.now c.try_share_once_as.new.pass c.in-Ok.ensures.made
+    (sym c.if-stands_on_nothing.ensures) c.in-Some-Ok.block c.in-Some-Ok.ensures.alike
+    c.args.pass.now c.try_share_once_as.new.pass c.in-Some-Ok.ensures.made
 
 pub invariant_of-result : goal.invariant_of-result
 invariant_of-result g c =
     native_within _ _ _ c.args.self.now _ c.self.view_is c.in-Block.is c.self.invariant
     g.L.Layout.STATIC c.args.start c.args.end c.requires.range.0 c.requires.range.1
-    (sym c.if-stands_on_nothing.ensures) c.in-Ok.block c.in-Ok.ensures.alike
+    (sym c.if-stands_on_nothing.ensures) c.in-Some-Ok.block c.in-Some-Ok.ensures.alike
 
 pub returns-in-Free-clause-items : goal.returns-in-Free-clause-items
 returns-in-Free-clause-items g c =
@@ -63,23 +63,23 @@ returns-then-stands_on_nothing-clause-items g c =
     ∙ none_there g.L.Layout.STATIC c.args.self.now.items c.args.start c.args.end
     c.requires.range.0 c.requires.range.1 (sym c.if-stands_on_nothing.ensures)
 
-pub returns-in-Ok-try_clone-clause-items : goal.returns-in-Ok-try_clone-clause-items
-returns-in-Ok-try_clone-clause-items g c =
+pub returns-in-Ok-clause-items : goal.returns-in-Ok-clause-items
+returns-in-Ok-clause-items g c =
     raw_items _ _ _ c.args.self.now _ c.self.view_is c.in-Raw.is c.self.invariant
-    c.args.start c.args.end c.requires.range.0 c.requires.range.1 _ c.in-Ok-try_clone.ensures
+    c.args.start c.args.end c.requires.range.0 c.requires.range.1 _ c.in-Ok.ensures
 
-pub returns-in-Err-try_clone-clause-refused : goal.returns-in-Err-try_clone-clause-refused
-returns-in-Err-try_clone-clause-refused g c =
+pub returns-in-Err-clause-refused : goal.returns-in-Err-clause-refused
+returns-in-Err-clause-refused g c =
     raw_refuses _ _ _ c.args.self.now _ c.self.view_is c.in-Raw.is c.self.invariant
     c.args.start c.args.end c.requires.range.0 c.requires.range.1 g.L.Layout.STATIC
     (sym c.if-stands_on_nothing.ensures) (layout_facts g.L.Layout) c.requires.held
     g.L.Layout.clone_wants (g.L.Layout.wants raw) c.args.pass.now
 
-pub invariant_of-result-in-Ok-try_clone : goal.invariant_of-result-in-Ok-try_clone
-invariant_of-result-in-Ok-try_clone g c = grind (arith, common_steps)
+pub invariant_of-result-in-Ok : goal.invariant_of-result-in-Ok
+invariant_of-result-in-Ok g c = grind (arith, common_steps)
 
-pub returns-in-Ok-try_clone-clause-place : goal.returns-in-Ok-try_clone-clause-place
-returns-in-Ok-try_clone-clause-place g c = grind (arith, common_steps)
+pub returns-in-Ok-clause-place : goal.returns-in-Ok-clause-place
+returns-in-Ok-clause-place g c = grind (arith, common_steps)
 
-pub returns-in-Err-clause-refused : goal.returns-in-Err-clause-refused
-returns-in-Err-clause-refused g c = grind (arith, common_steps)
+pub returns-in-Some-Err-clause-refused : goal.returns-in-Some-Err-clause-refused
+returns-in-Some-Err-clause-refused g c = grind (arith, common_steps)
