@@ -1,5 +1,6 @@
 //! From a window that is read to one that is written.
 ghost use Rattle.std.specs.Prelude.{◌≡◌, IfErr, IfOk};
+ghost use Rattle.arc_block.specs.Given.{Given};
 ghost use Rattle.arc_block.specs.LayoutFacts.{layout_facts};
 ghost use Rattle.arc_block.specs.Moves.{layout_move};
 ghost use Rattle.arc_block.specs.declared.layout.Move.TheVariants.{HandedBack};
@@ -39,7 +40,7 @@ pub trait IntoMut: Sized {
     type Mark: Mark;
 
     /// The window's items, and where it stands.
-    ghost seen: { Self → Window Self.Kind.Item Self.Metadata };
+    ghost seen: { Self → Window Self.Kind.Item (Given Self.Buffer Self.Metadata) };
 
     /// The same items, as their only writer under the layout `K`. This needs a block that may be
     /// written, that `K` holds and that no other owner has. The window stays where it stands. A
