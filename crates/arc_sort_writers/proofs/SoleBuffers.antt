@@ -14,6 +14,7 @@ use Rattle.arc_block.specs.Block.{buffer_info, vector, buffer, raw, IsMemory}
 use Rattle.arc_block.specs.Block.{IsBuffer}
 use Rattle.arc_block.specs.Contents.{held_in, content_items}
 use Rattle.arc_block.specs.Given.{Given}
+use Rattle.arc_block.specs.Metadata.{FitsGivenAt}
 use Rattle.arc_sort_writers.specs.Growth.{MayAnswer, AsksForRoom}
 use Rattle.arc_block.specs.declared.block.content.Content.{Content}
 use Rattle.arc_block.specs.declared.block.content.Content.TheVariants.{Vector, Buffer, Raw}
@@ -203,6 +204,15 @@ module _ {T B M A : Type 0} (list : B → List T) (places : B → ℕ) (drops on
         sym (ap (λ n. sub xs n end) all.whole.0 ∙ ap (sub xs 0) last ∙ sub-whole xs),
         refl,
       )) whole
+
+  -- what is known of it fits it
+  pub buffer_fits : FitsGivenAt list places w.place w.items
+  buffer_fits =
+      let xs = list held.buffer in
+      let long = length-sub xs start end inside.1 inside.2 in
+      let last : start + length (sub xs start end) ≡ end = omega (arith, long, inside.1) in
+      subst (λ (s : PartsView T (Given B M)). FitsGivenAt list places s.place s.items) there
+      (tt, ap (sub xs start) last, refl, λ (writable : Unit {0}). (refl, refl))
 
   -- it is the block's
   pub given_there : buffer_at w.place ≡ Some held.buffer

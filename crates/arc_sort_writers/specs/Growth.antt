@@ -19,6 +19,16 @@ IfAsked Front P = Unit {0}
 IfAsked (Growth places) P = Unit {0}
 IfAsked (Refused e) P = Unit {0}
 
+-- what holds where a caller's buffer is neither asked nor changed
+abbrev pub IfStill : Room → Type 0 → Type 0
+IfStill Spare P = P
+IfStill (Refused e) P = P
+IfStill (Fresh places) P = Unit {0}
+IfStill Behind P = Unit {0}
+IfStill Front P = Unit {0}
+IfStill (Growth places) P = Unit {0}
+IfStill (Own additional) P = Unit {0}
+
 -- a refusal without the item that comes back with it
 abbrev pub without_item : {E T : Type 0} → Result (Unit {0}) (E × T) → Result (Unit {0}) E
 without_item (Ok done) = Ok done

@@ -3,6 +3,7 @@
 ghost use Rattle.std.specs.Prelude.{◌≡◌, ◌↔◌, true, false, IsTrue};
 ghost use Rattle.arc_sort_writers.specs.NativeWriters.{IsAlonePlace};
 ghost use Rattle.arc_block.specs.Block.{IsLimited};
+ghost use Rattle.arc_block.specs.Metadata.{FitsGivenAt};
 ghost use Rattle.arc_block.specs.Place.{IsOnBlock, at_owner};
 ghost use Rattle.arc_parts.specs.Shared.{AsksAlone};
 ghost use Rattle.arc_parts.specs.Steps.{IsPassAt};
@@ -12,7 +13,7 @@ ghost use Rattle.arc_parts.specs.Writers.{capacity_of, idle_writer};
 
 use super::SoleBuffer;
 use crate::shared::SharedNative;
-use arc_block::block::max_owners;
+use arc_block::block::{Content, max_owners};
 use arc_buffer::buffer::BufferMut;
 use arc_buffer::kinds::Slice;
 use arc_owners::mark::Mark;
@@ -86,6 +87,18 @@ impl<S: Slice, B: BufferMut<S::Item> + Drop, M: Drop, A: Allocator + Copy, H: Ma
         ensures { IsOfBuffer self.now.place }
     {
         let _ = &self.count;
+    }
+
+    /// What is known of the buffer fits it: the items are a part of its own, and the block has its
+    /// places. Does nothing: its contract is the law.
+    #[tactic(auto, using(crate::proofs::SoleBuffers::buffer_fits))]
+    pub fn known_given(&self)
+        ensures { FitsGivenAt B.list B.places self.now.place self.now.items }
+    {
+        match self.count.get() {
+            Content::Buffer(_) => {}
+            _ => unreachable!(),
+        }
     }
 
     /// They stand on a caller's buffer, and so aren't parts of one of several writers. Does

@@ -1,9 +1,9 @@
 //! What a sole writer does to its items in a caller's buffer.
 ghost use Rattle.std.specs.Prelude.{◌≡◌, ◌≤◌, ◌<◌, ◌+◌, ◌++◌, ◌∷◌, [], length, take, drop};
-ghost use Rattle.std.specs.Prelude.{IfErr, OnOk, Err};
+ghost use Rattle.std.specs.Prelude.{IfErr, OnOk, Err, false};
 ghost use Rattle.std.specs.Borrow.{sem};
 ghost use Rattle.std.specs.Mem.{type_size};
-ghost use Rattle.arc_sort_writers.specs.Growth.{IfAsked, AsksForRoom, without_item};
+ghost use Rattle.arc_sort_writers.specs.Growth.{IfAsked, IfStill, AsksForRoom, without_item};
 ghost use Rattle.arc_parts.specs.Steps.{IsPassAt};
 ghost use Rattle.arc_parts.specs.Writers.{capacity_of, room_for, MakesRoom, Pushes, Reclaims};
 ghost use Rattle.arc_parts.specs.Writers.{with_more, after_advance, after_truncate};
@@ -95,6 +95,8 @@ impl<S: Slice, B: BufferMut<S::Item> + Drop, M: Drop, A: Allocator + Copy, H: Ma
         ensures own { IfAsked (room_for S.DROPS (type_size S.Item.row) self.old additional) (λ k.
             AsksForRoom B.list B.places B.grows B.refuses self.old k (size_at self.new.place)
             result) }
+        ensures still { IfStill (room_for S.DROPS (type_size S.Item.row) self.old additional)
+            (self.new ≡ self.old) }
     {
         let _ = pass;
         match self.room(additional) {
@@ -115,8 +117,11 @@ impl<S: Slice, B: BufferMut<S::Item> + Drop, M: Drop, A: Allocator + Copy, H: Ma
     /// Makes room for `additional` items more without asking the buffer, and answers whether there
     /// is room.
     pub fn try_reclaim(&mut self, additional: usize) -> bool
-        ensures { Reclaims (room_for S.DROPS (type_size S.Item.row) self.old additional)
+        ensures room { Reclaims (room_for S.DROPS (type_size S.Item.row) self.old additional)
             (bare self.old) (bare self.new) result }
+        ensures still { IfStill (room_for S.DROPS (type_size S.Item.row) self.old additional)
+            (self.new ≡ self.old) }
+        ensures none { result ≡ false → self.new ≡ self.old }
     {
         match self.room(additional) {
             Room::Spare => true,
